@@ -1,0 +1,3 @@
+-- Laws of the three counters, one file a notion.
+pub mod Totals
+pub mod Difference

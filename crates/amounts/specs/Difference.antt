@@ -1,0 +1,12 @@
+-- The difference of two amounts, over whole numbers.
+use Prim.Native.Nat.{ℕ, _^_, _<_}
+use lib.IntN.{ℤ, pos, _-ℤ_}
+
+-- a less b, below zero where b is the larger
+abbrev pub difference : ℕ → ℕ → ℤ
+difference a b = pos a -ℤ pos b
+
+-- both amounts are small enough that a signed number of 64 bits holds their difference
+pub record Signed (a b : ℕ) : Type 0 where
+  pub left : a < 2 ^ 63
+  pub right : b < 2 ^ 63

@@ -1,0 +1,4 @@
+-- The paper's numbers, and its way of choosing among them.
+pub mod Reply
+pub mod Refusal
+pub mod Chain

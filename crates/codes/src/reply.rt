@@ -1,0 +1,95 @@
+// The codes that travel in replies, or stop a presenter's own call. A new code is a variant here, its number and its row
+// of the table, and the same two rows in specs/Reply.antt.
+use packed::writing::packed_byte;
+ghost use mathlib.Core.Path.{_≡_};
+ghost use Rattle.codes.specs.Reply.{codeNumber, codeByte, readCode};
+
+pub enum Code {
+    Accepted,
+    // wrong length, operation or field
+    WrongField,
+    // non-digit in an amount or commission
+    WrongAmount,
+    // a number or totals of an accepted lot
+    Duplicate,
+    // drawee neither own nor represented
+    WrongDrawee,
+    // not the message that the direction is ready for
+    WrongSequence,
+    // stated totals differ from the counters
+    WrongTotals,
+    // both operations in one detail
+    MixedOperations,
+    // header at preclose or later
+    TooLate,
+    // header after the last lot of a direction
+    TooManyLots,
+    // detail past the last document of a lot
+    TooManyDocuments,
+}
+
+// What a byte says where a reply has its code.
+pub enum ReadCode {
+    Known(Code),
+    Unknown,
+}
+
+// The paper's number.
+pub fn code_number(c: Code) -> u8
+    ensures { λ r. ⌜ r ≡ codeNumber c ⌝ }
+{
+    match c {
+        Code::Accepted => 0,
+        Code::WrongField => 1,
+        Code::WrongAmount => 3,
+        Code::Duplicate => 4,
+        Code::WrongDrawee => 6,
+        Code::WrongSequence => 7,
+        Code::WrongTotals => 8,
+        Code::MixedOperations => 9,
+        Code::TooLate => 10,
+        Code::TooManyLots => 11,
+        Code::TooManyDocuments => 12,
+    }
+}
+
+// The packed byte of a reply.
+pub fn code_byte(c: Code) -> u8
+    ensures { λ r. ⌜ r ≡ codeByte c ⌝ }
+{
+    packed_byte(code_number(c) as u64)
+}
+
+// How many codes there are.
+const COUNT: usize = 11;
+
+// Every code, in the order of the numbers; the first is by far the commonest.
+const CODES: [Code; COUNT] = [
+    Code::Accepted,
+    Code::WrongField,
+    Code::WrongAmount,
+    Code::Duplicate,
+    Code::WrongDrawee,
+    Code::WrongSequence,
+    Code::WrongTotals,
+    Code::MixedOperations,
+    Code::TooLate,
+    Code::TooManyLots,
+    Code::TooManyDocuments,
+];
+
+// The code that a byte stands for.
+pub fn code_of(byte: u8) -> ReadCode
+    ensures { λ r. ⌜ r ≡ readCode byte ⌝ }
+{
+    let codes = CODES;
+    let mut i: usize = 0;
+    while i < COUNT {
+        let c = codes[i];
+        if code_byte(c) == byte {
+            return ReadCode::Known(c);
+        }
+        i += 1;
+    }
+    ReadCode::Unknown
+}

@@ -1,0 +1,6 @@
+-- Laws of packed decimals, one file a notion.
+pub mod Part
+pub mod Every
+pub mod Digits
+pub mod Number
+pub mod Writing

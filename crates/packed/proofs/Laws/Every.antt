@@ -1,0 +1,28 @@
+-- Laws of a test at every element.
+use mathlib.Core.Path.{_≡_, refl, ap, sym, _∙_}
+use mathlib.Core.Bool.{Bool, true, false, _&&_, and-assoc, and-true, and-eq-true-iff}
+use mathlib.Core.List.{List, [], _∷_, _++_}
+use Rattle.packed.specs.Every.{every}
+
+module _ {ℓ} {A : Type ℓ} (p : A → Bool) where
+  pub every-append : (xs ys : List A) → every p (xs ++ ys) ≡ every p xs && every p ys
+  unfolding every
+  every-append [] ys = refl
+  every-append (x ∷ xs) ys = ap (λ (t : Bool). p x && t) (every-append xs ys) ∙ sym (and-assoc (p x) (every p xs) (every p ys))
+
+  pub every-head : (x : A) (xs : List A) → every p (x ∷ xs) ≡ true → p x ≡ true
+  unfolding every
+  every-head x xs e = and-eq-true-iff (p x) (every p xs) .0 e .0
+
+  pub every-tail : (x : A) (xs : List A) → every p (x ∷ xs) ≡ true → every p xs ≡ true
+  unfolding every
+  every-tail x xs e = and-eq-true-iff (p x) (every p xs) .0 e .1
+
+  -- a reading that has found ok so far: nothing left, and one element more
+  pub every-none : (ok : Bool) → ok && every p [] ≡ ok
+  unfolding every
+  every-none ok = and-true ok
+
+  pub every-step : (ok : Bool) (x : A) (xs : List A) → ok && p x && every p xs ≡ ok && every p (x ∷ xs)
+  unfolding every
+  every-step ok x xs = and-assoc ok (p x) (every p xs)

@@ -1,0 +1,89 @@
+-- Laws of the value of packed bytes: the step of a reading, the split of a run, the bounds, and that digits of one length and one value are
+-- the same bytes.
+use mathlib.Core.Path.{_≡_, refl, ap, sym, _∙_}
+use mathlib.Core.Bool.{Bool, true}
+use mathlib.Core.List.{List, [], _∷_, _++_}
+use Prim.Native.Nat.{ℕ, zero, suc, _+_, _*_, _^_, _/_, _%_, _≤_, _<_}
+use native.Mathlib.Nat.{zero-mul, zero-add, add-zero, mul-one, add-mul, mul-assoc, add-assoc, pow-suc, pow-succ', pow-le-pow-right}
+use native.Mathlib.Numerals.{add-one}
+use native.Mathlib.Omega.{arith}
+use lib.Arith.{digits-lt, digits-div, digits-mod}
+use lib.Dec.{lit<}
+use lib.Pow.{pow-add}
+use lib.ListN.{length, length-append}
+use Rattle.packed.specs.Every.{every}
+use Rattle.packed.specs.Digits.{isPair, digits}
+use Rattle.packed.specs.Number.{pairValue, numberOf}
+use Rattle.packed.proofs.Laws.Every.{every-head, every-tail}
+use Rattle.packed.proofs.Laws.Digits.{high-digit, low-digit}
+
+-- a value v read so far, and the bytes that are left
+pub numberAfter : ℕ → List ℕ → ℕ
+numberAfter v bs = v * 100 ^ length bs + numberOf bs
+
+pub after-none : (v : ℕ) → numberAfter v [] ≡ v
+unfolding numberAfter numberOf
+after-none v = add-zero (v * 1) ∙ mul-one v
+
+pub after-start : (bs : List ℕ) → numberAfter 0 bs ≡ numberOf bs
+unfolding numberAfter
+after-start bs = rw (zero-mul, zero-add)
+
+pub after-step : (v b : ℕ) (bs : List ℕ) → numberAfter (v * 100 + pairValue b) bs ≡ numberAfter v (b ∷ bs)
+unfolding numberAfter numberOf
+after-step v b bs = simp (pow-succ', add-mul, mul-assoc, add-assoc)
+
+pub number-append : (xs ys : List ℕ) → numberOf (xs ++ ys) ≡ numberOf xs * 100 ^ length ys + numberOf ys
+unfolding numberOf
+number-append [] ys = rw (zero-mul, zero-add)
+number-append (x ∷ xs) ys = simp (number-append xs ys, length-append xs ys, pow-add, add-mul, mul-assoc, add-assoc)
+
+-- how large a value of k bytes grows, digits or not: five thirds of 100 ^ k, less than five thirds of one
+abbrev pub Grown : (k v : ℕ) → Type 0
+Grown k v = 3 * v + 5 ≤ 5 * 100 ^ k
+
+pub pair-most : (b : ℕ) → b < 256 → pairValue b ≤ 165
+unfolding pairValue
+pair-most b h = omega arith
+
+-- nine bytes never pass 64 bits: eight grow to less than 2 * 10 ^ 16, and one more makes it a hundred times that
+pub grown-eight : (k v : ℕ) → k ≤ 8 → Grown k v → v ≤ 16666666666666665
+grown-eight k v h g = omega (arith, pow-le-pow-right {n = 100} (lit< tt) h)
+
+pub grown-step : (k v p : ℕ) → Grown k v → p ≤ 165 → Grown (k + 1) (v * 100 + p)
+grown-step k v p g h = rw (add-one, pow-suc) (omega arith)
+
+pub pair-below : (b : ℕ) → isPair b ≡ true → pairValue b < 100
+unfolding pairValue
+pair-below b e = omega (arith, high-digit b e, low-digit b e)
+
+pub number-below : (bs : List ℕ) → digits bs ≡ true → numberOf bs < 100 ^ length bs
+unfolding numberOf every
+number-below [] e = lit< tt
+number-below (b ∷ bs) e =
+    rw pow-succ'
+    (digits-lt (pair-below b (every-head isPair b bs e)) (number-below bs (every-tail isPair b bs e)))
+
+same-pair : (x y : ℕ) → isPair x ≡ true → isPair y ≡ true → pairValue x ≡ pairValue y → x ≡ y
+unfolding pairValue
+same-pair x y ex ey e = omega (arith, high-digit x ex, low-digit x ex, high-digit y ey, low-digit y ey)
+
+-- two values of a pair and a rest agree in the pair and in the rest
+same-parts : (p q r s w : ℕ) → r < w → s < w → p * w + r ≡ q * w + s → (p ≡ q) × (r ≡ s)
+same-parts p q r s w hr hs e =
+    (sym (digits-div p hr) ∙ ap (λ (n : ℕ). n / w) e ∙ digits-div q hs, sym (digits-mod p hr) ∙ ap (λ (n : ℕ). n % w) e ∙ digits-mod q hs)
+
+-- digits of one length and one value are the same bytes
+pub same-digits : (xs ys : List ℕ) → digits xs ≡ true → digits ys ≡ true → length xs ≡ length ys → numberOf xs ≡ numberOf ys → xs ≡ ys
+unfolding numberOf every
+same-digits [] [] ex ey l e = refl
+same-digits [] (y ∷ ys) ex ey l e = let z : _≡_ {A = ℕ} 0 1 = cc in absurd (omega arith)
+same-digits (x ∷ xs) [] ex ey l e = let z : _≡_ {A = ℕ} 0 1 = cc in absurd (omega arith)
+same-digits (x ∷ xs) (y ∷ ys) ex ey l e =
+    let hx : digits xs ≡ true = every-tail isPair x xs ex in
+    let hy : digits ys ≡ true = every-tail isPair y ys ey in
+    let k : length xs ≡ length ys = omega arith in
+    let both = same-parts (pairValue x) (pairValue y) (numberOf xs) (numberOf ys) (100 ^ length ys) (rw k at (number-below xs hx)) (number-below ys hy) (rw k at e) in
+    let head : x ≡ y = same-pair x y (every-head isPair x xs ex) (every-head isPair y ys ey) (both .0) in
+    let tail : xs ≡ ys = same-digits xs ys hx hy k (both .1) in
+    cc

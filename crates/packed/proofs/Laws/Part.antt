@@ -1,0 +1,29 @@
+-- Laws of a run of a list: none left, one more element, and a run cut in two.
+use mathlib.Core.Path.{_≡_, refl, ap, sym, _∙_}
+use mathlib.Core.List.{List, [], _∷_, _++_}
+use Prim.Native.Nat.{ℕ, suc, _+_, _-_, _≤_, _<_}
+use native.Mathlib.Nat.{add-comm}
+use native.Mathlib.Numerals.{add-one}
+use native.Mathlib.Omega.{arith}
+use lib.ListN.{length, take, drop, getD, length-take, length-drop}
+use lib.Seq.{drop-cons, take-add, drop-drop}
+use Rattle.packed.specs.Part.{part}
+
+pub part-length : (at n : ℕ) (s : List ℕ) → at + n ≤ length s → length (part at n s) ≡ n
+part-length at n s h = simp (length-take, length-drop) (omega arith)
+
+-- what a reading from `at` to `e` has left at i: at first all of it, at last nothing, and between one element and the rest
+pub part-all : (at n : ℕ) (s : List ℕ) → part at (at + n - at) s ≡ part at n s
+part-all at n s = let all : at + n - at ≡ n = omega arith in rw all
+
+pub part-none : (i e : ℕ) (s : List ℕ) → e ≤ i → part i (e - i) s ≡ []
+part-none i e s h = let none : e - i ≡ 0 = omega arith in rw none
+
+pub part-step : (i e : ℕ) (s : List ℕ) → i < e → e ≤ length s → part i (e - i) s ≡ getD s i 0 ∷ part (i + 1) (e - (i + 1)) s
+part-step i e s h l =
+    let more : e - i ≡ suc (e - (i + 1)) = omega arith in
+    let inside : i < length s = omega arith in
+    rw (more, drop-cons s i 0, add-one)
+
+pub part-split : (at m n : ℕ) (s : List ℕ) → part at (m + n) s ≡ part at m s ++ part (at + m) n s
+part-split at m n s = take-add m n (drop at s) ∙ ap (λ (r : List ℕ). take m (drop at s) ++ take n r) (drop-drop m at s)

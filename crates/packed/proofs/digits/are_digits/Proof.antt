@@ -1,0 +1,76 @@
+-- `are_digits` reads the run from its start. The invariant: what was found so far and what is left are the whole test. The measure is what is
+-- left.
+use mathlib.Core.Path.{_≡_, refl, ap, sym, _∙_}
+use mathlib.Core.Bool.{Bool, _&&_}
+use mathlib.Core.List.{List}
+use Prim.Native.Nat.{ℕ, _+_, _-_, _≤_}
+use native.Mathlib.Omega.{arith}
+use borrow.Author.Needs.{needs}
+use lib.ListN.{length}
+use Rattle.packed.specs.Part.{part}
+use Rattle.packed.specs.Every.{every}
+use Rattle.packed.specs.Digits.{isPair, digits}
+use Rattle.packed.proofs.Laws.Part.{part-all, part-none, part-step}
+use Rattle.packed.proofs.Laws.Every.{every-none, every-step}
+use Rattle.packed.proofs.digits.are_digits.Statement.{statement}
+use Rattle.packed.proofs.digits.are_digits.Tie as tie
+use Rattle.packed.proofs.digits.are_digits.Reads as reads
+use Rattle.packed.proofs.digits.are_digits.Lts as lts
+use Rattle.packed.proofs.digits.is_pair.Reads as is-pair-reads
+
+abbrev Inv-loop : tie.InvT-loop
+Inv-loop s at n end ok₀ i₀ ok i = (i ≤ end) × ((ok && digits (part i (end - i) s)) ≡ digits (part at n s))
+
+abbrev μ-loop : tie.MeasureT-loop
+μ-loop s at n end ok₀ i₀ ok i = end - i
+
+add-end : tie.Need-add-end Inv-loop μ-loop
+add-end c = omega arith
+
+loop-holds : tie.Need-loop-holds Inv-loop μ-loop
+loop-holds c = let a = c .before .args in (omega arith, ap digits (part-all (a .at) (a .n) (a .s .now)))
+
+shared-slice-read-is-pair : tie.Need-shared-slice-read-is-pair Inv-loop μ-loop
+shared-slice-read-is-pair c = omega arith
+
+is-pair-requires : tie.Need-is-pair-requires Inv-loop μ-loop
+is-pair-requires c κs = search needs
+
+add-i : tie.Need-add-i Inv-loop μ-loop
+add-i c = omega arith
+
+loop-less : tie.Need-loop-less Inv-loop μ-loop
+loop-less c = omega arith
+
+loop-again : tie.Need-loop-again Inv-loop μ-loop
+loop-again c =
+    let t = c .before .before .before in
+    let a = t .before .before .args in
+    let end = a .at + a .n in (
+      omega arith,
+      rw (c .is-pair .ensures)
+          (every-step isPair (t .loop .ok) _ _ ∙ ap (λ (bs : List ℕ). t .loop .ok && digits bs) (sym (part-step (t .loop .i) end (a .s .now) (omega arith) (omega arith))) ∙ t .loop .inv .1),
+    )
+
+returns : tie.Need-returns Inv-loop μ-loop
+returns c =
+    let t = c .before in
+    let a = t .before .before .args in
+    sym (every-none isPair (t .loop .ok))
+    ∙ ap (λ (bs : List ℕ). t .loop .ok && digits bs) (sym (part-none (t .loop .i) (a .at + a .n) (a .s .now) (omega arith)))
+    ∙ t .loop .inv .1
+
+pub are-digits-spec : {M : Type 1} → statement M
+are-digits-spec =
+    tie.close
+    (tie.spec
+    Inv-loop
+    μ-loop
+    add-end
+    loop-holds
+    shared-slice-read-is-pair
+    is-pair-requires
+    add-i
+    loop-less
+    loop-again
+    returns)

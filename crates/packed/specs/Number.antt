@@ -1,0 +1,13 @@
+-- The value of packed bytes, defined on every byte: a half that is no digit counts as the number it is.
+use Prim.Native.Nat.{ℕ, _+_, _*_, _^_, _/_, _%_}
+use mathlib.Core.List.{List, [], _∷_}
+use lib.ListN.{length}
+
+-- one byte: the high half tens, the low half units
+unfoldable pub pairValue : ℕ → ℕ
+pairValue b = b / 16 * 10 + b % 16
+
+-- a run: each byte weighs a hundred times the one after it
+unfoldable pub numberOf : List ℕ → ℕ
+numberOf [] = 0
+numberOf (b ∷ bs) = pairValue b * 100 ^ length bs + numberOf bs
