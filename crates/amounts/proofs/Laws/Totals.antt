@@ -1,7 +1,7 @@
 -- Laws of totals: the sum's, and that the test of equality tells equality.
-use mathlib.Core.Path.{_≡_, refl, ap, sym, _∙_}
-use mathlib.Core.Bool.{Bool, true, _&&_, and-eq-true-iff}
-use native.Mathlib.Nat.{add-assoc, add-comm, zero-add, add-zero}
+use mathlib.Core.Path.{_≡_, refl}
+use mathlib.Core.Bool.{true, _&&_, and-eq-true-iff}
+use native.Mathlib.Nat.{add-assoc, zero-add, add-zero}
 use lib.Dec.{eqb}
 use borrow.Author.Tests.{eqb-true, eq-eqb}
 use Rattle.amounts.specs.declared.Totals.{Totals}

@@ -1,9 +1,9 @@
 -- Laws of the value of packed bytes: the step of a reading, the split of a run, the bounds, and that digits of one length and one value are
 -- the same bytes.
 use mathlib.Core.Path.{_≡_, refl, ap, sym, _∙_}
-use mathlib.Core.Bool.{Bool, true}
+use mathlib.Core.Bool.{true}
 use mathlib.Core.List.{List, [], _∷_, _++_}
-use Prim.Native.Nat.{ℕ, zero, suc, _+_, _*_, _^_, _/_, _%_, _≤_, _<_}
+use Prim.Native.Nat.{ℕ, _+_, _*_, _^_, _/_, _%_, _≤_, _<_}
 use native.Mathlib.Nat.{zero-mul, zero-add, add-zero, mul-one, add-mul, mul-assoc, add-assoc, pow-suc, pow-succ', pow-le-pow-right}
 use native.Mathlib.Numerals.{add-one}
 use native.Mathlib.Omega.{arith}
@@ -38,7 +38,7 @@ unfolding numberOf
 number-append [] ys = rw (zero-mul, zero-add)
 number-append (x ∷ xs) ys = simp (number-append xs ys, length-append xs ys, pow-add, add-mul, mul-assoc, add-assoc)
 
--- how large a value of k bytes grows, digits or not: five thirds of 100 ^ k, less than five thirds of one
+-- a value is at most that of k bytes FF, each worth 165: 165 * (100 ^ k - 1) / 99, here without the division
 abbrev pub Grown : (k v : ℕ) → Type 0
 Grown k v = 3 * v + 5 ≤ 5 * 100 ^ k
 
@@ -46,7 +46,7 @@ pub pair-most : (b : ℕ) → b < 256 → pairValue b ≤ 165
 unfolding pairValue
 pair-most b h = omega arith
 
--- nine bytes never pass 64 bits: eight grow to less than 2 * 10 ^ 16, and one more makes it a hundred times that
+-- so nine bytes fit 64 bits: after eight the value is below 2 * 10 ^ 16, and the ninth makes it a hundred times that
 pub grown-eight : (k v : ℕ) → k ≤ 8 → Grown k v → v ≤ 16666666666666665
 grown-eight k v h g = omega (arith, pow-le-pow-right {n = 100} (lit< tt) h)
 

@@ -1,14 +1,11 @@
 -- `subtract` computes over whole numbers what it states, since both amounts are below half of what 64 bits hold.
 use mathlib.Core.Path.{_∙_}
-use Prim.Native.Nat.{_^_}
 use mir.Syntax.{w64}
 use mir.Facts.{toZ-pos, toZ-ofZ}
 use borrow.Author.Needs.{needs}
 use Rattle.amounts.proofs.Laws.Difference.{difference-small}
 use Rattle.amounts.proofs.difference.subtract.Statement.{statement}
 use Rattle.amounts.proofs.difference.subtract.Tie as tie
-use Rattle.amounts.proofs.difference.subtract.Reads as reads
-use Rattle.amounts.proofs.difference.subtract.Lts as lts
 
 cast-result : tie.Need-cast-result
 cast-result c = search needs
@@ -17,12 +14,10 @@ cast-result-2 : tie.Need-cast-result-2
 cast-result-2 c = search needs
 
 sub-result : tie.Need-sub-result
-sub-result c =
-    rw (toZ-pos w64 (c .pre .left), toZ-pos w64 (c .pre .right)) (record { sfits = difference-small (2 ^ 63) (c .args .a) (c .args .b) (c .pre .left) (c .pre .right) })
+sub-result c = simp (toZ-pos w64 (c .pre .left), toZ-pos w64 (c .pre .right)) (record { sfits = search (difference-small, needs) })
 
 returns : tie.Need-returns
-returns c =
-    toZ-ofZ (sub-result c) ∙ rw (toZ-pos w64 (c .pre .left), toZ-pos w64 (c .pre .right))
+returns c = toZ-ofZ (sub-result c) ∙ simp (toZ-pos w64 (c .pre .left), toZ-pos w64 (c .pre .right))
 
 pub subtract-spec : {M : Type 1} → statement M
 subtract-spec = tie.close (tie.spec cast-result cast-result-2 sub-result returns)

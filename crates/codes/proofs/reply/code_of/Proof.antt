@@ -1,8 +1,7 @@
 -- `code_of` goes through the table. The invariant: what the codes that are left say of the byte is what all say. The measure is how many are
 -- left.
-use mathlib.Core.Path.{_≡_, refl, ap, sym, _∙_}
-use mathlib.Core.List.{List}
-use Prim.Native.Nat.{ℕ, _+_, _-_, _≤_}
+use mathlib.Core.Path.{_≡_, refl, sym, _∙_}
+use Prim.Native.Nat.{_-_, _≤_}
 use native.Mathlib.Omega.{arith}
 use borrow.Author.Needs.{needs}
 use lib.ListN.{drop}
@@ -10,9 +9,6 @@ use Rattle.codes.specs.Reply.{codes, codeAmong, readCode}
 use Rattle.codes.proofs.Laws.Reply.{among-found, among-passed}
 use Rattle.codes.proofs.reply.code_of.Statement.{statement}
 use Rattle.codes.proofs.reply.code_of.Tie as tie
-use Rattle.codes.proofs.reply.code_of.Reads as reads
-use Rattle.codes.proofs.reply.code_of.Lts as lts
-use Rattle.codes.proofs.reply.code_byte.Reads as code-byte-reads
 
 abbrev Inv-loop : tie.InvT-loop
 Inv-loop byte table i₀ i = (i ≤ 11) × (codeAmong (drop i codes) byte ≡ readCode byte)

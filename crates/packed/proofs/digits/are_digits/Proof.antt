@@ -1,22 +1,17 @@
 -- `are_digits` reads the run from its start. The invariant: what was found so far and what is left are the whole test. The measure is what is
 -- left.
-use mathlib.Core.Path.{_≡_, refl, ap, sym, _∙_}
-use mathlib.Core.Bool.{Bool, _&&_}
+use mathlib.Core.Path.{_≡_, ap, sym, _∙_}
+use mathlib.Core.Bool.{_&&_}
 use mathlib.Core.List.{List}
 use Prim.Native.Nat.{ℕ, _+_, _-_, _≤_}
 use native.Mathlib.Omega.{arith}
 use borrow.Author.Needs.{needs}
-use lib.ListN.{length}
 use Rattle.packed.specs.Part.{part}
-use Rattle.packed.specs.Every.{every}
 use Rattle.packed.specs.Digits.{isPair, digits}
 use Rattle.packed.proofs.Laws.Part.{part-all, part-none, part-step}
 use Rattle.packed.proofs.Laws.Every.{every-none, every-step}
 use Rattle.packed.proofs.digits.are_digits.Statement.{statement}
 use Rattle.packed.proofs.digits.are_digits.Tie as tie
-use Rattle.packed.proofs.digits.are_digits.Reads as reads
-use Rattle.packed.proofs.digits.are_digits.Lts as lts
-use Rattle.packed.proofs.digits.is_pair.Reads as is-pair-reads
 
 abbrev Inv-loop : tie.InvT-loop
 Inv-loop s at n end ok₀ i₀ ok i = (i ≤ end) × ((ok && digits (part i (end - i) s)) ≡ digits (part at n s))

@@ -1,22 +1,17 @@
 -- `number` reads the run from its start. The invariant: the value so far, continued by what is left, is the value of the run; and the value
 -- so far has grown no more than the bytes passed allow. The measure is what is left.
-use mathlib.Core.Path.{_≡_, refl, ap, sym, _∙_}
-use mathlib.Core.List.{List}
-use Prim.Native.Nat.{ℕ, _+_, _-_, _*_, _^_, _≤_}
-use native.Mathlib.Nat.{pow-le-pow-right}
+use mathlib.Core.Path.{_≡_, ap, sym, _∙_}
+use Prim.Native.Nat.{_+_, _-_, _≤_}
 use native.Mathlib.Omega.{arith}
 use borrow.Author.Needs.{needs}
 use lib.Dec.{lit≤}
-use lib.ListN.{length, getD}
+use lib.ListN.{getD}
 use Rattle.packed.specs.Part.{part}
-use Rattle.packed.specs.Number.{pairValue, numberOf}
+use Rattle.packed.specs.Number.{numberOf}
 use Rattle.packed.proofs.Laws.Part.{part-all, part-none, part-step}
 use Rattle.packed.proofs.Laws.Number.{numberAfter, after-none, after-start, after-step, Grown, grown-eight, grown-step, pair-most}
 use Rattle.packed.proofs.number.number.Statement.{statement}
 use Rattle.packed.proofs.number.number.Tie as tie
-use Rattle.packed.proofs.number.number.Reads as reads
-use Rattle.packed.proofs.number.number.Lts as lts
-use Rattle.packed.proofs.number.pair_value.Reads as pair-value-reads
 
 abbrev Inv-loop : tie.InvT-loop
 Inv-loop s at n end value₀ i₀ value i = (at ≤ i) × (i ≤ end) × (numberAfter value (part i (end - i) s) ≡ numberOf (part at n s)) × Grown (i - at) value

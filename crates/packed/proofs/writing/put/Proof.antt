@@ -1,7 +1,6 @@
 -- `put` writes from the last byte back. The invariant: with the bytes that are still to come, the slice is what it is to be. The measure is
 -- what is left.
-use mathlib.Core.Path.{_≡_, refl, ap, sym, _∙_}
-use mathlib.Core.List.{List, [], _∷_, _++_}
+use mathlib.Core.Path.{_≡_, refl, ap, _∙_}
 use Prim.Native.Nat.{ℕ, _+_, _-_, _/_, _≤_}
 use native.Mathlib.Omega.{arith}
 use borrow.Author.Needs.{needs}
@@ -11,9 +10,6 @@ use Rattle.packed.specs.Writing.{packedByte, packedBytes}
 use Rattle.packed.proofs.Laws.Writing.{put-step}
 use Rattle.packed.proofs.writing.put.Statement.{statement}
 use Rattle.packed.proofs.writing.put.Tie as tie
-use Rattle.packed.proofs.writing.put.Reads as reads
-use Rattle.packed.proofs.writing.put.Lts as lts
-use Rattle.packed.proofs.writing.packed_byte.Reads as packed-byte-reads
 
 abbrev Inv-loop : tie.InvT-loop
 Inv-loop d₀ at n value rest₀ i₀ d rest i =
