@@ -9,21 +9,21 @@ use Rattle.codes.specs.declared.reply.Code.the-variants.{Accepted, Wrong
 use Rattle.codes.specs.declared.reply.ReadCode.{ReadCode}
 use Rattle.codes.specs.declared.reply.ReadCode.the-variants.{Known, Unknown}
 
--- the paper's number of each
+-- the paper's number of each, and in short what it says
 abbrev pub codeNumber : Code → ℕ
 codeNumber Accepted = 0
-codeNumber WrongField = 1
-codeNumber WrongAmount = 3
-codeNumber Duplicate = 4
-codeNumber WrongDrawee = 6
-codeNumber WrongSequence = 7
-codeNumber WrongTotals = 8
-codeNumber MixedOperations = 9
-codeNumber TooLate = 10
-codeNumber TooManyLots = 11
-codeNumber TooManyDocuments = 12
+codeNumber WrongField = 1  -- length, operation or a field is wrong
+codeNumber WrongAmount = 3  -- a half of an amount or a commission is no digit
+codeNumber Duplicate = 4  -- an accepted lot has this number, or these three totals
+codeNumber WrongDrawee = 6  -- the drawee of a presented document is not served here
+codeNumber WrongSequence = 7  -- the message does not fit the course of its direction
+codeNumber WrongTotals = 8  -- the stated totals are not the counters
+codeNumber MixedOperations = 9  -- groups of both operations
+codeNumber TooLate = 10  -- a header at preclose or after it
+codeNumber TooManyLots = 11  -- no further lot fits the direction
+codeNumber TooManyDocuments = 12  -- no such detail fits the lot
 
--- all of them
+-- all of them, in the order of the numbers
 unfoldable pub codes : List Code
 codes =
     Accepted

@@ -6,25 +6,15 @@ ghost use Rattle.codes.specs.Reply.{codeNumber, codeByte, readCode};
 
 pub enum Code {
     Accepted,
-    // wrong length, operation or field
     WrongField,
-    // non-digit in an amount or commission
     WrongAmount,
-    // a number or totals of an accepted lot
     Duplicate,
-    // drawee neither own nor represented
     WrongDrawee,
-    // not the message that the direction is ready for
     WrongSequence,
-    // stated totals differ from the counters
     WrongTotals,
-    // both operations in one detail
     MixedOperations,
-    // header at preclose or later
     TooLate,
-    // header after the last lot of a direction
     TooManyLots,
-    // detail past the last document of a lot
     TooManyDocuments,
 }
 
@@ -63,7 +53,7 @@ pub fn code_byte(c: Code) -> u8
 // How many codes there are.
 const COUNT: usize = 11;
 
-// Every code, in the order of the numbers; the first is by far the commonest.
+// Every code, in the order of the numbers. The commonest is found first.
 const CODES: [Code; COUNT] = [
     Code::Accepted,
     Code::WrongField,

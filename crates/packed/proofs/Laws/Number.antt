@@ -17,6 +17,11 @@ use Rattle.packed.specs.Number.{pairValue, numberOf}
 use Rattle.packed.proofs.Laws.Every.{every-head, every-tail}
 use Rattle.packed.proofs.Laws.Digits.{high-digit, low-digit}
 
+-- the nominal of 01's example document, which fixes the order of halves and bytes
+example : numberOf (0x00 ∷ 0x00 ∷ 0x00 ∷ 0x01 ∷ 0x50 ∷ 0x00 ∷ []) ≡ 15000
+unfolding numberOf pairValue
+example = refl
+
 -- a value v read so far, and the bytes that are left
 pub numberAfter : ℕ → List ℕ → ℕ
 numberAfter v bs = v * 100 ^ length bs + numberOf bs
