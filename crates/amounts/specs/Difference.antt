@@ -7,6 +7,6 @@ abbrev pub difference : ℕ → ℕ → ℤ
 difference a b = pos a -ℤ pos b
 
 -- both amounts are small enough that a signed number of 64 bits holds their difference
-pub record Signed (a b : ℕ) : Type 0 where
+pub record DifferenceFits (a b : ℕ) : Type 0 where
   pub left : a < 2 ^ 63
   pub right : b < 2 ^ 63

@@ -1,3 +1,3 @@
--- What the three counters mean (01, 'Centres and directions': "three counters that never add into one another").
+-- The meaning of the three counters (01, 'Centres and directions').
 pub mod Totals
 pub mod Difference

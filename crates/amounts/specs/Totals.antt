@@ -8,6 +8,7 @@ use Rattle.amounts.specs.declared.Totals.{Totals}
 abbrev pub totals : (documents nominal commission : ℕ) → Totals
 totals d n c = record { documents = record { 0 = d }; nominal = record { 0 = n }; commission = record { 0 = c } }
 
+-- the totals of no documents
 abbrev pub zeros : Totals
 zeros = totals 0 0 0
 
@@ -16,11 +17,11 @@ abbrev pub plus : Totals → Totals → Totals
 plus a b = totals (a .documents .0 + b .documents .0) (a .nominal .0 + b .nominal .0) (a .commission .0 + b .commission .0)
 
 -- whether all three are equal
-abbrev pub sameTotals : Totals → Totals → Bool
-sameTotals a b = eqb (a .documents .0) (b .documents .0) && eqb (a .nominal .0) (b .nominal .0) && eqb (a .commission .0) (b .commission .0)
+abbrev pub same : Totals → Totals → Bool
+same a b = eqb (a .documents .0) (b .documents .0) && eqb (a .nominal .0) (b .nominal .0) && eqb (a .commission .0) (b .commission .0)
 
 -- the three sums fit their counters
-pub record Fit (a b : Totals) : Type 0 where
+pub record SumFits (a b : Totals) : Type 0 where
   pub documents : a .documents .0 + b .documents .0 < 2 ^ 64
   pub nominal : a .nominal .0 + b .nominal .0 < 2 ^ 64
   pub commission : a .commission .0 + b .commission .0 < 2 ^ 64

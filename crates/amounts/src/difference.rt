@@ -2,25 +2,28 @@
 use crate::Commission;
 use crate::Nominal;
 ghost use mathlib.Core.Path.{_≡_};
-ghost use Rattle.amounts.specs.Difference.{difference, Signed};
+ghost use Rattle.amounts.specs.Difference.{difference, DifferenceFits};
 
-fn subtract(a: u64, b: u64) -> i64
-    requires { ⌜ Signed a b ⌝ }
+// The first less the second, whatever the two count.
+fn difference(a: u64, b: u64) -> i64
+    requires { ⌜ DifferenceFits a b ⌝ }
     ensures { λ r. ⌜ r ≡ difference a b ⌝ }
 {
     (a as i64) - (b as i64)
 }
 
+// The nominal position where `a` is presented and `b` received.
 pub fn nominal_difference(a: Nominal, b: Nominal) -> i64
-    requires { ⌜ Signed (a .0) (b .0) ⌝ }
+    requires { ⌜ DifferenceFits (a .0) (b .0) ⌝ }
     ensures { λ r. ⌜ r ≡ difference (a .0) (b .0) ⌝ }
 {
-    subtract(a.0, b.0)
+    difference(a.0, b.0)
 }
 
+// The commission position where `a` is presented and `b` received.
 pub fn commission_difference(a: Commission, b: Commission) -> i64
-    requires { ⌜ Signed (a .0) (b .0) ⌝ }
+    requires { ⌜ DifferenceFits (a .0) (b .0) ⌝ }
     ensures { λ r. ⌜ r ≡ difference (a .0) (b .0) ⌝ }
 {
-    subtract(a.0, b.0)
+    difference(a.0, b.0)
 }

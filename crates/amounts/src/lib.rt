@@ -1,17 +1,21 @@
 // The three counters of an exchange: documents, nominal and commission, in whole smallest units (01, 'Centres and
-// directions'). Each is a type of its own, so that a total of one cannot be handed on as another; they meet in `Totals`
-// and never add into one another. What the words mean stands in specs/.
+// directions'). Each has its own type, so that the compiler refuses one where another is due. What the words mean stands
+// in specs/.
 ghost use mathlib.Core.Path.{_≡_};
-ghost use Rattle.amounts.specs.Totals.{zeros, plus, sameTotals, Fit};
+ghost use Rattle.amounts.specs.Totals.{zeros, plus, same, SumFits};
 
 pub mod difference;
 
+// How many documents.
 pub struct Documents(pub u64);
 
+// What the documents are worth together.
 pub struct Nominal(pub u64);
 
+// The commission on them.
 pub struct Commission(pub u64);
 
+// The three over some documents: a detail, a lot, a direction.
 pub struct Totals {
     pub documents: Documents,
     pub nominal: Nominal,
@@ -19,6 +23,7 @@ pub struct Totals {
 }
 
 impl Totals {
+    // No documents at all.
     pub fn zeros() -> Totals
         ensures { λ r. ⌜ r ≡ zeros ⌝ }
     {
@@ -31,7 +36,7 @@ impl Totals {
 
     // The exact sum, counter by counter.
     pub fn plus(self, other: Totals) -> Totals
-        requires { ⌜ Fit self other ⌝ }
+        requires { ⌜ SumFits self other ⌝ }
         ensures { λ r. ⌜ r ≡ plus self other ⌝ }
     {
         Totals {
@@ -43,7 +48,7 @@ impl Totals {
 
     // Whether all three are equal.
     pub fn same(self, other: Totals) -> bool
-        ensures { λ r. ⌜ r ≡ sameTotals self other ⌝ }
+        ensures { λ r. ⌜ r ≡ same self other ⌝ }
     {
         (self.documents.0 == other.documents.0)
             & (self.nominal.0 == other.nominal.0)

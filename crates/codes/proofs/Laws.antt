@@ -1,3 +1,5 @@
--- Laws of the codes and of the chain that chooses among them.
-pub mod Chain
+-- Laws of the paper's numbers and of the chain that chooses among them, one file a notion.
+pub mod Numbered
 pub mod Reply
+pub mod Refusal
+pub mod Chain

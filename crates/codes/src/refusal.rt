@@ -1,9 +1,9 @@
-// The refusals of a call. A refused call gives the number and changes nothing.
+// Why a call was turned away, with everything left as it was.
 ghost use mathlib.Core.Path.{_≡_};
 ghost use Rattle.codes.specs.Refusal.{refusalNumber};
 
 pub enum Refusal {
-    NoTimeOfDay,
+    TimePastDay,
     WrongEnvelope,
     UnknownReply,
     ShortBuffer,
@@ -23,7 +23,7 @@ pub fn refusal_number(r: Refusal) -> u8
     ensures { λ n. ⌜ n ≡ refusalNumber r ⌝ }
 {
     match r {
-        Refusal::NoTimeOfDay => 20,
+        Refusal::TimePastDay => 20,
         Refusal::WrongEnvelope => 21,
         Refusal::UnknownReply => 22,
         Refusal::ShortBuffer => 23,

@@ -1,5 +1,6 @@
-// The codes that travel in replies, or stop a presenter's own call. A new code is a variant here, its number and its row
-// of the table, and the same two rows in specs/Reply.antt.
+// What a receiver answers to a message; some of the codes also stop a send. A new code is a variant, its number, its row
+// and the count here, its number and its row in specs/Reply.antt, a clause of `written-then-read` and a byte of
+// `known-bytes`; the check refuses while one of them is missing.
 use packed::writing::packed_byte;
 ghost use mathlib.Core.Path.{_≡_};
 ghost use Rattle.codes.specs.Reply.{codeNumber, codeByte, readCode};
@@ -18,7 +19,7 @@ pub enum Code {
     TooManyDocuments,
 }
 
-// What a byte says where a reply has its code.
+// A byte read as a code.
 pub enum ReadCode {
     Known(Code),
     Unknown,
@@ -68,8 +69,8 @@ const CODES: [Code; COUNT] = [
     Code::TooManyDocuments,
 ];
 
-// The code that a byte stands for.
-pub fn code_of(byte: u8) -> ReadCode
+// What a byte says where a reply has its code.
+pub fn read_code(byte: u8) -> ReadCode
     ensures { λ r. ⌜ r ≡ readCode byte ⌝ }
 {
     let codes = CODES;

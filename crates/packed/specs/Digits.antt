@@ -6,9 +6,9 @@ use lib.Dec.{ltb}
 use Rattle.packed.specs.Every.{every}
 
 -- both halves of a byte are decimal digits
-unfoldable pub isPair : ℕ → Bool
-isPair b = ltb (b / 16) 10 && ltb (b % 16) 10
+unfoldable pub isDigits : ℕ → Bool
+isDigits b = ltb (b / 16) 10 && ltb (b % 16) 10
 
 -- every byte of a run is two digits
-abbrev pub digits : List ℕ → Bool
-digits bs = every isPair bs
+abbrev pub areDigits : List ℕ → Bool
+areDigits bs = every isDigits bs

@@ -1,4 +1,4 @@
--- What packed decimals mean (01, 'Layouts': "Packed means two decimal digits a byte, high half first").
+-- The meaning of packed decimals (01, 'Layouts').
 pub mod Part
 pub mod Every
 pub mod Digits

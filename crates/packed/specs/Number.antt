@@ -4,10 +4,10 @@ use mathlib.Core.List.{List, [], _∷_}
 use lib.ListN.{length}
 
 -- one byte: the high half tens, the low half units
-unfoldable pub pairValue : ℕ → ℕ
-pairValue b = b / 16 * 10 + b % 16
+unfoldable pub byteValue : ℕ → ℕ
+byteValue b = b / 16 * 10 + b % 16
 
 -- a run: each byte weighs a hundred times the one after it
-unfoldable pub numberOf : List ℕ → ℕ
-numberOf [] = 0
-numberOf (b ∷ bs) = pairValue b * 100 ^ length bs + numberOf bs
+unfoldable pub number : List ℕ → ℕ
+number [] = 0
+number (b ∷ bs) = byteValue b * 100 ^ length bs + number bs

@@ -3,11 +3,11 @@ ghost use mathlib.Core.Path.{_≡_};
 ghost use Prim.Native.Nat.{_+_, _*_, _^_, _≤_, _<_};
 ghost use lib.ListN.{length};
 ghost use Rattle.packed.specs.Part.{part};
-ghost use Rattle.packed.specs.Number.{pairValue, numberOf};
+ghost use Rattle.packed.specs.Number.{byteValue, number};
 
 // The value of one byte, 0 to 165.
-pub fn pair_value(b: u8) -> u64
-    ensures { λ r. ⌜ r ≡ pairValue b ⌝ }
+pub fn byte_value(b: u8) -> u64
+    ensures { λ r. ⌜ r ≡ byteValue b ⌝ }
 {
     let wide = b as u64;
     wide - wide / 16 * 6
@@ -18,14 +18,14 @@ pub fn pair_value(b: u8) -> u64
 pub fn number(s: &[u8], at: usize, n: usize) -> u64
     requires { ⌜ at + n ≤ length (now s) ⌝ }
     requires { ⌜ n ≤ 9 ⌝ }
-    ensures value { λ r. ⌜ r ≡ numberOf (part at n (now (s .entry))) ⌝ }
+    ensures value { λ r. ⌜ r ≡ number (part at n (now (s .entry))) ⌝ }
     ensures bound { λ r. ⌜ r < 2 * 100 ^ n ⌝ }
 {
     let end = at + n;
     let mut value: u64 = 0;
     let mut i = at;
     while i < end {
-        value = value * 100 + pair_value(s[i]);
+        value = value * 100 + byte_value(s[i]);
         i += 1;
     }
     value
@@ -34,7 +34,7 @@ pub fn number(s: &[u8], at: usize, n: usize) -> u64
 // The value of two bytes, as an entity or an order number.
 pub fn number2(s: &[u8], at: usize) -> u16
     requires { ⌜ at + 2 ≤ length (now s) ⌝ }
-    ensures { λ r. ⌜ r ≡ numberOf (part at 2 (now (s .entry))) ⌝ }
+    ensures { λ r. ⌜ r ≡ number (part at 2 (now (s .entry))) ⌝ }
 {
     number(s, at, 2) as u16
 }
@@ -42,7 +42,7 @@ pub fn number2(s: &[u8], at: usize) -> u16
 // The value of four bytes, as a serial or a document's number.
 pub fn number4(s: &[u8], at: usize) -> u32
     requires { ⌜ at + 4 ≤ length (now s) ⌝ }
-    ensures { λ r. ⌜ r ≡ numberOf (part at 4 (now (s .entry))) ⌝ }
+    ensures { λ r. ⌜ r ≡ number (part at 4 (now (s .entry))) ⌝ }
 {
     number(s, at, 4) as u32
 }

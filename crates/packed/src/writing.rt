@@ -13,7 +13,7 @@ pub fn packed_byte(value: u64) -> u8
     (pair + pair / 10 * 6) as u8
 }
 
-// Writes the last `n` pairs of digits of a value at `at`, the last pair first; every other byte keeps its value.
+// Writes the last `n` pairs of digits of a value from `at` on, the highest pair at `at`; every other byte keeps its value.
 pub fn put(d: &mut [u8], at: usize, n: usize, value: u64)
     requires { ⌜ at + n ≤ length (now d) ⌝ }
     ensures { λ _. ⌜ now (d .exit) ≡ sets (now (d .entry)) at (packedBytes n value) ⌝ }

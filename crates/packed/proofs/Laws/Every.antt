@@ -10,13 +10,9 @@ module _ {ℓ} {A : Type ℓ} (p : A → Bool) where
   every-append [] ys = refl
   every-append (x ∷ xs) ys = ap (λ (t : Bool). p x && t) (every-append xs ys) ∙ sym (and-assoc (p x) (every p xs) (every p ys))
 
-  pub every-head : (x : A) (xs : List A) → every p (x ∷ xs) ≡ true → p x ≡ true
+  pub every-cons : (x : A) (xs : List A) → every p (x ∷ xs) ≡ true → (p x ≡ true) × (every p xs ≡ true)
   unfolding every
-  every-head x xs e = and-eq-true-iff (p x) (every p xs) .0 e .0
-
-  pub every-tail : (x : A) (xs : List A) → every p (x ∷ xs) ≡ true → every p xs ≡ true
-  unfolding every
-  every-tail x xs e = and-eq-true-iff (p x) (every p xs) .0 e .1
+  every-cons x xs e = and-eq-true-iff (p x) (every p xs) .0 e
 
   -- a reading that has found ok so far: nothing left, and one element more
   pub every-none : (ok : Bool) → ok && every p [] ≡ ok

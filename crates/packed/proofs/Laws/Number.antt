@@ -11,45 +11,53 @@ use lib.Arith.{digits-lt, digits-div, digits-mod}
 use lib.Dec.{lit<}
 use lib.Pow.{pow-add}
 use lib.ListN.{length, length-append}
+use Rattle.packed.specs.Part.{part}
 use Rattle.packed.specs.Every.{every}
-use Rattle.packed.specs.Digits.{isPair, digits}
-use Rattle.packed.specs.Number.{pairValue, numberOf}
-use Rattle.packed.proofs.Laws.Every.{every-head, every-tail}
-use Rattle.packed.proofs.Laws.Digits.{high-digit, low-digit}
+use Rattle.packed.specs.Digits.{isDigits, areDigits}
+use Rattle.packed.specs.Number.{byteValue, number}
+use Rattle.packed.proofs.Laws.Part.{part-length, part-split}
+use Rattle.packed.proofs.Laws.Every.{every-cons}
+use Rattle.packed.proofs.Laws.Digits.{halves}
 
 -- the nominal of 01's example document, which fixes the order of halves and bytes
-example : numberOf (0x00 ∷ 0x00 ∷ 0x00 ∷ 0x01 ∷ 0x50 ∷ 0x00 ∷ []) ≡ 15000
-unfolding numberOf pairValue
+example : number (0x00 ∷ 0x00 ∷ 0x00 ∷ 0x01 ∷ 0x50 ∷ 0x00 ∷ []) ≡ 15000
+unfolding number byteValue
 example = refl
 
 -- a value v read so far, and the bytes that are left
 pub numberAfter : ℕ → List ℕ → ℕ
-numberAfter v bs = v * 100 ^ length bs + numberOf bs
+numberAfter v bs = v * 100 ^ length bs + number bs
 
 pub after-none : (v : ℕ) → numberAfter v [] ≡ v
-unfolding numberAfter numberOf
+unfolding numberAfter number
 after-none v = add-zero (v * 1) ∙ mul-one v
 
-pub after-start : (bs : List ℕ) → numberAfter 0 bs ≡ numberOf bs
+pub after-start : (bs : List ℕ) → numberAfter 0 bs ≡ number bs
 unfolding numberAfter
 after-start bs = rw (zero-mul, zero-add)
 
-pub after-step : (v b : ℕ) (bs : List ℕ) → numberAfter (v * 100 + pairValue b) bs ≡ numberAfter v (b ∷ bs)
-unfolding numberAfter numberOf
+pub after-step : (v b : ℕ) (bs : List ℕ) → numberAfter (v * 100 + byteValue b) bs ≡ numberAfter v (b ∷ bs)
+unfolding numberAfter number
 after-step v b bs = simp (pow-succ', add-mul, mul-assoc, add-assoc)
 
-pub number-append : (xs ys : List ℕ) → numberOf (xs ++ ys) ≡ numberOf xs * 100 ^ length ys + numberOf ys
-unfolding numberOf
+pub number-append : (xs ys : List ℕ) → number (xs ++ ys) ≡ number xs * 100 ^ length ys + number ys
+unfolding number
 number-append [] ys = rw (zero-mul, zero-add)
 number-append (x ∷ xs) ys = simp (number-append xs ys, length-append xs ys, pow-add, add-mul, mul-assoc, add-assoc)
+
+pub number-split : (at m n : ℕ) (s : List ℕ) → at + m + n ≤ length s → number (part at (m + n) s) ≡ number (part at m s) * 100 ^ n + number (part (at + m) n s)
+number-split at m n s h =
+    ap number (part-split at m n s)
+    ∙ number-append (part at m s) (part (at + m) n s)
+    ∙ ap (λ (k : ℕ). number (part at m s) * 100 ^ k + number (part (at + m) n s)) (part-length (at + m) n s h)
 
 -- a value is at most that of k bytes FF, each worth 165: 165 * (100 ^ k - 1) / 99, here without the division
 abbrev pub Grown : (k v : ℕ) → Type 0
 Grown k v = 3 * v + 5 ≤ 5 * 100 ^ k
 
-pub pair-most : (b : ℕ) → b < 256 → pairValue b ≤ 165
-unfolding pairValue
-pair-most b h = omega arith
+pub byte-most : (b : ℕ) → b < 256 → byteValue b ≤ 165
+unfolding byteValue
+byte-most b h = omega arith
 
 -- so nine bytes fit 64 bits: after eight the value is below 2 * 10 ^ 16, and the ninth makes it a hundred times that
 pub grown-eight : (k v : ℕ) → k ≤ 8 → Grown k v → v ≤ 16666666666666665
@@ -58,20 +66,20 @@ grown-eight k v h g = omega (arith, pow-le-pow-right {n = 100} (lit< tt) h)
 pub grown-step : (k v p : ℕ) → Grown k v → p ≤ 165 → Grown (k + 1) (v * 100 + p)
 grown-step k v p g h = rw (add-one, pow-suc) (omega arith)
 
-pub pair-below : (b : ℕ) → isPair b ≡ true → pairValue b < 100
-unfolding pairValue
-pair-below b e = omega (arith, high-digit b e, low-digit b e)
+pub byte-below : (b : ℕ) → isDigits b ≡ true → byteValue b < 100
+unfolding byteValue
+byte-below b e = omega (arith, halves b e)
 
-pub number-below : (bs : List ℕ) → digits bs ≡ true → numberOf bs < 100 ^ length bs
-unfolding numberOf every
+pub number-below : (bs : List ℕ) → areDigits bs ≡ true → number bs < 100 ^ length bs
+unfolding number every
 number-below [] e = lit< tt
 number-below (b ∷ bs) e =
     rw pow-succ'
-    (digits-lt (pair-below b (every-head isPair b bs e)) (number-below bs (every-tail isPair b bs e)))
+    (digits-lt (byte-below b (every-cons isDigits b bs e .0)) (number-below bs (every-cons isDigits b bs e .1)))
 
-same-pair : (x y : ℕ) → isPair x ≡ true → isPair y ≡ true → pairValue x ≡ pairValue y → x ≡ y
-unfolding pairValue
-same-pair x y ex ey e = omega (arith, high-digit x ex, low-digit x ex, high-digit y ey, low-digit y ey)
+same-byte : (x y : ℕ) → isDigits x ≡ true → isDigits y ≡ true → byteValue x ≡ byteValue y → x ≡ y
+unfolding byteValue
+same-byte x y ex ey e = omega (arith, halves x ex, halves y ey)
 
 -- two values of a pair and a rest agree in the pair and in the rest
 same-parts : (p q r s w : ℕ) → r < w → s < w → p * w + r ≡ q * w + s → (p ≡ q) × (r ≡ s)
@@ -79,16 +87,16 @@ same-parts p q r s w hr hs e =
     (sym (digits-div p hr) ∙ ap (λ (n : ℕ). n / w) e ∙ digits-div q hs, sym (digits-mod p hr) ∙ ap (λ (n : ℕ). n % w) e ∙ digits-mod q hs)
 
 -- digits of one length and one value are the same bytes
-pub same-digits : (xs ys : List ℕ) → digits xs ≡ true → digits ys ≡ true → length xs ≡ length ys → numberOf xs ≡ numberOf ys → xs ≡ ys
-unfolding numberOf every
+pub same-digits : (xs ys : List ℕ) → areDigits xs ≡ true → areDigits ys ≡ true → length xs ≡ length ys → number xs ≡ number ys → xs ≡ ys
+unfolding number every
 same-digits [] [] ex ey l e = refl
 same-digits [] (y ∷ ys) ex ey l e = let z : _≡_ {A = ℕ} 0 1 = cc in absurd (omega arith)
 same-digits (x ∷ xs) [] ex ey l e = let z : _≡_ {A = ℕ} 0 1 = cc in absurd (omega arith)
 same-digits (x ∷ xs) (y ∷ ys) ex ey l e =
-    let hx : digits xs ≡ true = every-tail isPair x xs ex in
-    let hy : digits ys ≡ true = every-tail isPair y ys ey in
+    let hx : areDigits xs ≡ true = every-cons isDigits x xs ex .1 in
+    let hy : areDigits ys ≡ true = every-cons isDigits y ys ey .1 in
     let k : length xs ≡ length ys = omega arith in
-    let both = same-parts (pairValue x) (pairValue y) (numberOf xs) (numberOf ys) (100 ^ length ys) (rw k at (number-below xs hx)) (number-below ys hy) (rw k at e) in
-    let head : x ≡ y = same-pair x y (every-head isPair x xs ex) (every-head isPair y ys ey) (both .0) in
+    let both = same-parts (byteValue x) (byteValue y) (number xs) (number ys) (100 ^ length ys) (rw k at (number-below xs hx)) (number-below ys hy) (rw k at e) in
+    let head : x ≡ y = same-byte x y (every-cons isDigits x xs ex .0) (every-cons isDigits y ys ey .0) (both .0) in
     let tail : xs ≡ ys = same-digits xs ys hx hy k (both .1) in
     cc

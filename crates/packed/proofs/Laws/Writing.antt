@@ -15,9 +15,10 @@ use lib.Seq.{sets, sets-eq, set-comm, take-at, drop-at, length-take-le}
 use borrow.Author.Tests.{lt-ltb}
 use Rattle.packed.specs.Part.{part}
 use Rattle.packed.specs.Every.{every}
-use Rattle.packed.specs.Digits.{isPair, digits}
-use Rattle.packed.specs.Number.{pairValue, numberOf}
+use Rattle.packed.specs.Digits.{isDigits, areDigits}
+use Rattle.packed.specs.Number.{byteValue, number}
 use Rattle.packed.specs.Writing.{packedByte, packedBytes}
+use Rattle.packed.proofs.Laws.Part.{part-length}
 use Rattle.packed.proofs.Laws.Every.{every-append}
 use Rattle.packed.proofs.Laws.Number.{number-append, number-below, same-digits}
 
@@ -42,34 +43,34 @@ module _ (v : ℕ) where
   unfolding packedByte
   low-half = digits-mod (v / 10 % 10) units
 
-  packed-pair : isPair (packedByte v) ≡ true
-  unfolding isPair
-  packed-pair = rw (high-half, low-half, lt-ltb (v / 10 % 10) 10 (omega arith), lt-ltb (v % 10) 10 (omega arith))
+  packed-byte-digits : isDigits (packedByte v) ≡ true
+  unfolding isDigits
+  packed-byte-digits = rw (high-half, low-half, lt-ltb (v / 10 % 10) 10 (omega arith), lt-ltb (v % 10) 10 (omega arith))
 
-  pair-value-packed : pairValue (packedByte v) ≡ v % 100
-  unfolding pairValue
-  pair-value-packed = rw (high-half, low-half) (sym (mod-mul v {m = 10} (lit< tt) (lit< tt)))
+  packed-byte-value : byteValue (packedByte v) ≡ v % 100
+  unfolding byteValue
+  packed-byte-value = rw (high-half, low-half) (sym (mod-mul v {m = 10} (lit< tt) (lit< tt)))
 
-pub packed-digits : (n v : ℕ) → digits (packedBytes n v) ≡ true
+pub packed-digits : (n v : ℕ) → areDigits (packedBytes n v) ≡ true
 unfolding packedBytes every
 packed-digits zero v = refl
-packed-digits (suc n) v = rw (packed-pair, packed-digits n v)
+packed-digits (suc n) v = rw (packed-byte-digits, packed-digits n v)
 
 -- a value written in n bytes keeps its last n pairs of digits
-pub packed-value : (n v : ℕ) → numberOf (packedBytes n v) ≡ v % 100 ^ n
-unfolding packedBytes numberOf
+pub packed-value : (n v : ℕ) → number (packedBytes n v) ≡ v % 100 ^ n
+unfolding packedBytes number
 packed-value zero v = sym (mod-one v)
 packed-value (suc n) v =
-    rw (pair-value-packed, packed-length n v, packed-value n v, pow-succ')
+    rw (packed-byte-value, packed-length n v, packed-value n v, pow-succ')
     (sym (mod-mul v (lit< tt) (hundred-pos n)))
 
-pub written-then-read : (n v : ℕ) → v < 100 ^ n → numberOf (packedBytes n v) ≡ v
+pub written-then-read : (n v : ℕ) → v < 100 ^ n → number (packedBytes n v) ≡ v
 written-then-read n v h = packed-value n v ∙ mod-eq-of-lt h
 
-pub read-then-written : (bs : List ℕ) → digits bs ≡ true → packedBytes (length bs) (numberOf bs) ≡ bs
+pub read-then-written : (bs : List ℕ) → areDigits bs ≡ true → packedBytes (length bs) (number bs) ≡ bs
 read-then-written bs e =
-    same-digits (packedBytes (length bs) (numberOf bs)) bs (packed-digits (length bs) (numberOf bs)) e (packed-length (length bs) (numberOf bs))
-    (written-then-read (length bs) (numberOf bs) (number-below bs e))
+    same-digits (packedBytes (length bs) (number bs)) bs (packed-digits (length bs) (number bs)) e (packed-length (length bs) (number bs))
+    (written-then-read (length bs) (number bs) (number-below bs e))
 
 pub packed-split : (m n v : ℕ) → packedBytes (m + n) v ≡ packedBytes m (v / 100 ^ n) ++ packedBytes n v
 packed-split m n v =
@@ -111,3 +112,11 @@ put-step d at k v =
     ap (λ (j : ℕ). sets (set d (at + j) (packedByte v)) at rest) (sym (packed-length k (v / 100)))
     ∙ sets-last rest d at (packedByte v)
     ∙ ap (sets d at) (sym (packed-last k v))
+
+-- the round trips at a place of a slice
+pub put-then-read : (d : List ℕ) (at n v : ℕ) → at + n ≤ length d → v < 100 ^ n → number (part at n (sets d at (packedBytes n v))) ≡ v
+put-then-read d at n v h w = ap number (part-sets (packedBytes n v) d at n (packed-length n v) h) ∙ written-then-read n v w
+
+pub read-then-put : (d : List ℕ) (at n : ℕ) → at + n ≤ length d → areDigits (part at n d) ≡ true → packedBytes n (number (part at n d)) ≡ part at n d
+read-then-put d at n h e =
+    ap (λ (m : ℕ). packedBytes m (number (part at n d))) (sym (part-length at n d h)) ∙ read-then-written (part at n d) e

@@ -7,14 +7,14 @@ use Prim.Native.Nat.{ℕ, _+_, _-_, _≤_}
 use native.Mathlib.Omega.{arith}
 use borrow.Author.Needs.{needs}
 use Rattle.packed.specs.Part.{part}
-use Rattle.packed.specs.Digits.{isPair, digits}
+use Rattle.packed.specs.Digits.{isDigits, areDigits}
 use Rattle.packed.proofs.Laws.Part.{part-all, part-none, part-step}
 use Rattle.packed.proofs.Laws.Every.{every-none, every-step}
 use Rattle.packed.proofs.digits.are_digits.Statement.{statement}
 use Rattle.packed.proofs.digits.are_digits.Tie as tie
 
 abbrev Inv-loop : tie.InvT-loop
-Inv-loop s at n end ok₀ i₀ ok i = (i ≤ end) × ((ok && digits (part i (end - i) s)) ≡ digits (part at n s))
+Inv-loop s at n end ok₀ i₀ ok i = (i ≤ end) × ((ok && areDigits (part i (end - i) s)) ≡ areDigits (part at n s))
 
 abbrev μ-loop : tie.MeasureT-loop
 μ-loop s at n end ok₀ i₀ ok i = end - i
@@ -23,13 +23,13 @@ add-end : tie.Need-add-end Inv-loop μ-loop
 add-end c = omega arith
 
 loop-holds : tie.Need-loop-holds Inv-loop μ-loop
-loop-holds c = let a = c .before .args in (omega arith, ap digits (part-all (a .at) (a .n) (a .s .now)))
+loop-holds c = let a = c .before .args in (omega arith, ap areDigits (part-all (a .at) (a .n) (a .s .now)))
 
-shared-slice-read-is-pair : tie.Need-shared-slice-read-is-pair Inv-loop μ-loop
-shared-slice-read-is-pair c = omega arith
+shared-slice-read-is-digits : tie.Need-shared-slice-read-is-digits Inv-loop μ-loop
+shared-slice-read-is-digits c = omega arith
 
-is-pair-requires : tie.Need-is-pair-requires Inv-loop μ-loop
-is-pair-requires c κs = search needs
+is-digits-requires : tie.Need-is-digits-requires Inv-loop μ-loop
+is-digits-requires c κs = search needs
 
 add-i : tie.Need-add-i Inv-loop μ-loop
 add-i c = omega arith
@@ -43,16 +43,16 @@ loop-again c =
     let a = t .before .before .args in
     let end = a .at + a .n in (
       omega arith,
-      rw (c .is-pair .ensures)
-          (every-step isPair (t .loop .ok) _ _ ∙ ap (λ (bs : List ℕ). t .loop .ok && digits bs) (sym (part-step (t .loop .i) end (a .s .now) (omega arith) (omega arith))) ∙ t .loop .inv .1),
+      rw (c .is-digits .ensures)
+          (every-step isDigits (t .loop .ok) _ _ ∙ ap (λ (bs : List ℕ). t .loop .ok && areDigits bs) (sym (part-step (t .loop .i) end (a .s .now) (omega arith) (omega arith))) ∙ t .loop .inv .1),
     )
 
 returns : tie.Need-returns Inv-loop μ-loop
 returns c =
     let t = c .before in
     let a = t .before .before .args in
-    sym (every-none isPair (t .loop .ok))
-    ∙ ap (λ (bs : List ℕ). t .loop .ok && digits bs) (sym (part-none (t .loop .i) (a .at + a .n) (a .s .now) (omega arith)))
+    sym (every-none isDigits (t .loop .ok))
+    ∙ ap (λ (bs : List ℕ). t .loop .ok && areDigits bs) (sym (part-none (t .loop .i) (a .at + a .n) (a .s .now) (omega arith)))
     ∙ t .loop .inv .1
 
 pub are-digits-spec : {M : Type 1} → statement M
@@ -63,8 +63,8 @@ are-digits-spec =
     μ-loop
     add-end
     loop-holds
-    shared-slice-read-is-pair
-    is-pair-requires
+    shared-slice-read-is-digits
+    is-digits-requires
     add-i
     loop-less
     loop-again

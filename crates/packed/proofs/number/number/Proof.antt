@@ -7,14 +7,14 @@ use borrow.Author.Needs.{needs}
 use lib.Dec.{lit≤}
 use lib.ListN.{getD}
 use Rattle.packed.specs.Part.{part}
-use Rattle.packed.specs.Number.{numberOf}
+use Rattle.packed.specs.Number.{number}
 use Rattle.packed.proofs.Laws.Part.{part-all, part-none, part-step}
-use Rattle.packed.proofs.Laws.Number.{numberAfter, after-none, after-start, after-step, Grown, grown-eight, grown-step, pair-most}
+use Rattle.packed.proofs.Laws.Number.{numberAfter, after-none, after-start, after-step, Grown, grown-eight, grown-step, byte-most}
 use Rattle.packed.proofs.number.number.Statement.{statement}
 use Rattle.packed.proofs.number.number.Tie as tie
 
 abbrev Inv-loop : tie.InvT-loop
-Inv-loop s at n end value₀ i₀ value i = (at ≤ i) × (i ≤ end) × (numberAfter value (part i (end - i) s) ≡ numberOf (part at n s)) × Grown (i - at) value
+Inv-loop s at n end value₀ i₀ value i = (at ≤ i) × (i ≤ end) × (numberAfter value (part i (end - i) s) ≡ number (part at n s)) × Grown (i - at) value
 
 abbrev μ-loop : tie.MeasureT-loop
 μ-loop s at n end value₀ i₀ value i = end - i
@@ -31,17 +31,17 @@ loop-holds c =
 mul-value : tie.Need-mul-value Inv-loop μ-loop
 mul-value c = omega (arith, grown-eight _ (c .before .loop .value) (omega arith) (c .before .loop .inv .3))
 
-shared-slice-read-pair-value : tie.Need-shared-slice-read-pair-value Inv-loop μ-loop
-shared-slice-read-pair-value c = omega arith
+shared-slice-read-byte-value : tie.Need-shared-slice-read-byte-value Inv-loop μ-loop
+shared-slice-read-byte-value c = omega arith
 
-pair-value-requires : tie.Need-pair-value-requires Inv-loop μ-loop
-pair-value-requires c κs = search needs
+byte-value-requires : tie.Need-byte-value-requires Inv-loop μ-loop
+byte-value-requires c κs = search needs
 
 -- the byte just read is worth at most 165
-most : (c : tie.After-pair-value Inv-loop μ-loop) → c .pair-value .result ≤ 165
+most : (c : tie.After-byte-value Inv-loop μ-loop) → c .byte-value .result ≤ 165
 most c =
     let i = c .before .before .before .loop .i in
-    rw (c .pair-value .ensures) (pair-most (getD (c .before .before .before .before .before .args .s .now) i 0) (c .before .«shared-slice-known2» .given i .fits))
+    rw (c .byte-value .ensures) (byte-most (getD (c .before .before .before .before .before .args .s .now) i 0) (c .before .«shared-slice-known2» .given i .fits))
 
 add-value : tie.Need-add-value Inv-loop μ-loop
 add-value c =
@@ -61,11 +61,11 @@ loop-again c =
     let more : t .loop .i + 1 - a .at ≡ t .loop .i - a .at + 1 = omega arith in (
       omega arith,
       omega arith,
-      rw (c .pair-value .ensures)
+      rw (c .byte-value .ensures)
           (after-step (t .loop .value) _ _
           ∙ ap (numberAfter (t .loop .value)) (sym (part-step (t .loop .i) (a .at + a .n) (a .s .now) (omega arith) (omega arith)))
           ∙ t .loop .inv .2),
-      rw more (grown-step (t .loop .i - a .at) (t .loop .value) (c .pair-value .result) (t .loop .inv .3) (most c)),
+      rw more (grown-step (t .loop .i - a .at) (t .loop .value) (c .byte-value .result) (t .loop .inv .3) (most c)),
     )
 
 returns : tie.Need-returns Inv-loop μ-loop
@@ -88,8 +88,8 @@ number-spec =
     add-end
     loop-holds
     mul-value
-    shared-slice-read-pair-value
-    pair-value-requires
+    shared-slice-read-byte-value
+    byte-value-requires
     add-value
     add-i
     loop-less

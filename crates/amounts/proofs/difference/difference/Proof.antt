@@ -1,11 +1,11 @@
--- `subtract` computes over whole numbers what it states, since both amounts are below half of what 64 bits hold.
+-- `difference` computes over whole numbers what it states, since both amounts are below half of what 64 bits hold.
 use mathlib.Core.Path.{_∙_}
 use mir.Syntax.{w64}
 use mir.Facts.{toZ-pos, toZ-ofZ}
 use borrow.Author.Needs.{needs}
 use Rattle.amounts.proofs.Laws.Difference.{difference-small}
-use Rattle.amounts.proofs.difference.subtract.Statement.{statement}
-use Rattle.amounts.proofs.difference.subtract.Tie as tie
+use Rattle.amounts.proofs.difference.difference.Statement.{statement}
+use Rattle.amounts.proofs.difference.difference.Tie as tie
 
 cast-result : tie.Need-cast-result
 cast-result c = search needs
@@ -19,5 +19,5 @@ sub-result c = simp (toZ-pos w64 (c .pre .left), toZ-pos w64 (c .pre .right)) (r
 returns : tie.Need-returns
 returns c = toZ-ofZ (sub-result c) ∙ simp (toZ-pos w64 (c .pre .left), toZ-pos w64 (c .pre .right))
 
-pub subtract-spec : {M : Type 1} → statement M
-subtract-spec = tie.close (tie.spec cast-result cast-result-2 sub-result returns)
+pub difference-spec : {M : Type 1} → statement M
+difference-spec = tie.close (tie.spec cast-result cast-result-2 sub-result returns)
