@@ -1,4 +1,4 @@
--- The difference of two amounts, over whole numbers.
+-- 01, 'Course of a direction': the difference of two amounts over whole numbers, as the report's signed positions have it.
 use Prim.Native.Nat.{ℕ, _^_, _<_}
 use lib.IntN.{ℤ, pos, _-ℤ_}
 

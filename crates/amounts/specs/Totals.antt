@@ -1,4 +1,4 @@
--- Documents, nominal and commission together.
+-- 01, 'Centres and directions': documents, nominal and commission together.
 use Prim.Native.Nat.{ℕ, _+_, _^_, _<_}
 use mathlib.Core.Bool.{Bool, _&&_}
 use lib.Dec.{eqb}
@@ -16,7 +16,7 @@ zeros = totals 0 0 0
 abbrev pub plus : Totals → Totals → Totals
 plus a b = totals (a .documents .0 + b .documents .0) (a .nominal .0 + b .nominal .0) (a .commission .0 + b .commission .0)
 
--- whether all three are equal
+-- whether all three are equal, as 01's 04 and 08 compare them
 abbrev pub same : Totals → Totals → Bool
 same a b = eqb (a .documents .0) (b .documents .0) && eqb (a .nominal .0) (b .nominal .0) && eqb (a .commission .0) (b .commission .0)
 

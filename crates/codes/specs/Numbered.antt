@@ -1,4 +1,4 @@
--- Which of some things has a number.
+-- Which of some things has a number: how a byte of a reply is read back as one of 01's codes.
 use Prim.Native.Nat.{ℕ}
 use mathlib.Core.Bool.{cond}
 use mathlib.Core.List.{List, [], _∷_}

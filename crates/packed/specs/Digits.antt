@@ -1,4 +1,4 @@
--- Which bytes are packed digits.
+-- 01, 'Layouts': which bytes are packed digits.
 use Prim.Native.Nat.{ℕ, _/_, _%_}
 use mathlib.Core.Bool.{Bool, _&&_}
 use mathlib.Core.List.{List}

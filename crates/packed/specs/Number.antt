@@ -1,4 +1,4 @@
--- The value of packed bytes, defined on every byte: a half that is no digit counts as the number it is.
+-- 01, 'Layouts': the value of packed bytes. It is defined on every byte: a half that is no digit counts as the number it is.
 use Prim.Native.Nat.{ℕ, _+_, _*_, _^_, _/_, _%_}
 use mathlib.Core.List.{List, [], _∷_}
 use lib.ListN.{length}

@@ -1,4 +1,4 @@
--- A run of a list, by its place and its width.
+-- A run of a list, by its place and its width: how every definition here names a field of 01's layouts.
 use Prim.Native.Nat.{ℕ}
 use mathlib.Core.List.{List}
 use lib.ListN.{take, drop}

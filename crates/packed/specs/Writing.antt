@@ -1,4 +1,4 @@
--- A value as packed bytes.
+-- 01, 'Layouts': a value as packed bytes.
 use Prim.Native.Nat.{ℕ, zero, suc, _+_, _*_, _^_, _/_, _%_}
 use mathlib.Core.List.{List, [], _∷_}
 
