@@ -1,6 +1,6 @@
 -- Laws of a test at every element.
 use mathlib.Core.Path.{_≡_, refl, ap, sym, _∙_}
-use mathlib.Core.Bool.{Bool, true, _&&_, and-assoc, and-true, and-eq-true-iff}
+use mathlib.Core.Bool.{Bool, true, false, _&&_, and-assoc, and-true, and-eq-true-iff}
 use mathlib.Core.List.{List, [], _∷_, _++_}
 use Rattle.packed.specs.Every.{every}
 
@@ -22,3 +22,15 @@ module _ {ℓ} {A : Type ℓ} (p : A → Bool) where
   pub every-step : (ok : Bool) (x : A) (xs : List A) → ok && p x && every p xs ≡ ok && every p (x ∷ xs)
   unfolding every
   every-step ok x xs = and-assoc ok (p x) (every p xs)
+
+-- two tests at every element are the one at every element and the other
+regroup : (a b c d : Bool) → a && b && (c && d) ≡ a && c && (b && d)
+regroup true true c d = refl
+regroup true false true d = refl
+regroup true false false d = refl
+regroup false b c d = refl
+
+pub every-both : {A : Type 0} (p q : A → Bool) (xs : List A) → every (λ (x : A). p x && q x) xs ≡ every p xs && every q xs
+unfolding every
+every-both p q [] = refl
+every-both p q (x ∷ xs) = ap (λ (t : Bool). p x && q x && t) (every-both p q xs) ∙ regroup (p x) (q x) (every p xs) (every q xs)

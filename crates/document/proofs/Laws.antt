@@ -1,0 +1,3 @@
+-- Laws of a document, one file a notion.
+pub mod Fields
+pub mod Entities

@@ -1,0 +1,8 @@
+-- The meaning of one document (01, 'Detail').
+pub mod Operation
+pub mod Rules
+pub mod Fields
+pub mod Entities
+pub mod Drawee
+pub mod Amounts
+pub mod Found
