@@ -1,8 +1,10 @@
--- 01, 'Detail': what a document is worth, and the commission on it.
-use Prim.Native.Nat.{ℕ}
-use mathlib.Core.List.{List}
+-- 01, 'Detail': what documents are worth, and the commission on them.
+use Prim.Native.Nat.{ℕ, _*_, _≤_}
+use mathlib.Core.List.{List, [], _∷_}
 use Rattle.packed.specs.Field.{printed}
 use Rattle.packed.specs.Number.{number}
+use Rattle.amounts.specs.declared.Totals.{Totals}
+use Rattle.amounts.specs.Totals.{totals, zeros, plus}
 use Rattle.document.specs.Fields.{firstPosition}
 
 unfoldable pub nominal : List ℕ → ℕ
@@ -11,9 +13,16 @@ nominal d = number (printed firstPosition 30 6 d)
 unfoldable pub commission : List ℕ → ℕ
 commission d = number (printed firstPosition 48 4 d)
 
--- whatever the bytes, below twice what digits reach
-abbrev pub nominalBound : ℕ
-nominalBound = 2000000000000
+-- the totals of one document, and of some
+abbrev pub documentTotals : List ℕ → Totals
+documentTotals d = totals 1 (nominal d) (commission d)
 
-abbrev pub commissionBound : ℕ
-commissionBound = 200000000
+unfoldable pub totalsOf : List (List ℕ) → Totals
+totalsOf [] = zeros
+totalsOf (d ∷ ds) = plus (documentTotals d) (totalsOf ds)
+
+-- totals that n documents of any bytes cannot pass: a nominal and a commission stay below twice what digits reach
+pub record Within (n : ℕ) (t : Totals) : Type 0 where
+  pub documents : t .documents .0 ≤ n
+  pub nominal : t .nominal .0 ≤ n * 2000000000000
+  pub commission : t .commission .0 ≤ n * 200000000

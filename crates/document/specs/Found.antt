@@ -1,18 +1,44 @@
--- What one reading of a document finds.
+-- What a reading of documents finds: the tests of 01, 03 and 06, and the totals.
 use Prim.Native.Nat.{ℕ}
+use mathlib.Core.Bool.{true, _&&_}
 use mathlib.Core.List.{List}
-use Rattle.document.specs.declared.Found.{Found}
+use Rattle.packed.specs.Every.{every}
+use Rattle.amounts.specs.Totals.{zeros, plus}
+use Rattle.document.specs.declared.found.Found.{Found}
 use Rattle.document.specs.Fields.{fieldsGood, amountsGood}
 use Rattle.document.specs.Drawee.{draweeServed}
-use Rattle.document.specs.Amounts.{nominal, commission}
+use Rattle.document.specs.Amounts.{documentTotals, totalsOf}
 
--- the tests of 01, 03 and 06, and what the document is worth
+-- in one document
 abbrev pub found : (operation receiving : ℕ) (represented : List ℕ) → List ℕ → Found
 found operation receiving represented d =
     record {
       fields = fieldsGood operation receiving d;
       amounts = amountsGood operation receiving d;
       served = draweeServed operation receiving represented d;
-      nominal = record { 0 = nominal d };
-      commission = record { 0 = commission d };
+      totals = documentTotals d;
+    }
+
+-- in some documents, each test over all of them
+abbrev pub foundIn : (operation receiving : ℕ) (represented : List ℕ) → List (List ℕ) → Found
+foundIn operation receiving represented ds =
+    record {
+      fields = every (fieldsGood operation receiving) ds;
+      amounts = every (amountsGood operation receiving) ds;
+      served = every (draweeServed operation receiving represented) ds;
+      totals = totalsOf ds;
+    }
+
+-- in none
+abbrev pub nothing : Found
+nothing = record { fields = true; amounts = true; served = true; totals = zeros }
+
+-- in some and in some more
+abbrev pub join : Found → Found → Found
+join a b =
+    record {
+      fields = a .fields && b .fields;
+      amounts = a .amounts && b .amounts;
+      served = a .served && b .served;
+      totals = plus (a .totals) (b .totals);
     }

@@ -3,8 +3,8 @@ use native.Mathlib.Omega.{arith}
 use borrow.Author.Needs.{needs}
 use Rattle.document.specs.Amounts.{nominal, commission}
 use Rattle.document.proofs.Laws.Fields.{fields-split, amounts-split}
-use Rattle.document.proofs.read.Statement.{statement}
-use Rattle.document.proofs.read.Tie as tie
+use Rattle.document.proofs.found.read.Statement.{statement}
+use Rattle.document.proofs.found.read.Tie as tie
 
 all-digits-requires : tie.Need-all-digits-requires
 all-digits-requires c κs = search needs
@@ -25,7 +25,7 @@ returns : tie.Need-returns
 unfolding nominal commission
 returns c =
     let a = c .before .before .before .before .before .before .before .before .args in
-    (cc (fields-split (a .operation) (a .receiving) (a .d .now), amounts-split (a .operation) (a .receiving) (a .d .now)), (omega arith, omega arith))
+    (cc (fields-split (a .operation) (a .receiving) (a .d .now), amounts-split (a .operation) (a .receiving) (a .d .now)), record { documents = omega arith; nominal = omega arith; commission = omega arith })
 
 pub read-spec : {M : Type 1} → statement M
 read-spec =

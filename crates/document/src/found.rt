@@ -1,0 +1,71 @@
+// What a reading of documents finds, one or many: whether 01, 03 and 06 have nothing against them, and their totals.
+use crate::digits::all_digits;
+use crate::drawee::drawee_served;
+use crate::rules::values_good;
+use amounts::Commission;
+use amounts::Documents;
+use amounts::Nominal;
+use amounts::Totals;
+use packed::number::number;
+ghost use mathlib.Core.Path.{_≡_};
+ghost use lib.ListN.{length};
+ghost use Rattle.amounts.specs.Totals.{SumFits};
+ghost use Rattle.document.specs.Fields.{documentBytes};
+ghost use Rattle.document.specs.Amounts.{Within};
+ghost use Rattle.document.specs.Found.{found, nothing, join};
+
+pub struct Found {
+    pub fields: bool,
+    pub amounts: bool,
+    pub served: bool,
+    pub totals: Totals,
+}
+
+impl Found {
+    // Of no documents.
+    pub fn nothing() -> Found
+        ensures { λ r. ⌜ r ≡ nothing ⌝ }
+    {
+        Found {
+            fields: true,
+            amounts: true,
+            served: true,
+            totals: Totals::zeros(),
+        }
+    }
+
+    // Of some documents and some more.
+    pub fn join(self, other: Found) -> Found
+        requires { ⌜ SumFits (self .totals) (other .totals) ⌝ }
+        ensures { λ r. ⌜ r ≡ join self other ⌝ }
+    {
+        let these = self.totals;
+        let those = other.totals;
+        Found {
+            fields: self.fields & other.fields,
+            amounts: self.amounts & other.amounts,
+            served: self.served & other.served,
+            totals: these.plus(those),
+        }
+    }
+}
+
+// Of one document, read once. Its receiving entity has to be `receiving`, which is also the first of those that its drawee
+// may be. The bounds hold of any bytes, so that callers may add before they know whether the digits are good.
+pub fn read(d: &[u8], operation: u8, receiving: u16, represented: &[u16]) -> Found
+    requires { ⌜ length (now d) ≡ documentBytes ⌝ }
+    ensures found { λ r. ⌜ r ≡ found operation receiving (now (represented .entry)) (now (d .entry)) ⌝ }
+    ensures bound { λ r. ⌜ Within 1 (r .totals) ⌝ }
+{
+    let digits = all_digits(d);
+    Found {
+        fields: digits.fields & values_good(d, operation, receiving),
+        amounts: digits.amounts,
+        served: drawee_served(d, operation, receiving, represented),
+        totals: Totals {
+            documents: Documents(1),
+            nominal: Nominal(number(d, 25, 6)),
+            commission: Commission(number(d, 43, 4)),
+        },
+    }
+}
