@@ -1,5 +1,6 @@
 -- Laws of packed decimals, one file a notion.
 pub mod Part
+pub mod Pieces
 pub mod Every
 pub mod Digits
 pub mod Number

@@ -5,3 +5,4 @@ pub mod Digits
 pub mod Number
 pub mod Writing
 pub mod Field
+pub mod Pieces

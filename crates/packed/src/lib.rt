@@ -4,4 +4,5 @@
 
 pub mod digits;
 pub mod number;
+pub mod pieces;
 pub mod writing;

@@ -1,4 +1,4 @@
-// A value written as packed bytes.
+// A value written as packed bytes, and bytes copied as they are.
 ghost use mathlib.Core.Path.{_≡_};
 ghost use Prim.Native.Nat.{_+_, _≤_};
 ghost use lib.ListN.{length};
@@ -24,5 +24,17 @@ pub fn put(d: &mut [u8], at: usize, n: usize, value: u64)
         i -= 1;
         d[i] = packed_byte(rest);
         rest = rest / 100;
+    }
+}
+
+// Copies all of `s` to `at` on; every other byte keeps its value.
+pub fn copy(d: &mut [u8], at: usize, s: &[u8])
+    requires { ⌜ at + length (now s) ≤ length (now d) ⌝ }
+    ensures { λ _. ⌜ now (d .exit) ≡ sets (now (d .entry)) at (now (s .entry)) ⌝ }
+{
+    let mut i: usize = 0;
+    while i < s.len() {
+        d[at + i] = s[i];
+        i += 1;
     }
 }

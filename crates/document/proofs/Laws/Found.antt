@@ -56,6 +56,10 @@ module _ (operation receiving : ℕ) (represented : List ℕ) where
         totals = totals-append xs ys i;
       }
 
+  -- findings so far, and nothing left
+  pub found-end : (so : Found) → join so (foundIn operation receiving represented []) ≡ so
+  found-end so = ap (join so) found-none ∙ join-nothing so
+
   -- findings so far, and one document more of those left
   pub found-step : (so : Found) (d : List ℕ) (ds : List (List ℕ)) → join (join so (found operation receiving represented d)) (foundIn operation receiving represented ds) ≡ join so (foundIn operation receiving represented (d ∷ ds))
   found-step so d ds =
@@ -75,5 +79,8 @@ within-plus m n a b ha hb = record { documents = omega arith; nominal = omega ar
 pub within-zeros : Within 0 zeros
 within-zeros = record { documents = omega arith; nominal = omega arith; commission = omega arith }
 
-pub within-fits : (m n : ℕ) (a b : Totals) → m + n ≤ 1000 → Within m a → Within n b → SumFits a b
+pub within-fits : (m n : ℕ) (a b : Totals) → m + n ≤ 100000 → Within m a → Within n b → SumFits a b
 within-fits m n a b h ha hb = record { documents = omega arith; nominal = omega arith; commission = omega arith }
+
+pub within-more : (m n : ℕ) (t : Totals) → m ≤ n → Within m t → Within n t
+within-more m n t h w = record { documents = omega arith; nominal = omega arith; commission = omega arith }

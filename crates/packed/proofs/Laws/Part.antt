@@ -6,7 +6,7 @@ use native.Mathlib.Nat.{sub-zero, zero-sub, suc-sub-suc}
 use native.Mathlib.Numerals.{add-one}
 use native.Mathlib.Omega.{arith}
 use lib.ListN.{length, take, drop, getD, length-take, length-drop}
-use lib.Seq.{drop-cons, take-add, take-take, drop-drop, take-nil, drop-nil}
+use lib.Seq.{take-all, drop-cons, take-add, take-take, drop-drop, take-nil, drop-nil}
 use Rattle.packed.specs.Part.{part}
 
 pub part-length : (at n : ℕ) (s : List ℕ) → at + n ≤ length s → length (part at n s) ≡ n
@@ -24,6 +24,10 @@ part-step i e s h l =
     let more : e - i ≡ suc (e - (i + 1)) = omega arith in
     let inside : i < length s = omega arith in
     rw (more, drop-cons s i 0, add-one)
+
+-- a run to the end is all behind its start
+pub part-tail : (at : ℕ) (s : List ℕ) → part at (length s - at) s ≡ drop at s
+part-tail at s = take-all (length s - at) (drop at s) (simp length-drop (omega arith))
 
 pub part-split : (at m n : ℕ) (s : List ℕ) → part at (m + n) s ≡ part at m s ++ part (at + m) n s
 part-split at m n s = take-add m n (drop at s) ∙ ap (λ (r : List ℕ). take m (drop at s) ++ take n r) (drop-drop m at s)

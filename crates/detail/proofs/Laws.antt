@@ -1,0 +1,4 @@
+-- Laws of a detail, one file a notion.
+pub mod Groups
+pub mod Codes
+pub mod Writing

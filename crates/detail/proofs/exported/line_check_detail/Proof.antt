@@ -1,0 +1,58 @@
+-- `line_check_detail`: entities outside the limits end the chain; else the reading's code and totals are handed on as numbers.
+use mathlib.Core.Path.{_≡_, ap, sym, _∙_}
+use mathlib.Core.Bool.{not}
+use Prim.Native.Nat.{ℕ}
+use borrow.Author.Needs.{needs}
+use lib.Dec.{lit<}
+use Rattle.amounts.specs.declared.Totals.{Totals}
+use Rattle.codes.proofs.Laws.Chain.{applies, passes}
+use Rattle.document.specs.Entities.{entitiesGood}
+use Rattle.detail.specs.Groups.{documents}
+use Rattle.detail.specs.Codes.{receivedCode, accepted}
+use Rattle.detail.specs.Checked.{checkedCode, numbers, checked}
+use Rattle.detail.proofs.exported.line_check_detail.Statement.{statement}
+use Rattle.detail.proofs.exported.line_check_detail.Tie as tie
+
+entities-good-requires : tie.Need-entities-good-requires
+entities-good-requires c κs = search needs
+
+read-detail-requires : tie.Need-read-detail-requires
+read-detail-requires c κs = search needs
+
+code-number-requires : tie.Need-code-number-requires
+code-number-requires c κs = search needs
+
+returns : tie.Need-returns
+unfolding checked checkedCode
+returns c =
+    let read = c .before .before .read-detail .ensures in
+    let e = c .before .before .before .before .entities-good .ensures in
+    let a = c .before .before .before .before .before .before .before .args in
+    let body = a .body .now in
+    let good = sym e ∙ c .before .before .before .if1 .taken in
+    let code = read .0 ∙ sym (passes 24 (not (entitiesGood (a .own) (a .represented .now))) (receivedCode (a .own) (a .represented .now) body) (ap not good)) in
+    let totals = read .1 ∙ ap (λ (n : ℕ). accepted n (documents body)) code in
+    λ i. numbers ((c .code-number .ensures ∙ code) i) (totals i)
+
+refusal-number-requires : tie.Need-refusal-number-requires
+refusal-number-requires c κs = search needs
+
+returns-2 : tie.Need-returns-2
+unfolding checked checkedCode
+returns-2 c =
+    let a = c .before .before .before .before .before .args in
+    let body = a .body .now in
+    let bad = sym (c .before .before .entities-good .ensures) ∙ c .before .if1 .left in
+    let code = sym (applies 24 (not (entitiesGood (a .own) (a .represented .now))) (receivedCode (a .own) (a .represented .now) body) (lit< tt) (ap not bad)) in
+    (λ i. numbers (c .refusal-number .ensures i) (accepted 24 (documents body))) ∙ ap (λ (n : ℕ). numbers n (accepted n (documents body))) code
+
+pub line-check-detail-spec : {M : Type 1} → statement M
+line-check-detail-spec =
+    tie.close
+    (tie.spec
+    entities-good-requires
+    read-detail-requires
+    code-number-requires
+    returns
+    refusal-number-requires
+    returns-2)

@@ -1,0 +1,68 @@
+-- 01, 'Detail': a body as a list of groups, and a group as a list of documents.
+use Prim.Native.Nat.{ℕ, _+_, _*_}
+use mathlib.Core.Bool.{Bool, _&&_, _||_}
+use mathlib.Core.List.{List, flatMap}
+use lib.Dec.{eqb}
+use lib.ListN.{length, drop, getD}
+use Rattle.packed.specs.Every.{every}
+use Rattle.packed.specs.Pieces.{pieces}
+use Rattle.document.specs.Operation.{presented, returned}
+use Rattle.document.specs.Rules.{between}
+use Rattle.document.specs.Fields.{documentBytes}
+
+-- the second byte of every body and of every group
+abbrev pub mark : ℕ
+mark = 0x51
+
+-- free byte, mark, operation and count
+abbrev pub headBytes : ℕ
+headBytes = 4
+
+-- the documents of a full group, and the groups of a body, at most
+abbrev pub fullCount : ℕ
+fullCount = 4
+
+abbrev pub mostGroups : ℕ
+mostGroups = 50
+
+-- the bytes of a full group
+abbrev pub groupBytes : ℕ
+groupBytes = headBytes + fullCount * documentBytes
+
+-- the bytes of the longest body
+abbrev pub longestBody : ℕ
+longestBody = mostGroups * groupBytes
+
+-- each group but the last is full, so the groups of a body are its pieces of that width
+unfoldable pub groups : List ℕ → List (List ℕ)
+groups body = pieces groupBytes body
+
+-- byte 3, of a group and so of a body
+abbrev pub operationOf : List ℕ → ℕ
+operationOf g = getD g 2 0
+
+abbrev pub countOf : List ℕ → ℕ
+countOf g = getD g 3 0
+
+abbrev pub isOperation : ℕ → Bool
+isOperation o = eqb o presented || eqb o returned
+
+-- the mark, one of the two operations, a count of 1 to 4, and so many documents to the byte
+unfoldable pub groupGood : List ℕ → Bool
+groupGood g =
+    eqb (getD g 1 0) mark && isOperation (operationOf g) && between 1 fullCount (countOf g) && eqb (length g) (headBytes + countOf g * documentBytes)
+
+-- 1 to 50 groups, all good
+unfoldable pub shapeGood : List ℕ → Bool
+shapeGood body = between 1 mostGroups (length (groups body)) && every groupGood (groups body)
+
+-- no group has another operation than the first
+unfoldable pub oneOperation : List ℕ → Bool
+oneOperation body = every (λ (g : List ℕ). eqb (operationOf g) (operationOf body)) (groups body)
+
+-- the documents of a group, and those of a body in order
+abbrev pub groupDocuments : List ℕ → List (List ℕ)
+groupDocuments g = pieces documentBytes (drop headBytes g)
+
+unfoldable pub documents : List ℕ → List (List ℕ)
+documents body = flatMap groupDocuments (groups body)

@@ -1,0 +1,23 @@
+-- 01, 'Trays' and 'Detail': a detail as it is written, from an operation byte and the bytes of whole documents.
+use Prim.Native.Nat.{ℕ, _*_, _/_}
+use mathlib.Core.List.{List, _∷_, flatMap}
+use lib.ListN.{length, drop}
+use Rattle.packed.specs.Pieces.{pieces}
+use Rattle.document.specs.Fields.{documentBytes}
+use Rattle.detail.specs.Groups.{mark, fullCount, groups, documents}
+
+-- a group of some documents, its free byte 00
+abbrev pub writtenGroup : (operation : ℕ) → List ℕ → List ℕ
+writtenGroup operation ds = 0x00 ∷ mark ∷ operation ∷ length ds / documentBytes ∷ ds
+
+-- groups of four, the last with the documents that are left
+unfoldable pub written : (operation : ℕ) → List ℕ → List ℕ
+written operation part = flatMap (writtenGroup operation) (pieces (fullCount * documentBytes) part)
+
+-- the documents of a body as one part
+unfoldable pub partOf : List ℕ → List ℕ
+partOf body = flatMap (λ (d : List ℕ). d) (documents body)
+
+-- a body with the free byte of each group 00
+unfoldable pub cleared : List ℕ → List ℕ
+cleared body = flatMap (λ (g : List ℕ). 0x00 ∷ drop 1 g) (groups body)

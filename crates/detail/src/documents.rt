@@ -1,0 +1,50 @@
+// What is found in many documents: those of a part, and those of a body, group by group.
+use crate::groups::GROUP;
+use crate::groups::HEAD;
+use document::BYTES;
+use document::found::Found;
+use document::found::read;
+use packed::pieces::piece_at;
+ghost use mathlib.Core.Path.{_≡_};
+ghost use mathlib.Core.Bool.{true};
+ghost use Prim.Native.Nat.{_%_, _≤_};
+ghost use lib.ListN.{length};
+ghost use Rattle.packed.specs.Every.{every};
+ghost use Rattle.packed.specs.Pieces.{pieces};
+ghost use Rattle.document.specs.Fields.{documentBytes};
+ghost use Rattle.document.specs.Amounts.{Within};
+ghost use Rattle.document.specs.Found.{foundIn};
+ghost use Rattle.detail.specs.Groups.{groupGood, groups, documents, longestBody};
+
+// In the documents of a part.
+pub fn read_documents(part: &[u8], operation: u8, receiving: u16, represented: &[u16]) -> Found
+    requires { ⌜ length (now part) % documentBytes ≡ 0 ⌝ }
+    requires { ⌜ length (now part) ≤ longestBody ⌝ }
+    ensures found { λ r. ⌜ r ≡ foundIn operation receiving (now (represented .entry)) (pieces documentBytes (now (part .entry))) ⌝ }
+    ensures bound { λ r. ⌜ Within (length (now (part .entry))) (r .totals) ⌝ }
+{
+    let mut found = Found::nothing();
+    let mut at: usize = 0;
+    while at < part.len() {
+        let end = at + BYTES;
+        found = found.join(read(&part[at..end], operation, receiving, represented));
+        at = end;
+    }
+    found
+}
+
+// In the documents of a body whose groups are good.
+pub fn read_groups(body: &[u8], operation: u8, receiving: u16, represented: &[u16]) -> Found
+    requires { ⌜ every groupGood (groups (now body)) ≡ true ⌝ }
+    requires { ⌜ length (now body) ≤ longestBody ⌝ }
+    ensures { λ r. ⌜ r ≡ foundIn operation receiving (now (represented .entry)) (documents (now (body .entry))) ⌝ }
+{
+    let mut found = Found::nothing();
+    let mut at: usize = 0;
+    while at < body.len() {
+        let g = piece_at(body, at, GROUP);
+        found = found.join(read_documents(&g[HEAD..], operation, receiving, represented));
+        at += GROUP;
+    }
+    found
+}

@@ -1,0 +1,76 @@
+// The groups of a body: where each lies, and whether the body has the shape of a detail.
+use document::BYTES;
+use document::PRESENTED;
+use document::RETURNED;
+use packed::pieces::piece_at;
+ghost use mathlib.Core.Path.{_≡_};
+ghost use Prim.Native.Nat.{_≤_};
+ghost use lib.ListN.{length};
+ghost use Rattle.packed.specs.Every.{every};
+ghost use Rattle.detail.specs.Groups.{longestBody, operationOf, groupGood, groups, oneOperation};
+
+// The second byte of every group.
+pub const MARK: u8 = 0x51;
+
+// Free byte, mark, operation and count.
+pub const HEAD: usize = 4;
+
+// The documents of a full group, and its bytes.
+pub const FULL: usize = 4;
+
+pub const GROUP: usize = 208;
+
+// The longest body: 50 full groups.
+pub const LONGEST: usize = 10400;
+
+// The operation byte, 0 where there is none.
+pub fn operation_of(g: &[u8]) -> u8
+    ensures { λ r. ⌜ r ≡ operationOf (now (g .entry)) ⌝ }
+{
+    if g.len() < 3 {
+        return 0;
+    }
+    g[2]
+}
+
+// Whether a group is whole and marked as it should be.
+pub fn group_good(g: &[u8]) -> bool
+    ensures { λ r. ⌜ r ≡ groupGood (now (g .entry)) ⌝ }
+{
+    if g.len() < HEAD {
+        return false;
+    }
+    let count = g[3] as usize;
+    (g[1] == MARK)
+        & ((g[2] == PRESENTED) | (g[2] == RETURNED))
+        & ((1 <= count) & (count <= FULL))
+        & (g.len() == HEAD + count * BYTES)
+}
+
+// What the heads of all groups say together.
+pub struct Heads {
+    pub good: bool,
+    pub one: bool,
+}
+
+// Whether every group is good, and whether all have one operation: one pass over the heads.
+pub fn read_heads(body: &[u8]) -> Heads
+    requires { ⌜ length (now body) ≤ longestBody ⌝ }
+    ensures good { λ r. ⌜ r .good ≡ every groupGood (groups (now (body .entry))) ⌝ }
+    ensures one { λ r. ⌜ r .one ≡ oneOperation (now (body .entry)) ⌝ }
+{
+    let operation = operation_of(body);
+    let mut good = true;
+    let mut one = true;
+    let mut at: usize = 0;
+    while at < body.len() {
+        let g = piece_at(body, at, GROUP);
+        good = good & group_good(g);
+        one = one & (operation_of(g) == operation);
+        at += GROUP;
+    }
+    Heads {
+        good: good,
+        one: one,
+    }
+}

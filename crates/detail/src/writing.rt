@@ -1,0 +1,50 @@
+// A detail written from documents.
+use crate::groups::FULL;
+use crate::groups::HEAD;
+use crate::groups::MARK;
+use document::BYTES;
+use packed::pieces::piece_at;
+use packed::writing::copy;
+ghost use mathlib.Core.Path.{_≡_};
+ghost use Prim.Native.Nat.{_+_, _*_, _≤_};
+ghost use lib.ListN.{length};
+ghost use lib.Seq.{sets};
+ghost use Rattle.document.specs.Fields.{documentBytes};
+ghost use Rattle.detail.specs.Groups.{headBytes, fullCount};
+ghost use Rattle.detail.specs.Codes.{mostDocuments};
+ghost use Rattle.detail.specs.Writing.{writtenGroup, written};
+
+// The bytes of a full group's documents.
+const FILL: usize = 204;
+
+// Writes one group of at most four documents at `to`; every other byte keeps its value.
+fn write_group(out: &mut [u8], to: usize, operation: u8, documents: &[u8])
+    requires { ⌜ to + headBytes + length (now documents) ≤ length (now out) ⌝ }
+    requires { ⌜ length (now documents) ≤ fullCount * documentBytes ⌝ }
+    ensures { λ _. ⌜ now (out .exit) ≡ sets (now (out .entry)) to (writtenGroup operation (now (documents .entry))) ⌝ }
+{
+    out[to] = 0;
+    out[to + 1] = MARK;
+    out[to + 2] = operation;
+    out[to + 3] = (documents.len() / BYTES) as u8;
+    copy(out, to + HEAD, documents);
+}
+
+// Writes a body from the operation byte and the part at the start of `out`, and answers its length; every other byte keeps
+// its value.
+pub fn write_detail(out: &mut [u8], operation: u8, part: &[u8]) -> usize
+    requires { ⌜ length (now part) ≤ mostDocuments * documentBytes ⌝ }
+    requires { ⌜ length (written operation (now part)) ≤ length (now out) ⌝ }
+    ensures length { λ r. ⌜ r ≡ length (written operation (now (part .entry))) ⌝ }
+    ensures bytes { λ _. ⌜ now (out .exit) ≡ sets (now (out .entry)) 0 (written operation (now (part .entry))) ⌝ }
+{
+    let mut to: usize = 0;
+    let mut at: usize = 0;
+    while at < part.len() {
+        let documents = piece_at(part, at, FILL);
+        write_group(out, to, operation, documents);
+        to += HEAD + documents.len();
+        at += FILL;
+    }
+    to
+}

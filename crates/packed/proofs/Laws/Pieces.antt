@@ -1,0 +1,106 @@
+-- Laws of a list cut into pieces: the step, the split after whole pieces, their count, and that they make up the list again.
+use mathlib.Core.Path.{_≡_, refl, ap, sym, _∙_}
+use mathlib.Core.Bool.{Bool, true, false}
+use mathlib.Core.List.{List, [], _∷_, _++_, flatMap}
+use Prim.Native.Nat.{ℕ, zero, suc, _+_, _*_, _≤_, _<_}
+use native.Mathlib.Nat.{zero-mul, suc-mul}
+use native.Mathlib.Omega.{arith}
+use lib.Dec.{leb}
+use lib.ListN.{length, take, drop, length-append, length-drop, take-append-drop, drop-of-length-le}
+use lib.Seq.{take-all, take-append-le, drop-append-le, drop-drop, take-at, drop-at}
+use borrow.Author.Tests.{leb-true, leb-false, le-leb, lt-leb}
+use Rattle.packed.specs.Part.{part}
+use Rattle.packed.specs.Pieces.{cut, pieces}
+
+module _ (k : ℕ) (wide : 0 < k) where
+  -- what is left of a list once a piece is taken is shorter
+  shorter : (x : ℕ) (s : List ℕ) → length (drop k (x ∷ s)) ≤ length s
+  shorter x s = simp length-drop (omega arith)
+
+  cut-enough : (n m : ℕ) (s : List ℕ) → length s ≤ n → length s ≤ m → cut k n s ≡ cut k m s
+  unfolding cut
+  cut-enough zero zero s hn hm = refl
+  cut-enough zero (suc m) [] hn hm = refl
+  cut-enough zero (suc m) (x ∷ s) hn hm = absurd (omega arith)
+  cut-enough (suc n) zero [] hn hm = refl
+  cut-enough (suc n) zero (x ∷ s) hn hm = absurd (omega arith)
+  cut-enough (suc n) (suc m) [] hn hm = refl
+  cut-enough (suc n) (suc m) (x ∷ s) hn hm =
+      ap (λ (l : List (List ℕ)). take k (x ∷ s) ∷ l) (cut-enough n m (drop k (x ∷ s)) (omega (arith, shorter x s)) (omega (arith, shorter x s)))
+
+  pub pieces-step : (s : List ℕ) → 0 < length s → pieces k s ≡ take k s ∷ pieces k (drop k s)
+  unfolding cut
+  pieces-step [] h = absurd (omega arith)
+  pieces-step (x ∷ s) h =
+      ap (λ (l : List (List ℕ)). take k (x ∷ s) ∷ l) (cut-enough (length s) (length (drop k (x ∷ s))) (drop k (x ∷ s)) (shorter x s) (omega arith))
+
+  -- what a reading has left from at on: a piece and the rest, and at last nothing
+  pub pieces-at : (at : ℕ) (s : List ℕ) → at < length s → pieces k (drop at s) ≡ part at k s ∷ pieces k (drop (at + k) s)
+  pieces-at at s h =
+      pieces-step (drop at s) (simp length-drop (omega arith)) ∙ ap (λ (l : List ℕ). part at k s ∷ pieces k l) (drop-drop k at s)
+
+  pub pieces-end : (at : ℕ) (s : List ℕ) → length s ≤ at → pieces k (drop at s) ≡ []
+  unfolding cut
+  pieces-end at s h = ap (pieces k) (drop-of-length-le s {i = at} h)
+
+  -- a list that is at most one piece
+  pub pieces-one : (s : List ℕ) → 0 < length s → length s ≤ k → pieces k s ≡ s ∷ []
+  unfolding cut
+  pieces-one s h l = pieces-step s h ∙ rw (take-all k s l, drop-of-length-le s {i = k} l)
+
+  -- a first piece, and more behind it
+  pub pieces-first : (p s : List ℕ) → length p ≡ k → pieces k (p ++ s) ≡ p ∷ pieces k s
+  pieces-first p s e =
+      pieces-step (p ++ s) (simp length-append (omega arith)) ∙ rw (take-at p s k e, drop-at p s k e)
+
+  -- n whole pieces, and more behind them
+  pub pieces-append : (n : ℕ) (xs ys : List ℕ) → length xs ≡ n * k → pieces k (xs ++ ys) ≡ pieces k xs ++ pieces k ys
+  unfolding cut
+  pieces-append zero [] ys e = refl
+  pieces-append zero (x ∷ xs) ys e = absurd (omega (arith, zero-mul k))
+  pieces-append (suc n) xs ys e =
+      let long : k ≤ length xs = omega (arith, suc-mul n k) in
+      let rest : length (drop k xs) ≡ n * k = simp length-drop (omega (arith, suc-mul n k)) in
+      pieces-step (xs ++ ys) (simp length-append (omega arith))
+      ∙ rw (take-append-le k xs ys long, drop-append-le k xs ys long, pieces-append n (drop k xs) ys rest)
+      (ap (λ (l : List (List ℕ)). l ++ pieces k ys) (sym (pieces-step xs (omega arith))))
+
+  -- the pieces of a list make it up again
+  flat : (n : ℕ) (s : List ℕ) → length s ≤ n → flatMap (λ (p : List ℕ). p) (pieces k s) ≡ s
+  unfolding cut flatMap
+  flat zero [] h = refl
+  flat (suc n) [] h = refl
+  flat zero (x ∷ s) h = absurd (omega arith)
+  flat (suc n) (x ∷ s) h =
+      ap (flatMap (λ (p : List ℕ). p)) (pieces-step (x ∷ s) (omega arith))
+      ∙ ap (λ (l : List ℕ). take k (x ∷ s) ++ l) (flat n (drop k (x ∷ s)) (omega (arith, shorter x s)))
+      ∙ take-append-drop k (x ∷ s)
+
+  pub pieces-flat : (s : List ℕ) → flatMap (λ (p : List ℕ). p) (pieces k s) ≡ s
+  pieces-flat s = flat (length s) s (omega arith)
+
+  -- at most n pieces are at most n times their width
+  pub few-pieces : (n : ℕ) (s : List ℕ) → length s ≤ n * k → length (pieces k s) ≤ n
+  unfolding cut
+  few-pieces zero [] h = omega arith
+  few-pieces (suc n) [] h = omega arith
+  few-pieces zero (x ∷ s) h = absurd (omega (arith, zero-mul k))
+  few-pieces (suc n) (x ∷ s) h =
+      let rest : length (drop k (x ∷ s)) ≤ n * k = simp length-drop (omega (arith, suc-mul n k)) in
+      omega (arith, ap length (pieces-step (x ∷ s) (omega arith)), few-pieces n (drop k (x ∷ s)) rest)
+
+  pub many-pieces : (n : ℕ) (s : List ℕ) → n * k < length s → n < length (pieces k s)
+  unfolding cut
+  many-pieces zero [] h = absurd (omega arith)
+  many-pieces (suc n) [] h = absurd (omega arith)
+  many-pieces zero (x ∷ s) h = omega (arith, ap length (pieces-step (x ∷ s) (omega arith)))
+  many-pieces (suc n) (x ∷ s) h =
+      let rest : n * k < length (drop k (x ∷ s)) = simp length-drop (omega (arith, suc-mul n k)) in
+      omega (arith, ap length (pieces-step (x ∷ s) (omega arith)), many-pieces n (drop k (x ∷ s)) rest)
+
+  pub pieces-count : (n : ℕ) (s : List ℕ) → leb (length (pieces k s)) n ≡ leb (length s) (n * k)
+  pieces-count n s = count (leb (length s) (n * k)) refl
+    where
+      count : (t : Bool) → leb (length s) (n * k) ≡ t → leb (length (pieces k s)) n ≡ t
+      count true e = le-leb (length (pieces k s)) n (few-pieces n s (leb-true (length s) (n * k) e))
+      count false e = lt-leb (length (pieces k s)) n (many-pieces n s (leb-false (length s) (n * k) e))
