@@ -10,8 +10,9 @@ use Rattle.packed.specs.Writing.{packedByte}
 use Rattle.amounts.specs.declared.Totals.{Totals}
 use Rattle.amounts.specs.Totals.{zeros}
 use Rattle.codes.specs.Chain.{_when_, _orelse_}
+use Rattle.document.specs.Limits.{documentBytes, mostDocuments}
 use Rattle.document.specs.Rules.{between}
-use Rattle.document.specs.Fields.{documentBytes, fieldsGood, amountsGood}
+use Rattle.document.specs.Fields.{fieldsGood, amountsGood}
 use Rattle.document.specs.Drawee.{draweeServed}
 use Rattle.document.specs.Amounts.{totalsOf}
 use Rattle.detail.specs.Groups.{shapeGood, oneOperation, operationOf, documents}
@@ -24,10 +25,6 @@ receivedCode own represented body =
     orelse 1 when not (every (fieldsGood (operationOf body) own) (documents body))
     orelse 3 when not (every (amountsGood (operationOf body) own) (documents body))
     orelse 6 when not (every (draweeServed (operationOf body) own represented) (documents body))
-
--- the most documents of a detail
-abbrev pub mostDocuments : ℕ
-mostDocuments = 200
 
 -- what a detail may be sent from: operation 30 or 40, and 1 to 200 whole documents
 unfoldable pub sendable : (operation : ℕ) (part : List ℕ) → Bool

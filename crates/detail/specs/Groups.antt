@@ -6,32 +6,10 @@ use lib.Dec.{eqb}
 use lib.ListN.{length, drop, getD}
 use Rattle.packed.specs.Every.{every}
 use Rattle.packed.specs.Pieces.{pieces}
+use Rattle.document.specs.Limits.{documentBytes}
 use Rattle.document.specs.Operation.{presented, returned}
 use Rattle.document.specs.Rules.{between}
-use Rattle.document.specs.Fields.{documentBytes}
-
--- the second byte of every body and of every group
-abbrev pub mark : ℕ
-mark = 0x51
-
--- free byte, mark, operation and count
-abbrev pub headBytes : ℕ
-headBytes = 4
-
--- the documents of a full group, and the groups of a body, at most
-abbrev pub fullCount : ℕ
-fullCount = 4
-
-abbrev pub mostGroups : ℕ
-mostGroups = 50
-
--- the bytes of a full group
-abbrev pub groupBytes : ℕ
-groupBytes = headBytes + fullCount * documentBytes
-
--- the bytes of the longest body
-abbrev pub longestBody : ℕ
-longestBody = mostGroups * groupBytes
+use Rattle.detail.specs.Limits.{mark, headBytes, fullCount, mostGroups, groupBytes}
 
 -- each group but the last is full, so the groups of a body are its pieces of that width
 unfoldable pub groups : List ℕ → List (List ℕ)

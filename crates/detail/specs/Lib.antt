@@ -1,4 +1,5 @@
 -- The meaning of a detail (01, 'Detail', 'Trays' and 'The check program').
+pub mod Limits
 pub mod Groups
 pub mod Codes
 pub mod Writing

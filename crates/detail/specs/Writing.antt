@@ -3,8 +3,9 @@ use Prim.Native.Nat.{ℕ, _*_, _/_}
 use mathlib.Core.List.{List, _∷_, flatMap}
 use lib.ListN.{length, drop}
 use Rattle.packed.specs.Pieces.{pieces}
-use Rattle.document.specs.Fields.{documentBytes}
-use Rattle.detail.specs.Groups.{mark, fullCount, groups, documents}
+use Rattle.document.specs.Limits.{documentBytes}
+use Rattle.detail.specs.Limits.{mark, fullCount}
+use Rattle.detail.specs.Groups.{groups, documents}
 
 -- a group of some documents, its free byte 00
 abbrev pub writtenGroup : (operation : ℕ) → List ℕ → List ℕ

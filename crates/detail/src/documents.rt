@@ -11,10 +11,11 @@ ghost use Prim.Native.Nat.{_%_, _≤_};
 ghost use lib.ListN.{length};
 ghost use Rattle.packed.specs.Every.{every};
 ghost use Rattle.packed.specs.Pieces.{pieces};
-ghost use Rattle.document.specs.Fields.{documentBytes};
+ghost use Rattle.document.specs.Limits.{documentBytes};
 ghost use Rattle.document.specs.Amounts.{Within};
 ghost use Rattle.document.specs.Found.{foundIn};
-ghost use Rattle.detail.specs.Groups.{groupGood, groups, documents, longestBody};
+ghost use Rattle.detail.specs.Limits.{longestBody};
+ghost use Rattle.detail.specs.Groups.{groupGood, groups, documents};
 
 // In the documents of a part.
 pub fn read_documents(part: &[u8], operation: u8, receiving: u16, represented: &[u16]) -> Found

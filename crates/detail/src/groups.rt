@@ -7,7 +7,8 @@ ghost use mathlib.Core.Path.{_≡_};
 ghost use Prim.Native.Nat.{_≤_};
 ghost use lib.ListN.{length};
 ghost use Rattle.packed.specs.Every.{every};
-ghost use Rattle.detail.specs.Groups.{longestBody, operationOf, groupGood, groups, oneOperation};
+ghost use Rattle.detail.specs.Limits.{longestBody};
+ghost use Rattle.detail.specs.Groups.{operationOf, groupGood, groups, oneOperation};
 
 // The second byte of every group.
 pub const MARK: u8 = 0x51;

@@ -7,6 +7,7 @@ use crate::groups::read_heads;
 use amounts::Totals;
 use codes::reply::Code;
 use document::BYTES;
+use document::MOST_DOCUMENTS;
 use packed::writing::packed_byte;
 ghost use mathlib.Core.Path.{_≡_};
 ghost use mathlib.Core.Bool.{not};
@@ -14,12 +15,9 @@ ghost use Rattle.packed.specs.Pieces.{pieces};
 ghost use Rattle.amounts.specs.Totals.{zeros};
 ghost use Rattle.codes.specs.Chain.{_when_, _orelse_};
 ghost use Rattle.codes.specs.Reply.{codeNumber};
-ghost use Rattle.document.specs.Fields.{documentBytes};
+ghost use Rattle.document.specs.Limits.{documentBytes};
 ghost use Rattle.detail.specs.Groups.{documents};
 ghost use Rattle.detail.specs.Codes.{receivedCode, presentedCode, sendable, accepted, ifAccepted};
-
-// The most documents of a detail.
-pub const MOST: usize = 200;
 
 pub struct Reading {
     pub code: Code,
@@ -83,7 +81,7 @@ pub fn sendable(operation: u8, part: &[u8]) -> bool
     let documents = part.len() / BYTES;
     ((operation == 30) | (operation == 40))
         & (part.len() % BYTES == 0)
-        & ((1 <= documents) & (documents <= MOST))
+        & ((1 <= documents) & (documents <= MOST_DOCUMENTS))
 }
 
 // A part that is to be sent. The presenter is not asked about drawees.

@@ -9,9 +9,8 @@ ghost use mathlib.Core.Path.{_≡_};
 ghost use Prim.Native.Nat.{_+_, _*_, _≤_};
 ghost use lib.ListN.{length};
 ghost use lib.Seq.{sets};
-ghost use Rattle.document.specs.Fields.{documentBytes};
-ghost use Rattle.detail.specs.Groups.{headBytes, fullCount};
-ghost use Rattle.detail.specs.Codes.{mostDocuments};
+ghost use Rattle.document.specs.Limits.{documentBytes, mostDocuments};
+ghost use Rattle.detail.specs.Limits.{headBytes, fullCount};
 ghost use Rattle.detail.specs.Writing.{writtenGroup, written};
 
 // The bytes of a full group's documents.

@@ -5,14 +5,7 @@ use mathlib.Core.List.{List, [], _∷_}
 use lib.Dec.{eqb, leb}
 use lib.ListN.{length}
 use Rattle.packed.specs.Every.{every}
-
--- the largest entity code
-abbrev pub largestEntity : ℕ
-largestEntity = 9999
-
--- how many entities a centre may represent
-abbrev pub mostRepresented : ℕ
-mostRepresented = 8
+use Rattle.document.specs.Limits.{largestEntity, mostRepresented}
 
 abbrev pub isEntity : ℕ → Bool
 isEntity e = leb e largestEntity

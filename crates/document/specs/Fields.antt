@@ -11,10 +11,6 @@ use Rattle.document.specs.Rules.{identification, dayAndMonth, province, 
 abbrev pub firstPosition : ℕ
 firstPosition = 5
 
--- the bytes of a document
-abbrev pub documentBytes : ℕ
-documentBytes = 51
-
 -- position, bytes, rule
 unfoldable pub documentFields : (operation receiving : ℕ) → List Field
 documentFields operation receiving =

@@ -1,4 +1,5 @@
 -- The meaning of one document (01, 'Detail').
+pub mod Limits
 pub mod Operation
 pub mod Rules
 pub mod Fields

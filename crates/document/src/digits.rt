@@ -5,7 +5,7 @@ ghost use mathlib.Core.Bool.{_&&_};
 ghost use lib.ListN.{length};
 ghost use Rattle.packed.specs.Part.{part};
 ghost use Rattle.packed.specs.Digits.{areDigits};
-ghost use Rattle.document.specs.Fields.{documentBytes};
+ghost use Rattle.document.specs.Limits.{documentBytes};
 
 // Whether all fields are digits, and whether both amounts are.
 pub struct AllDigits {

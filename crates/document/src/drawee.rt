@@ -4,7 +4,7 @@ use crate::entities::is_member;
 use packed::number::number2;
 ghost use mathlib.Core.Path.{_≡_};
 ghost use lib.ListN.{length};
-ghost use Rattle.document.specs.Fields.{documentBytes};
+ghost use Rattle.document.specs.Limits.{documentBytes};
 ghost use Rattle.document.specs.Drawee.{draweeServed};
 
 // Whether 06 has nothing against a document. The commonest drawee is own, and costs no search.

@@ -10,7 +10,7 @@ use packed::number::number;
 ghost use mathlib.Core.Path.{_≡_};
 ghost use lib.ListN.{length};
 ghost use Rattle.amounts.specs.Totals.{SumFits};
-ghost use Rattle.document.specs.Fields.{documentBytes};
+ghost use Rattle.document.specs.Limits.{documentBytes};
 ghost use Rattle.document.specs.Amounts.{Within};
 ghost use Rattle.document.specs.Found.{found, nothing, join};
 

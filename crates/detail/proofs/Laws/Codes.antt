@@ -11,12 +11,13 @@ use Rattle.packed.specs.Pieces.{pieces}
 use Rattle.packed.specs.Writing.{packedByte}
 use Rattle.codes.specs.Chain.{_when_, _orelse_}
 use Rattle.codes.proofs.Laws.Chain.{applies, passes, last}
+use Rattle.document.specs.Limits.{documentBytes, mostDocuments}
 use Rattle.document.specs.declared.found.Found.{Found}
 use Rattle.document.specs.Rules.{between}
-use Rattle.document.specs.Fields.{documentBytes, fieldsGood, amountsGood}
+use Rattle.document.specs.Fields.{fieldsGood, amountsGood}
 use Rattle.document.specs.Drawee.{draweeServed}
 use Rattle.detail.specs.Groups.{shapeGood, oneOperation, operationOf, documents}
-use Rattle.detail.specs.Codes.{receivedCode, presentedCode, mostDocuments, sendable}
+use Rattle.detail.specs.Codes.{receivedCode, presentedCode, sendable}
 
 -- what is known of a part that may be sent
 pub record Sendable (operation : ℕ) (part : List ℕ) : Type 0 where

@@ -10,9 +10,10 @@ use borrow.Author.Tests.{eqb-true, leb-true, ltb-true, ltb-false, le-leb, lt-leb
 use Rattle.packed.specs.Every.{every}
 use Rattle.packed.specs.Pieces.{cut, pieces}
 use Rattle.packed.proofs.Laws.Pieces.{pieces-step, pieces-count}
+use Rattle.document.specs.Limits.{documentBytes}
 use Rattle.document.specs.Rules.{between}
-use Rattle.document.specs.Fields.{documentBytes}
-use Rattle.detail.specs.Groups.{mark, headBytes, fullCount, mostGroups, groupBytes, longestBody, groups, isOperation, operationOf, countOf, groupGood, shapeGood}
+use Rattle.detail.specs.Limits.{mark, headBytes, fullCount, mostGroups, groupBytes, longestBody}
+use Rattle.detail.specs.Groups.{groups, isOperation, operationOf, countOf, groupGood, shapeGood}
 
 -- what is known of a good group
 pub record Good (g : List ℕ) : Type 0 where

@@ -8,8 +8,8 @@ use lib.ListN.{length, drop, length-append}
 use Rattle.packed.specs.Part.{part}
 use Rattle.packed.specs.Pieces.{pieces}
 use Rattle.packed.proofs.Laws.Pieces.{pieces-at, pieces-end}
-use Rattle.document.specs.Fields.{documentBytes}
-use Rattle.detail.specs.Groups.{fullCount}
+use Rattle.document.specs.Limits.{documentBytes}
+use Rattle.detail.specs.Limits.{fullCount}
 use Rattle.detail.specs.Writing.{writtenGroup, written}
 
 -- the bytes of a full group's documents

@@ -9,8 +9,9 @@ use Rattle.packed.specs.Number.{number}
 use Rattle.packed.specs.Digits.{areDigits}
 use Rattle.packed.specs.Field.{earning, tableDigits}
 use Rattle.packed.proofs.Laws.Field.{table-split, digitRuns, total, runs-join, adjoining}
+use Rattle.document.specs.Limits.{documentBytes}
 use Rattle.document.specs.Rules.{identification, dayAndMonth, province, entity, truncation, keyOrReason}
-use Rattle.document.specs.Fields.{firstPosition, documentBytes, documentFields, wrongField, wrongAmount, fieldsGood, valuesGood, amountsGood}
+use Rattle.document.specs.Fields.{firstPosition, documentFields, wrongField, wrongAmount, fieldsGood, valuesGood, amountsGood}
 
 listed : (a b c d e f g : Bool) → a && (b && (c && (d && (e && (f && (g && true)))))) ≡ a && b && c && d && e && f && g
 listed a b c d e f g = simp (and-assoc, and-true)

@@ -17,7 +17,8 @@ use Rattle.packed.proofs.Laws.Pieces.{pieces-at, pieces-end}
 use Rattle.document.specs.Amounts.{Within}
 use Rattle.document.specs.Found.{foundIn, join}
 use Rattle.document.proofs.Laws.Found.{nothing-join, found-end, found-more, within-zeros, within-plus, within-more, within-fits}
-use Rattle.detail.specs.Groups.{groupBytes, groupGood, groups, groupDocuments, documents}
+use Rattle.detail.specs.Limits.{groupBytes}
+use Rattle.detail.specs.Groups.{groupGood, groups, groupDocuments, documents}
 use Rattle.detail.proofs.Laws.Groups.{Good, good}
 use Rattle.detail.proofs.documents.read_groups.Statement.{statement}
 use Rattle.detail.proofs.documents.read_groups.Tie as tie

@@ -11,7 +11,8 @@ use Rattle.packed.specs.Every.{every}
 use Rattle.codes.specs.Reply.{codeNumber}
 use Rattle.document.specs.declared.found.Found.{Found}
 use Rattle.document.specs.Found.{foundIn}
-use Rattle.detail.specs.Groups.{longestBody, shapeGood, groups, groupGood, documents}
+use Rattle.detail.specs.Limits.{longestBody}
+use Rattle.detail.specs.Groups.{shapeGood, groups, groupGood, documents}
 use Rattle.detail.specs.Codes.{ifAccepted}
 use Rattle.detail.proofs.Laws.Groups.{shape-told}
 use Rattle.detail.proofs.Laws.Codes.{judged, misshapen, mixed, received}

@@ -6,8 +6,8 @@ use native.Mathlib.Omega.{arith}
 use borrow.Author.Needs.{needs}
 use Rattle.packed.specs.Pieces.{pieces}
 use Rattle.codes.specs.Reply.{codeNumber}
+use Rattle.document.specs.Limits.{documentBytes}
 use Rattle.document.specs.declared.found.Found.{Found}
-use Rattle.document.specs.Fields.{documentBytes}
 use Rattle.document.specs.Found.{foundIn}
 use Rattle.detail.specs.Codes.{ifAccepted}
 use Rattle.detail.proofs.Laws.Codes.{Sendable, sendable-part, judged, unsendable, presented}

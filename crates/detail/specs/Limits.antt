@@ -1,0 +1,26 @@
+-- 01, 'Detail': the limits of a body and its groups.
+use Prim.Native.Nat.{ℕ, _+_, _*_}
+use Rattle.document.specs.Limits.{documentBytes}
+
+-- the second byte of every body and of every group
+abbrev pub mark : ℕ
+mark = 0x51
+
+-- free byte, mark, operation and count
+abbrev pub headBytes : ℕ
+headBytes = 4
+
+-- the documents of a full group, and the groups of a body, at most
+abbrev pub fullCount : ℕ
+fullCount = 4
+
+abbrev pub mostGroups : ℕ
+mostGroups = 50
+
+-- the bytes of a full group
+abbrev pub groupBytes : ℕ
+groupBytes = headBytes + fullCount * documentBytes
+
+-- the bytes of the longest body
+abbrev pub longestBody : ℕ
+longestBody = mostGroups * groupBytes

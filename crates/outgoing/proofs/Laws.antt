@@ -1,0 +1,2 @@
+-- Laws of the ready documents.
+pub mod Outgoing

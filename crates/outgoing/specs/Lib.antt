@@ -1,0 +1,2 @@
+-- The meaning of the ready documents (01, 'Trays').
+pub mod Outgoing
