@@ -2,3 +2,4 @@
 pub mod Groups
 pub mod Codes
 pub mod Writing
+pub mod RoundTrip

@@ -1,15 +1,23 @@
--- Laws of a written detail: how it grows group by group, and both round trips.
+-- Laws of a written detail: how it grows group by group, and what its receiver reads of it.
 use mathlib.Core.Path.{_≡_, refl, ap, sym, _∙_}
-use mathlib.Core.List.{List, [], _∷_, _++_, flatMap}
-use Prim.Native.Nat.{ℕ, _+_, _*_, _≤_, _<_}
+use mathlib.Core.Bool.{Bool, true, false, _&&_, and-eq-true-iff}
+use mathlib.Core.List.{List, [], _∷_, _++_, map, flatMap, append-nil}
+use Prim.Native.Nat.{ℕ, zero, suc, _+_, _*_, _/_, _%_, _≤_, _<_}
 use native.Mathlib.Omega.{arith}
-use lib.Dec.{lit<}
-use lib.ListN.{length, drop, length-append}
+use lib.Dec.{eqb, leb, lit<}
+use lib.ListN.{length, take, drop, length-append, length-take, length-drop, length-map, drop-of-length-le}
+use lib.Seq.{length-take-le, take-all}
+use borrow.Author.Tests.{leb-true, leb-false, le-leb, eqb-true, eq-eqb}
 use Rattle.packed.specs.Part.{part}
-use Rattle.packed.specs.Pieces.{pieces}
-use Rattle.packed.proofs.Laws.Pieces.{pieces-at, pieces-end}
-use Rattle.document.specs.Limits.{documentBytes}
-use Rattle.detail.specs.Limits.{fullCount}
+use Rattle.packed.specs.Every.{every}
+use Rattle.packed.specs.Pieces.{cut, pieces}
+use Rattle.packed.proofs.Laws.Every.{every-map, every-then, every-always}
+use Rattle.packed.proofs.Laws.FlatMap.{flat-map}
+use Rattle.packed.proofs.Laws.Pieces.{pieces-at, pieces-end, pieces-step, pieces-one, pieces-first, pieces-within, few-pieces}
+use Rattle.document.specs.Limits.{documentBytes, mostDocuments}
+use Rattle.document.specs.Rules.{between}
+use Rattle.detail.specs.Limits.{fullCount, mostGroups, groupBytes}
+use Rattle.detail.specs.Groups.{groups, isOperation, operationOf, groupGood, shapeGood, oneOperation, groupDocuments, documents}
 use Rattle.detail.specs.Writing.{writtenGroup, written}
 
 -- the bytes of a full group's documents
@@ -31,3 +39,97 @@ module _ (operation at : ℕ) (p : List ℕ) where
 
   pub rest-length : at < length p → length (rest operation at p) ≡ 4 + length (part at fill p) + length (rest operation (at + fill) p)
   rest-length h = ap length (rest-step h) ∙ length-append (writtenGroup operation (part at fill p)) (rest operation (at + fill) p) ∙ omega arith
+
+-- what is left of a list once a group's documents are taken is shorter
+shorter : (x : ℕ) (s : List ℕ) → length (drop fill (x ∷ s)) ≤ length s
+shorter x s = simp length-drop (omega arith)
+
+module _ (operation : ℕ) where
+  -- a written detail is cut into the groups that it was made of
+  cut-again : (n : ℕ) (p : List ℕ) → length p ≤ n → pieces groupBytes (flatMap (writtenGroup operation) (pieces fill p)) ≡ map (writtenGroup operation) (pieces fill p)
+  unfolding cut flatMap
+  cut-again zero [] h = refl
+  cut-again zero (x ∷ s) h = absurd (omega arith)
+  cut-again (suc n) [] h = refl
+  cut-again (suc n) (x ∷ s) h =
+      let step = pieces-step fill (lit< tt) (x ∷ s) (omega arith) in
+      ap (λ (l : List (List ℕ)). pieces groupBytes (flatMap (writtenGroup operation) l)) step
+      ∙ go (leb fill (length (x ∷ s))) refl (cut-again n (drop fill (x ∷ s)) (omega (arith, shorter x s)))
+      ∙ ap (map (writtenGroup operation)) (sym step)
+    where
+      go : (t : Bool) → leb fill (length (x ∷ s)) ≡ t → pieces groupBytes (flatMap (writtenGroup operation) (pieces fill (drop fill (x ∷ s)))) ≡ map (writtenGroup operation) (pieces fill (drop fill (x ∷ s))) → pieces groupBytes (writtenGroup operation (take fill (x ∷ s)) ++ flatMap (writtenGroup operation) (pieces fill (drop fill (x ∷ s)))) ≡ writtenGroup operation (take fill (x ∷ s)) ∷ map (writtenGroup operation) (pieces fill (drop fill (x ∷ s)))
+      go true e again =
+          let first = writtenGroup operation (take fill (x ∷ s)) in
+          pieces-first groupBytes (lit< tt) first (flatMap (writtenGroup operation) (pieces fill (drop fill (x ∷ s)))) (omega (arith, length-take-le fill (x ∷ s) (leb-true fill (length (x ∷ s)) e)))
+          ∙ ap (λ (l : List (List ℕ)). first ∷ l) again
+      go false e again =
+          let short = leb-false fill (length (x ∷ s)) e in
+          let first = writtenGroup operation (x ∷ s) in
+          let all = take-all fill (x ∷ s) (omega arith) in
+          let none = drop-of-length-le (x ∷ s) {i = fill} (omega arith) in
+          (λ i. pieces groupBytes (writtenGroup operation (all i) ++ flatMap (writtenGroup operation) (pieces fill (none i))))
+          ∙ ap (pieces groupBytes) (append-nil first)
+          ∙ pieces-one groupBytes (lit< tt) first (omega arith) (omega arith)
+          ∙ sym (λ i. writtenGroup operation (all i) ∷ map (writtenGroup operation) (pieces fill (none i)))
+
+  pub groups-written : (p : List ℕ) → groups (written operation p) ≡ map (writtenGroup operation) (pieces fill p)
+  unfolding groups written
+  groups-written p = cut-again (length p) p (omega arith)
+
+  -- the documents of a written detail are those of the part, in order and to the byte
+  pub documents-written : (p : List ℕ) → documents (written operation p) ≡ pieces documentBytes p
+  unfolding documents
+  documents-written p =
+      ap (flatMap groupDocuments) (groups-written p)
+      ∙ flat-map groupDocuments (writtenGroup operation) (pieces fill p)
+      ∙ pieces-within documentBytes fullCount (lit< tt) (lit< tt) p
+
+  pub operation-written : (p : List ℕ) → 0 < length p → operationOf (written operation p) ≡ operation
+  unfolding written flatMap
+  operation-written p h = ap (λ (l : List (List ℕ)). operationOf (flatMap (writtenGroup operation) l)) (pieces-step fill (lit< tt) p h)
+
+  pub one-written : (p : List ℕ) → 0 < length p → oneOperation (written operation p) ≡ true
+  unfolding oneOperation
+  one-written p h =
+      ap (every (λ (g : List ℕ). eqb (operationOf g) (operationOf (written operation p)))) (groups-written p)
+      ∙ every-map (λ (g : List ℕ). eqb (operationOf g) (operationOf (written operation p))) (writtenGroup operation) (pieces fill p)
+      ∙ every-always (λ (ds : List ℕ). eqb operation (operationOf (written operation p))) (λ (ds : List ℕ). eq-eqb operation (operationOf (written operation p)) (sym (operation-written p h))) (pieces fill p)
+
+-- 1 to 4 whole documents
+abbrev wholeFew : List ℕ → Bool
+wholeFew ds = between 1 fullCount (length ds / documentBytes) && eqb (length ds % documentBytes) 0
+
+-- they are so in each piece of a part of whole documents
+few : (n : ℕ) (p : List ℕ) → length p ≤ n → length p % documentBytes ≡ 0 → every wholeFew (pieces fill p) ≡ true
+unfolding cut every
+few zero [] h w = refl
+few zero (x ∷ s) h w = absurd (omega arith)
+few (suc n) [] h w = refl
+few (suc n) (x ∷ s) h w =
+    let left : length (drop fill (x ∷ s)) % documentBytes ≡ 0 = simp length-drop (omega arith) in
+    ap (every wholeFew) (pieces-step fill (lit< tt) (x ∷ s) (omega arith))
+    ∙ λ i. piece (take fill (x ∷ s)) (simp length-take (omega arith)) (simp length-take (omega arith)) (simp length-take (omega arith)) i && few n (drop fill (x ∷ s)) (omega (arith, shorter x s)) left i
+  where
+    piece : (ds : List ℕ) → 0 < length ds → length ds ≤ fill → length ds % documentBytes ≡ 0 → wholeFew ds ≡ true
+    piece ds a b c =
+        let n = length ds / documentBytes in
+        rw (le-leb 1 n (omega arith), le-leb n fullCount (omega arith), eq-eqb (length ds % documentBytes) 0 c)
+
+whole-group : (operation : ℕ) (ds : List ℕ) → isOperation operation ≡ true → wholeFew ds ≡ true → groupGood (writtenGroup operation ds) ≡ true
+unfolding groupGood
+whole-group operation ds o e =
+    let n = length ds / documentBytes in
+    let both = and-eq-true-iff (between 1 fullCount n) (eqb (length ds % documentBytes) 0) .0 e in
+    let whole = eqb-true (length ds % documentBytes) 0 (both .1) in
+    rw (o, both .0) (eq-eqb (length (writtenGroup operation ds)) (4 + n * documentBytes) (omega arith))
+
+-- a part of 1 to 200 whole documents becomes a body of the right shape
+pub shape-written : (operation : ℕ) (p : List ℕ) → isOperation operation ≡ true → 0 < length p → length p ≤ mostDocuments * documentBytes → length p % documentBytes ≡ 0 → shapeGood (written operation p) ≡ true
+unfolding shapeGood
+shape-written operation p o some most whole =
+    let ps = pieces fill p in
+    let count = length-map ps (writtenGroup operation) in
+    let least : 1 ≤ length ps = omega (arith, ap length (pieces-step fill (lit< tt) p some)) in
+    let good = every-then wholeFew (λ (ds : List ℕ). groupGood (writtenGroup operation ds)) (λ (ds : List ℕ) (e : wholeFew ds ≡ true). whole-group operation ds o e) ps (few (length p) p (omega arith) whole) in
+    rw (groups-written operation p, count, le-leb 1 (length ps) least, le-leb (length ps) mostGroups (few-pieces fill (lit< tt) mostGroups p (omega arith)))
+    (every-map groupGood (writtenGroup operation) ps ∙ good)

@@ -1,7 +1,7 @@
 -- Laws of a test at every element.
 use mathlib.Core.Path.{_≡_, refl, ap, sym, _∙_}
 use mathlib.Core.Bool.{Bool, true, false, _&&_, and-assoc, and-true, and-eq-true-iff}
-use mathlib.Core.List.{List, [], _∷_, _++_}
+use mathlib.Core.List.{List, [], _∷_, _++_, map}
 use Rattle.packed.specs.Every.{every}
 
 module _ {ℓ} {A : Type ℓ} (p : A → Bool) where
@@ -34,3 +34,23 @@ pub every-both : {A : Type 0} (p q : A → Bool) (xs : List A) → every (λ (x 
 unfolding every
 every-both p q [] = refl
 every-both p q (x ∷ xs) = ap (λ (t : Bool). p x && q x && t) (every-both p q xs) ∙ regroup (p x) (q x) (every p xs) (every q xs)
+
+-- a test of what is made of each element
+pub every-map : {A B : Type 0} (p : B → Bool) (f : A → B) (xs : List A) → every p (map f xs) ≡ every (λ (x : A). p (f x)) xs
+unfolding every
+every-map p f [] = refl
+every-map p f (x ∷ xs) = ap (λ (t : Bool). p (f x) && t) (every-map p f xs)
+
+-- a test that follows from another
+pub every-then : {A : Type 0} (p q : A → Bool) → ((x : A) → p x ≡ true → q x ≡ true) → (xs : List A) → every p xs ≡ true → every q xs ≡ true
+unfolding every
+every-then p q h [] e = refl
+every-then p q h (x ∷ xs) e =
+    let both = and-eq-true-iff (p x) (every p xs) .0 e in
+    rw (h x (both .0), every-then p q h xs (both .1))
+
+-- a test that always holds
+pub every-always : {A : Type 0} (p : A → Bool) → ((x : A) → p x ≡ true) → (xs : List A) → every p xs ≡ true
+unfolding every
+every-always p h [] = refl
+every-always p h (x ∷ xs) = rw (h x, every-always p h xs)

@@ -1,13 +1,13 @@
 -- Laws of a list cut into pieces: the step, the split after whole pieces, their count, and that they make up the list again.
 use mathlib.Core.Path.{_≡_, refl, ap, sym, _∙_}
 use mathlib.Core.Bool.{Bool, true, false}
-use mathlib.Core.List.{List, [], _∷_, _++_, flatMap}
+use mathlib.Core.List.{List, [], _∷_, _++_, flatMap, append-nil}
 use Prim.Native.Nat.{ℕ, zero, suc, _+_, _*_, _≤_, _<_}
 use native.Mathlib.Nat.{zero-mul, suc-mul}
 use native.Mathlib.Omega.{arith}
 use lib.Dec.{leb}
 use lib.ListN.{length, take, drop, length-append, length-drop, take-append-drop, drop-of-length-le}
-use lib.Seq.{take-all, take-append-le, drop-append-le, drop-drop, take-at, drop-at}
+use lib.Seq.{take-all, length-take-le, take-append-le, drop-append-le, drop-drop, take-at, drop-at}
 use borrow.Author.Tests.{leb-true, leb-false, le-leb, lt-leb}
 use Rattle.packed.specs.Part.{part}
 use Rattle.packed.specs.Pieces.{cut, pieces}
@@ -104,3 +104,27 @@ module _ (k : ℕ) (wide : 0 < k) where
       count : (t : Bool) → leb (length s) (n * k) ≡ t → leb (length (pieces k s)) n ≡ t
       count true e = le-leb (length (pieces k s)) n (few-pieces n s (leb-true (length s) (n * k) e))
       count false e = lt-leb (length (pieces k s)) n (many-pieces n s (leb-false (length s) (n * k) e))
+
+-- pieces of pieces that are j times as wide are the pieces
+module _ (k j : ℕ) (wide : 0 < k) (many : 0 < j * k) where
+  within : (n : ℕ) (s : List ℕ) → length s ≤ n → flatMap (pieces k) (pieces (j * k) s) ≡ pieces k s
+  unfolding cut flatMap
+  within zero [] h = refl
+  within zero (x ∷ s) h = absurd (omega arith)
+  within (suc n) [] h = refl
+  within (suc n) (x ∷ s) h =
+      ap (flatMap (pieces k)) (pieces-step (j * k) many (x ∷ s) (omega arith))
+      ∙ go (leb (j * k) (length (x ∷ s))) refl (within n (drop (j * k) (x ∷ s)) (omega (arith, shorter (j * k) many x s)))
+    where
+      go : (t : Bool) → leb (j * k) (length (x ∷ s)) ≡ t → flatMap (pieces k) (pieces (j * k) (drop (j * k) (x ∷ s))) ≡ pieces k (drop (j * k) (x ∷ s)) → pieces k (take (j * k) (x ∷ s)) ++ flatMap (pieces k) (pieces (j * k) (drop (j * k) (x ∷ s))) ≡ pieces k (x ∷ s)
+      go true e rest =
+          let fits = leb-true (j * k) (length (x ∷ s)) e in
+          ap (λ (l : List (List ℕ)). pieces k (take (j * k) (x ∷ s)) ++ l) rest
+          ∙ sym (pieces-append k wide j (take (j * k) (x ∷ s)) (drop (j * k) (x ∷ s)) (length-take-le (j * k) (x ∷ s) fits))
+          ∙ ap (pieces k) (take-append-drop (j * k) (x ∷ s))
+      go false e rest =
+          let short = leb-false (j * k) (length (x ∷ s)) e in
+          rw (take-all (j * k) (x ∷ s) (omega arith), drop-of-length-le (x ∷ s) {i = j * k} (omega arith)) (append-nil (pieces k (x ∷ s)))
+
+  pub pieces-within : (s : List ℕ) → flatMap (pieces k) (pieces (j * k) s) ≡ pieces k s
+  pieces-within s = within (length s) s (omega arith)

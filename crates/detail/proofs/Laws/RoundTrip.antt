@@ -1,0 +1,116 @@
+-- Both round trips of a detail: what is written from a part reads as that part, and an accepted body that is read and written again is its
+-- own bytes with the free bytes 00.
+use mathlib.Core.Path.{_≡_, refl, ap, sym, _∙_}
+use mathlib.Core.Bool.{Bool, true, false, _&&_, _||_, and-eq-true-iff}
+use mathlib.Core.List.{List, [], _∷_, _++_, map, flatMap, append-nil}
+use Prim.Native.Nat.{ℕ, zero, suc, _+_, _*_, _/_, _≤_, _<_}
+use native.Mathlib.Omega.{arith}
+use lib.Dec.{eqb, leb, lit<}
+use lib.ListN.{length, take, drop, length-drop, drop-of-length-le}
+use lib.Seq.{take-all, length-take-le}
+use borrow.Author.Tests.{leb-true, leb-false, eqb-true}
+use Rattle.packed.specs.Every.{every}
+use Rattle.packed.specs.Pieces.{cut, pieces}
+use Rattle.packed.specs.Writing.{packedByte}
+use Rattle.packed.proofs.Laws.Every.{every-cons, every-both}
+use Rattle.packed.proofs.Laws.FlatMap.{flat-map, flat-flat, flat-same}
+use Rattle.packed.proofs.Laws.Pieces.{pieces-step, pieces-one, pieces-first, pieces-flat}
+use Rattle.document.specs.Limits.{documentBytes}
+use Rattle.document.specs.Rules.{between}
+use Rattle.document.specs.Fields.{fieldsGood, amountsGood}
+use Rattle.document.specs.Drawee.{draweeServed}
+use Rattle.detail.specs.Limits.{headBytes, mostGroups, groupBytes}
+use Rattle.detail.specs.Groups.{groups, isOperation, operationOf, groupGood, shapeGood, oneOperation, groupDocuments, documents}
+use Rattle.detail.specs.Codes.{receivedCode, sendable}
+use Rattle.detail.specs.Writing.{writtenGroup, written, partOf, cleared}
+use Rattle.detail.proofs.Laws.Groups.{Good, good}
+use Rattle.detail.proofs.Laws.Codes.{Sendable, sendable-part, judged, received}
+use Rattle.detail.proofs.Laws.Writing.{fill, documents-written, operation-written, one-written, shape-written}
+
+-- the byte of operation 30 or 40 is one of the two of a group
+operation-byte : (operation : ℕ) → eqb operation 30 || eqb operation 40 ≡ true → isOperation (packedByte operation) ≡ true
+unfolding packedByte
+operation-byte operation e = go (eqb operation 30) refl e
+  where
+    go : (t : Bool) → eqb operation 30 ≡ t → t || eqb operation 40 ≡ true → isOperation (packedByte operation) ≡ true
+    go true h e = rw (eqb-true operation 30 h)
+    go false h e = rw (eqb-true operation 40 e)
+
+-- a part that may be sent is judged by its receiver on the very documents of the part
+pub written-then-read : (own operation : ℕ) (represented part : List ℕ) → sendable operation part ≡ true → receivedCode own represented (written (packedByte operation) part) ≡ judged (every (fieldsGood (packedByte operation) own) (pieces documentBytes part)) (every (amountsGood (packedByte operation) own) (pieces documentBytes part)) (every (draweeServed (packedByte operation) own represented) (pieces documentBytes part))
+written-then-read own operation represented part e =
+    let fit = sendable-part operation part e in
+    let o = packedByte operation in
+    let some : 0 < length part = omega arith in
+    received own represented (written o part) (shape-written o part (operation-byte operation (fit .kind)) some (omega arith) (fit .whole)) (one-written o part some)
+    ∙ λ i. judged (every (fieldsGood (operation-written o part some i) own) (documents-written o part i)) (every (amountsGood (operation-written o part some i) own) (documents-written o part i)) (every (draweeServed (operation-written o part some i) own represented) (documents-written o part i))
+
+-- the part of a body is its groups without their heads
+heads-dropped : (gs : List (List ℕ)) → flatMap (λ (d : List ℕ). d) (flatMap groupDocuments gs) ≡ flatMap (drop headBytes) gs
+unfolding flatMap
+heads-dropped gs = flat-flat (λ (d : List ℕ). d) groupDocuments gs ∙ all gs
+  where
+    all : (gs : List (List ℕ)) → flatMap (λ (g : List ℕ). flatMap (λ (d : List ℕ). d) (groupDocuments g)) gs ≡ flatMap (drop headBytes) gs
+    all [] = refl
+    all (g ∷ gs) = λ i. pieces-flat documentBytes (lit< tt) (drop headBytes g) i ++ all gs i
+
+-- and is cut into the same pieces again
+shorter : (x : ℕ) (s : List ℕ) → length (drop groupBytes (x ∷ s)) ≤ length s
+shorter x s = simp length-drop (omega arith)
+
+cut-again : (n : ℕ) (body : List ℕ) → length body ≤ n → every groupGood (pieces groupBytes body) ≡ true → pieces fill (flatMap (drop headBytes) (pieces groupBytes body)) ≡ map (drop headBytes) (pieces groupBytes body)
+unfolding cut flatMap
+cut-again zero [] h e = refl
+cut-again zero (x ∷ s) h e = absurd (omega arith)
+cut-again (suc n) [] h e = refl
+cut-again (suc n) (x ∷ s) h e =
+    let step = pieces-step groupBytes (lit< tt) (x ∷ s) (omega arith) in
+    let both = every-cons groupGood (take groupBytes (x ∷ s)) (pieces groupBytes (drop groupBytes (x ∷ s))) (sym (ap (every groupGood) step) ∙ e) in
+    ap (λ (l : List (List ℕ)). pieces fill (flatMap (drop headBytes) l)) step
+    ∙ go (leb groupBytes (length (x ∷ s))) refl (good (take groupBytes (x ∷ s)) (both .0)) (cut-again n (drop groupBytes (x ∷ s)) (omega (arith, shorter x s)) (both .1))
+    ∙ ap (map (drop headBytes)) (sym step)
+  where
+    go : (t : Bool) → leb groupBytes (length (x ∷ s)) ≡ t → Good (take groupBytes (x ∷ s)) → pieces fill (flatMap (drop headBytes) (pieces groupBytes (drop groupBytes (x ∷ s)))) ≡ map (drop headBytes) (pieces groupBytes (drop groupBytes (x ∷ s))) → pieces fill (drop headBytes (take groupBytes (x ∷ s)) ++ flatMap (drop headBytes) (pieces groupBytes (drop groupBytes (x ∷ s)))) ≡ drop headBytes (take groupBytes (x ∷ s)) ∷ map (drop headBytes) (pieces groupBytes (drop groupBytes (x ∷ s)))
+    go true e g again =
+        let first = drop headBytes (take groupBytes (x ∷ s)) in
+        let full = length-take-le groupBytes (x ∷ s) (leb-true groupBytes (length (x ∷ s)) e) in
+        pieces-first fill (lit< tt) first (flatMap (drop headBytes) (pieces groupBytes (drop groupBytes (x ∷ s)))) (length-drop headBytes (take groupBytes (x ∷ s)) ∙ omega arith)
+        ∙ ap (λ (l : List (List ℕ)). first ∷ l) again
+    go false e g again =
+        let short = leb-false groupBytes (length (x ∷ s)) e in
+        let all = take-all groupBytes (x ∷ s) (omega arith) in
+        let none = drop-of-length-le (x ∷ s) {i = groupBytes} (omega arith) in
+        let first = drop headBytes (take groupBytes (x ∷ s)) in
+        let size = length-drop headBytes (take groupBytes (x ∷ s)) in
+        let whole = ap length all in
+        (λ i. pieces fill (first ++ flatMap (drop headBytes) (pieces groupBytes (none i))))
+        ∙ ap (pieces fill) (append-nil first)
+        ∙ pieces-one fill (lit< tt) first (omega arith) (omega arith)
+        ∙ sym (λ i. first ∷ map (drop headBytes) (pieces groupBytes (none i)))
+
+-- a good group, written again, is itself with a free byte of 00
+again : (operation : ℕ) (g : List ℕ) → Good g → operationOf g ≡ operation → writtenGroup operation (drop headBytes g) ≡ 0x00 ∷ drop 1 g
+again operation [] h e = absurd (omega arith)
+again operation (x ∷ []) h e = absurd (omega arith)
+again operation (x ∷ a ∷ []) h e = absurd (omega arith)
+again operation (x ∷ a ∷ b ∷ []) h e = absurd (omega arith)
+again operation (x ∷ a ∷ b ∷ n ∷ ds) h e =
+    let count : length ds / documentBytes ≡ n = omega arith in
+    λ i. 0x00 ∷ sym (h .marked) i ∷ sym e i ∷ count i ∷ ds
+
+pub read-then-written : (body : List ℕ) → shapeGood body ≡ true → oneOperation body ≡ true → written (operationOf body) (partOf body) ≡ cleared body
+unfolding shapeGood groups oneOperation documents written partOf cleared
+read-then-written body shape one =
+    let gs = groups body in
+    let operation = operationOf body in
+    let same : List ℕ → Bool = λ (g : List ℕ). eqb (operationOf g) operation in
+    let all = and-eq-true-iff (between 1 mostGroups (length gs)) (every groupGood gs) .0 shape .1 in
+    ap (λ (p : List ℕ). flatMap (writtenGroup operation) (pieces fill p)) (heads-dropped gs)
+    ∙ ap (flatMap (writtenGroup operation)) (cut-again (length body) body (omega arith) all)
+    ∙ flat-map (writtenGroup operation) (drop headBytes) gs
+    ∙ flat-same (λ (g : List ℕ). groupGood g && same g) (λ (g : List ℕ). writtenGroup operation (drop headBytes g)) (λ (g : List ℕ). 0x00 ∷ drop 1 g) (λ (g : List ℕ) (e : groupGood g && same g ≡ true). kept g e) gs (every-both groupGood same gs ∙ (λ i. all i && one i))
+  where
+    kept : (g : List ℕ) → groupGood g && eqb (operationOf g) (operationOf body) ≡ true → writtenGroup (operationOf body) (drop headBytes g) ≡ 0x00 ∷ drop 1 g
+    kept g e =
+        let both = and-eq-true-iff (groupGood g) (eqb (operationOf g) (operationOf body)) .0 e in
+        again (operationOf body) g (good g (both .0)) (eqb-true (operationOf g) (operationOf body) (both .1))
