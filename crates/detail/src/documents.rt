@@ -25,11 +25,11 @@ pub fn read_documents(part: &[u8], operation: u8, receiving: u16, represented: &
     ensures bound { λ r. ⌜ Within (length (now (part .entry))) (r .totals) ⌝ }
 {
     let mut found = Found::nothing();
-    let mut at: usize = 0;
-    while at < part.len() {
-        let end = at + BYTES;
+    let mut end = BYTES;
+    while end <= part.len() {
+        let at = end - BYTES;
         found = found.join(read(&part[at..end], operation, receiving, represented));
-        at = end;
+        end += BYTES;
     }
     found
 }

@@ -21,9 +21,9 @@ pub extern "C" fn line_check_detail(body: &[u8], own: u16, represented: &[u16]) 
     ensures { λ r. ⌜ r ≡ checked own (now (represented .entry)) (now (body .entry)) ⌝ }
 {
     if entities_good(own, represented) {
-        let reading = read_detail(body, own, represented);
-        let code = reading.code;
-        let totals = reading.totals;
+        let verdict = read_detail(body, own, represented);
+        let code = verdict.code;
+        let totals = verdict.totals;
         return Checked {
             code: code_number(code),
             documents: totals.documents.0,

@@ -5,4 +5,5 @@ pub mod documents;
 pub mod exported;
 pub mod groups;
 pub mod reading;
+pub mod verdict;
 pub mod writing;

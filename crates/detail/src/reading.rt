@@ -1,61 +1,25 @@
-// A detail read whole, as its receiver and as its presenter read it: a code, and the totals where the code accepts.
+// A detail read whole, as its receiver and as its presenter read it.
 use crate::documents::read_documents;
 use crate::documents::read_groups;
 use crate::groups::LONGEST;
 use crate::groups::operation_of;
 use crate::groups::read_heads;
-use amounts::Totals;
+use crate::verdict::Verdict;
+use crate::verdict::judge;
+use crate::verdict::refused;
 use codes::reply::Code;
 use document::BYTES;
 use document::MOST_DOCUMENTS;
 use packed::writing::packed_byte;
 ghost use mathlib.Core.Path.{_≡_};
-ghost use mathlib.Core.Bool.{not};
 ghost use Rattle.packed.specs.Pieces.{pieces};
-ghost use Rattle.amounts.specs.Totals.{zeros};
-ghost use Rattle.codes.specs.Chain.{_when_, _orelse_};
 ghost use Rattle.codes.specs.Reply.{codeNumber};
 ghost use Rattle.document.specs.Limits.{documentBytes};
 ghost use Rattle.detail.specs.Groups.{documents};
-ghost use Rattle.detail.specs.Codes.{receivedCode, presentedCode, sendable, accepted, ifAccepted};
-
-pub struct Reading {
-    pub code: Code,
-    pub totals: Totals,
-}
-
-// A reading that ends with a code other than 00.
-fn refused(code: Code) -> Reading
-    ensures { λ r. ⌜ (r .code ≡ code) × (r .totals ≡ zeros) ⌝ }
-{
-    Reading {
-        code: code,
-        totals: Totals::zeros(),
-    }
-}
-
-// The first of 01, 03 and 06 that has something against the documents.
-fn judge(fields: bool, amounts: bool, served: bool, totals: Totals) -> Reading
-    ensures code { λ r. ⌜ codeNumber (r .code) ≡ (1 when not fields orelse 3 when not amounts orelse 6 when not served) ⌝ }
-    ensures totals { λ r. ⌜ r .totals ≡ ifAccepted (codeNumber (r .code)) totals ⌝ }
-{
-    if fields {
-        if amounts {
-            if served {
-                return Reading {
-                    code: Code::Accepted,
-                    totals: totals,
-                };
-            }
-            return refused(Code::WrongDrawee);
-        }
-        return refused(Code::WrongAmount);
-    }
-    refused(Code::WrongField)
-}
+ghost use Rattle.detail.specs.Codes.{receivedCode, presentedCode, sendable, accepted};
 
 // A received body. Its documents are passed over once, after its heads.
-pub fn read_detail(body: &[u8], own: u16, represented: &[u16]) -> Reading
+pub fn read_detail(body: &[u8], own: u16, represented: &[u16]) -> Verdict
     ensures code { λ r. ⌜ codeNumber (r .code) ≡ receivedCode own (now (represented .entry)) (now (body .entry)) ⌝ }
     ensures totals { λ r. ⌜ r .totals ≡ accepted (codeNumber (r .code)) (documents (now (body .entry))) ⌝ }
 {
@@ -85,7 +49,7 @@ pub fn sendable(operation: u8, part: &[u8]) -> bool
 }
 
 // A part that is to be sent. The presenter is not asked about drawees.
-pub fn read_part(operation: u8, part: &[u8], partner: u16) -> Reading
+pub fn read_part(operation: u8, part: &[u8], partner: u16) -> Verdict
     ensures code { λ r. ⌜ codeNumber (r .code) ≡ presentedCode operation partner (now (part .entry)) ⌝ }
     ensures totals { λ r. ⌜ r .totals ≡ accepted (codeNumber (r .code)) (pieces documentBytes (now (part .entry))) ⌝ }
 {

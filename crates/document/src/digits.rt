@@ -1,5 +1,6 @@
 // The digits of a document: those of its fields and those of its amounts, which earn different codes.
 use packed::digits::are_digits;
+use packed::digits::is_digits;
 ghost use mathlib.Core.Path.{_≡_};
 ghost use mathlib.Core.Bool.{_&&_};
 ghost use lib.ListN.{length};
@@ -13,14 +14,32 @@ pub struct AllDigits {
     pub amounts: bool,
 }
 
-// Amounts lie between fields. One sweep over everything but the key serves a good document; only after a fault is it asked
-// where the fault lies.
+// Whether everything but the key is digits: 47 bytes as three runs of 16, of which two share a byte. One loop over runs of
+// this width, without a branch, is what a compiler makes the fastest code of.
+fn sweep(d: &[u8]) -> bool
+    requires { ⌜ length (now d) ≡ documentBytes ⌝ }
+    ensures { λ r. ⌜ r ≡ areDigits (part 0 47 (now (d .entry))) ⌝ }
+{
+    let mut first = true;
+    let mut second = true;
+    let mut third = true;
+    let mut i: usize = 0;
+    while i < 16 {
+        first = first & is_digits(d[i]);
+        second = second & is_digits(d[16 + i]);
+        third = third & is_digits(d[31 + i]);
+        i += 1;
+    }
+    first & second & third
+}
+
+// Amounts lie between fields. One sweep serves a good document; only after a fault is it asked where the fault lies.
 pub fn all_digits(d: &[u8]) -> AllDigits
     requires { ⌜ length (now d) ≡ documentBytes ⌝ }
     ensures fields { λ r. ⌜ r .fields ≡ (areDigits (part 0 25 (now (d .entry))) && areDigits (part 31 12 (now (d .entry)))) ⌝ }
     ensures amounts { λ r. ⌜ r .amounts ≡ (areDigits (part 25 6 (now (d .entry))) && areDigits (part 43 4 (now (d .entry)))) ⌝ }
 {
-    if are_digits(d, 0, 47) {
+    if sweep(d) {
         return AllDigits {
             fields: true,
             amounts: true,

@@ -6,15 +6,18 @@ use Rattle.packed.proofs.Laws.Digits.{digits-inside}
 use Rattle.document.proofs.digits.all_digits.Statement.{statement}
 use Rattle.document.proofs.digits.all_digits.Tie as tie
 
-are-digits-requires : tie.Need-are-digits-requires
-are-digits-requires c κs = search needs
+sweep-requires : tie.Need-sweep-requires
+sweep-requires c κs = search needs
 
 returns : tie.Need-returns
 returns c =
     let d = c .before .before .before .args .d .now in
-    let all = sym (c .before .are-digits .ensures) ∙ c .if1 .taken in
+    let all = sym (c .before .sweep .ensures) ∙ c .if1 .taken in
     let inside = digits-inside 0 47 in
     (rw (inside 0 25 d (omega arith) all, inside 31 12 d (omega arith) all), rw (inside 25 6 d (omega arith) all, inside 43 4 d (omega arith) all))
+
+are-digits-requires : tie.Need-are-digits-requires
+are-digits-requires c κs = search needs
 
 are-digits-requires-2 : tie.Need-are-digits-requires-2
 are-digits-requires-2 c κs = search needs
@@ -25,9 +28,6 @@ are-digits-requires-3 c κs = search needs
 are-digits-requires-4 : tie.Need-are-digits-requires-4
 are-digits-requires-4 c κs = search needs
 
-are-digits-requires-5 : tie.Need-are-digits-requires-5
-are-digits-requires-5 c κs = search needs
-
 returns-2 : tie.Need-returns-2
 returns-2 c = (cc, cc)
 
@@ -35,10 +35,10 @@ pub all-digits-spec : {M : Type 1} → statement M
 all-digits-spec =
     tie.close
     (tie.spec
-    are-digits-requires
+    sweep-requires
     returns
+    are-digits-requires
     are-digits-requires-2
     are-digits-requires-3
     are-digits-requires-4
-    are-digits-requires-5
     returns-2)

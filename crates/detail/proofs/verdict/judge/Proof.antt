@@ -2,8 +2,8 @@
 use mathlib.Core.Path.{refl}
 use borrow.Author.Needs.{needs}
 use Rattle.codes.specs.Chain.{_when_, _orelse_}
-use Rattle.detail.proofs.reading.judge.Statement.{statement}
-use Rattle.detail.proofs.reading.judge.Tie as tie
+use Rattle.detail.proofs.verdict.judge.Statement.{statement}
+use Rattle.detail.proofs.verdict.judge.Tie as tie
 
 returns : tie.Need-returns
 unfolding _when_ _orelse_
