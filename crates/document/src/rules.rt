@@ -20,12 +20,11 @@ const MONTH_DAYS: [u16; 13] = [0, 31, 29, 31, 30, 31, 30, 31, 31, 30, 31, 30, 31
 fn day_and_month(v: u16) -> bool
     ensures { λ r. ⌜ r ≡ dayAndMonth v ⌝ }
 {
-    let days = MONTH_DAYS;
     let month = (v % 100) as usize;
     if 12 < month {
         return false;
     }
-    (1 <= v / 100) & (v / 100 <= days[month])
+    (1 <= v / 100) & (v / 100 <= MONTH_DAYS[month])
 }
 
 fn province(v: u64) -> bool
