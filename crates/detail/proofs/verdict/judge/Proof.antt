@@ -7,7 +7,7 @@ use Rattle.detail.proofs.verdict.judge.Tie as tie
 
 returns : tie.Need-returns
 unfolding _when_ _orelse_
-returns c = (rw (c .if3 .taken, c .before .if2 .taken, c .before .before .if1 .taken), refl)
+returns c = (simp (c .if3 .taken, c .before .if2 .taken, c .before .before .if1 .taken), refl)
 
 refused-requires : tie.Need-refused-requires
 refused-requires c κs = search needs
@@ -16,7 +16,7 @@ returns-2 : tie.Need-returns-2
 unfolding _when_ _orelse_
 returns-2 c =
     let told = c .refused .ensures in
-    (rw (told .0, c .before .if3 .left, c .before .before .if2 .taken, c .before .before .before .if1 .taken), rw (told .0, told .1))
+    (simp (told .0, c .before .if3 .left, c .before .before .if2 .taken, c .before .before .before .if1 .taken), rw (told .0, told .1))
 
 refused-requires-2 : tie.Need-refused-requires-2
 refused-requires-2 c κs = search needs
@@ -25,7 +25,7 @@ returns-3 : tie.Need-returns-3
 unfolding _when_ _orelse_
 returns-3 c =
     let told = c .refused2 .ensures in
-    (rw (told .0, c .before .if2 .left, c .before .before .if1 .taken), rw (told .0, told .1))
+    (simp (told .0, c .before .if2 .left, c .before .before .if1 .taken), rw (told .0, told .1))
 
 refused-requires-3 : tie.Need-refused-requires-3
 refused-requires-3 c κs = search needs
@@ -34,7 +34,7 @@ returns-4 : tie.Need-returns-4
 unfolding _when_ _orelse_
 returns-4 c =
     let told = c .refused3 .ensures in
-    (rw (told .0, c .before .if1 .left), rw (told .0, told .1))
+    (simp (told .0, c .before .if1 .left), rw (told .0, told .1))
 
 pub judge-spec : {M : Type 1} → statement M
 judge-spec =
