@@ -19,10 +19,10 @@ pub const HEAD: usize = 4;
 // The documents of a full group, and its bytes.
 pub const FULL: usize = 4;
 
-pub const GROUP: usize = 208;
+pub const GROUP: usize = HEAD + FULL * BYTES;
 
 // The longest body: 50 full groups.
-pub const LONGEST: usize = 10400;
+pub const LONGEST: usize = 50 * GROUP;
 
 // The operation byte, 0 where there is none.
 pub fn operation_of(g: &[u8]) -> u8

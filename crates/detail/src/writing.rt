@@ -14,7 +14,7 @@ ghost use Rattle.detail.specs.Limits.{headBytes, fullCount};
 ghost use Rattle.detail.specs.Writing.{writtenGroup, written};
 
 // The bytes of a full group's documents.
-const FILL: usize = 204;
+const FILL: usize = FULL * BYTES;
 
 // Writes one group of at most four documents at `to`; every other byte keeps its value.
 fn write_group(out: &mut [u8], to: usize, operation: u8, documents: &[u8])

@@ -12,7 +12,6 @@ use Rattle.packed.specs.Writing.{packedByte}
 use Rattle.codes.specs.Chain.{_when_, _orelse_}
 use Rattle.codes.proofs.Laws.Chain.{applies, passes, last}
 use Rattle.document.specs.Limits.{documentBytes, mostDocuments}
-use Rattle.document.specs.declared.found.Found.{Found}
 use Rattle.document.specs.Rules.{between}
 use Rattle.document.specs.Fields.{fieldsGood, amountsGood}
 use Rattle.document.specs.Drawee.{draweeServed}

@@ -3,7 +3,7 @@
 use mathlib.Core.Path.{_≡_, refl, ap, sym, _∙_}
 use mathlib.Core.Bool.{Bool, true, false, _&&_, _||_, and-eq-true-iff}
 use mathlib.Core.List.{List, [], _∷_, _++_, map, flatMap, append-nil}
-use Prim.Native.Nat.{ℕ, zero, suc, _+_, _*_, _/_, _≤_, _<_}
+use Prim.Native.Nat.{ℕ, zero, suc, _+_, _/_, _≤_, _<_}
 use native.Mathlib.Omega.{arith}
 use lib.Dec.{eqb, leb, lit<}
 use lib.ListN.{length, take, drop, length-drop, drop-of-length-le}
@@ -24,7 +24,7 @@ use Rattle.detail.specs.Groups.{groups, isOperation, operationOf, groupG
 use Rattle.detail.specs.Codes.{receivedCode, sendable}
 use Rattle.detail.specs.Writing.{writtenGroup, written, partOf, cleared}
 use Rattle.detail.proofs.Laws.Groups.{Good, good}
-use Rattle.detail.proofs.Laws.Codes.{Sendable, sendable-part, judged, received}
+use Rattle.detail.proofs.Laws.Codes.{sendable-part, judged, received}
 use Rattle.detail.proofs.Laws.Writing.{fill, documents-written, operation-written, one-written, shape-written}
 
 -- the byte of operation 30 or 40 is one of the two of a group

@@ -1,8 +1,8 @@
 -- Laws of what is found: joining, and how the findings of a list grow.
 use mathlib.Core.Path.{_≡_, refl, ap, sym, _∙_}
-use mathlib.Core.Bool.{Bool, and-assoc, and-true}
+use mathlib.Core.Bool.{and-assoc, and-true}
 use mathlib.Core.List.{List, [], _∷_, _++_}
-use Prim.Native.Nat.{ℕ, _+_, _^_, _≤_, _<_}
+use Prim.Native.Nat.{ℕ, _+_, _≤_}
 use native.Mathlib.Omega.{arith}
 use Rattle.packed.specs.Every.{every}
 use Rattle.packed.proofs.Laws.Every.{every-append}

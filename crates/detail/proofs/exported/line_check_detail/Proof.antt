@@ -1,10 +1,9 @@
 -- `line_check_detail`: entities outside the limits end the chain; else the reading's code and totals are handed on as numbers.
-use mathlib.Core.Path.{_≡_, ap, sym, _∙_}
+use mathlib.Core.Path.{ap, sym, _∙_}
 use mathlib.Core.Bool.{not}
 use Prim.Native.Nat.{ℕ}
 use borrow.Author.Needs.{needs}
 use lib.Dec.{lit<}
-use Rattle.amounts.specs.declared.Totals.{Totals}
 use Rattle.codes.proofs.Laws.Chain.{applies, passes}
 use Rattle.document.specs.Entities.{entitiesGood}
 use Rattle.detail.specs.Groups.{documents}

@@ -10,7 +10,7 @@ use Rattle.document.specs.Limits.{documentBytes}
 use Rattle.document.specs.declared.found.Found.{Found}
 use Rattle.document.specs.Found.{foundIn}
 use Rattle.detail.specs.Codes.{ifAccepted}
-use Rattle.detail.proofs.Laws.Codes.{Sendable, sendable-part, judged, unsendable, presented}
+use Rattle.detail.proofs.Laws.Codes.{sendable-part, judged, unsendable, presented}
 use Rattle.detail.proofs.reading.read_part.Statement.{statement}
 use Rattle.detail.proofs.reading.read_part.Tie as tie
 

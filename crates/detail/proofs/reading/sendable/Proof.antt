@@ -1,6 +1,5 @@
 -- `sendable` is the definition's own test.
 use mathlib.Core.Path.{refl}
-use borrow.Author.Needs.{needs}
 use Rattle.detail.specs.Codes.{sendable}
 use Rattle.detail.proofs.reading.sendable.Statement.{statement}
 use Rattle.detail.proofs.reading.sendable.Tie as tie

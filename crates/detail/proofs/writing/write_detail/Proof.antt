@@ -1,11 +1,9 @@
 -- `write_detail` writes group by group. The invariant: with what is still to come, the slice is what it is to be, and that ends where the
 -- written body ends. The measure is what is left of the part.
 use mathlib.Core.Path.{_≡_, refl, ap, sym, _∙_}
-use mathlib.Core.List.{List}
-use Prim.Native.Nat.{ℕ, _+_, _-_, _≤_, _<_}
+use Prim.Native.Nat.{_+_, _-_, _≤_}
 use native.Mathlib.Nat.{zero-add}
 use native.Mathlib.Omega.{arith}
-use borrow.Author.Needs.{needs}
 use lib.ListN.{length, length-take}
 use lib.Seq.{sets}
 use Rattle.packed.specs.Part.{part}

@@ -1,11 +1,10 @@
 -- `day_and_month`: past the table no month has a day; within it the code's table is the definition's.
 use mathlib.Core.Path.{_≡_, refl, ap, sym, _∙_}
-use mathlib.Core.Bool.{Bool, false, _&&_, and-false}
+use mathlib.Core.Bool.{false, and-false}
 use Prim.Native.Nat.{ℕ, zero, suc, _/_, _%_}
 use native.Mathlib.Omega.{arith}
 use borrow.Author.Needs.{needs}
 use borrow.Author.Tests.{lt-leb}
-use lib.Dec.{leb}
 use lib.ListN.{List·getD-eq-default}
 use Rattle.document.specs.Rules.{between, monthDays}
 use Rattle.document.proofs.rules.day_and_month.Statement.{statement}
