@@ -14,7 +14,7 @@ use Rattle.packed.specs.Pieces.{cut, pieces}
 use Rattle.packed.specs.Writing.{packedByte}
 use Rattle.packed.proofs.Laws.Every.{every-cons, every-both}
 use Rattle.packed.proofs.Laws.FlatMap.{flat-map, flat-flat, flat-same}
-use Rattle.packed.proofs.Laws.Pieces.{pieces-step, pieces-one, pieces-first, pieces-flat}
+use Rattle.packed.proofs.Laws.Pieces.{pieces-flat, pieces-made}
 use Rattle.document.specs.Limits.{documentBytes}
 use Rattle.document.specs.Rules.{between}
 use Rattle.document.specs.Fields.{fieldsGood, amountsGood}
@@ -55,38 +55,13 @@ heads-dropped gs = flat-flat (λ (d : List ℕ). d) groupDocuments gs ∙ all gs
     all (g ∷ gs) = λ i. pieces-flat documentBytes (lit< tt) (drop headBytes g) i ++ all gs i
 
 -- and is cut into the same pieces again
-shorter : (x : ℕ) (s : List ℕ) → length (drop groupBytes (x ∷ s)) ≤ length s
-shorter x s = simp length-drop (omega arith)
-
-cut-again : (n : ℕ) (body : List ℕ) → length body ≤ n → every groupGood (pieces groupBytes body) ≡ true → pieces fill (flatMap (drop headBytes) (pieces groupBytes body)) ≡ map (drop headBytes) (pieces groupBytes body)
-unfolding cut flatMap
-cut-again zero [] h e = refl
-cut-again zero (x ∷ s) h e = absurd (omega arith)
-cut-again (suc n) [] h e = refl
-cut-again (suc n) (x ∷ s) h e =
-    let step = pieces-step groupBytes (lit< tt) (x ∷ s) (omega arith) in
-    let both = every-cons groupGood (take groupBytes (x ∷ s)) (pieces groupBytes (drop groupBytes (x ∷ s))) (sym (ap (every groupGood) step) ∙ e) in
-    ap (λ (l : List (List ℕ)). pieces fill (flatMap (drop headBytes) l)) step
-    ∙ go (leb groupBytes (length (x ∷ s))) refl (good (take groupBytes (x ∷ s)) (both .0)) (cut-again n (drop groupBytes (x ∷ s)) (omega (arith, shorter x s)) (both .1))
-    ∙ ap (map (drop headBytes)) (sym step)
-  where
-    go : (t : Bool) → leb groupBytes (length (x ∷ s)) ≡ t → Good (take groupBytes (x ∷ s)) → pieces fill (flatMap (drop headBytes) (pieces groupBytes (drop groupBytes (x ∷ s)))) ≡ map (drop headBytes) (pieces groupBytes (drop groupBytes (x ∷ s))) → pieces fill (drop headBytes (take groupBytes (x ∷ s)) ++ flatMap (drop headBytes) (pieces groupBytes (drop groupBytes (x ∷ s)))) ≡ drop headBytes (take groupBytes (x ∷ s)) ∷ map (drop headBytes) (pieces groupBytes (drop groupBytes (x ∷ s)))
-    go true e g again =
-        let first = drop headBytes (take groupBytes (x ∷ s)) in
-        let full = length-take-le groupBytes (x ∷ s) (leb-true groupBytes (length (x ∷ s)) e) in
-        pieces-first fill (lit< tt) first (flatMap (drop headBytes) (pieces groupBytes (drop groupBytes (x ∷ s)))) (length-drop headBytes (take groupBytes (x ∷ s)) ∙ omega arith)
-        ∙ ap (λ (l : List (List ℕ)). first ∷ l) again
-    go false e g again =
-        let short = leb-false groupBytes (length (x ∷ s)) e in
-        let all = take-all groupBytes (x ∷ s) (omega arith) in
-        let none = drop-of-length-le (x ∷ s) {i = groupBytes} (omega arith) in
-        let first = drop headBytes (take groupBytes (x ∷ s)) in
-        let size = length-drop headBytes (take groupBytes (x ∷ s)) in
-        let whole = ap length all in
-        (λ i. pieces fill (first ++ flatMap (drop headBytes) (pieces groupBytes (none i))))
-        ∙ ap (pieces fill) (append-nil first)
-        ∙ pieces-one fill (lit< tt) first (omega arith) (omega arith)
-        ∙ sym (λ i. first ∷ map (drop headBytes) (pieces groupBytes (none i)))
+cut-again : (body : List ℕ) → every groupGood (pieces groupBytes body) ≡ true → pieces fill (flatMap (drop headBytes) (pieces groupBytes body)) ≡ map (drop headBytes) (pieces groupBytes body)
+cut-again body e =
+    pieces-made groupBytes fill (lit< tt) (lit< tt) (drop headBytes) groupGood
+    (λ (g : List ℕ) (e : groupGood g ≡ true) (h : length g ≡ groupBytes). simp length-drop (omega arith))
+    (λ (g : List ℕ) (e : groupGood g ≡ true) (h : length g ≤ groupBytes). let known = good g e in (simp length-drop (omega arith), simp length-drop (omega arith)))
+    body
+    e
 
 -- a good group, written again, is itself with a free byte of 00
 again : (operation : ℕ) (g : List ℕ) → Good g → operationOf g ≡ operation → writtenGroup operation (drop headBytes g) ≡ 0x00 ∷ drop 1 g
@@ -106,7 +81,7 @@ read-then-written body shape one =
     let same : List ℕ → Bool = λ (g : List ℕ). eqb (operationOf g) operation in
     let all = and-eq-true-iff (between 1 mostGroups (length gs)) (every groupGood gs) .0 shape .1 in
     ap (λ (p : List ℕ). flatMap (writtenGroup operation) (pieces fill p)) (heads-dropped gs)
-    ∙ ap (flatMap (writtenGroup operation)) (cut-again (length body) body (omega arith) all)
+    ∙ ap (flatMap (writtenGroup operation)) (cut-again body all)
     ∙ flat-map (writtenGroup operation) (drop headBytes) gs
     ∙ flat-same (λ (g : List ℕ). groupGood g && same g) (λ (g : List ℕ). writtenGroup operation (drop headBytes g)) (λ (g : List ℕ). 0x00 ∷ drop 1 g) (λ (g : List ℕ) (e : groupGood g && same g ≡ true). kept g e) gs (every-both groupGood same gs ∙ (λ i. all i && one i))
   where

@@ -13,7 +13,7 @@ use Rattle.packed.specs.Every.{every}
 use Rattle.packed.specs.Pieces.{cut, pieces}
 use Rattle.packed.proofs.Laws.Every.{every-map, every-then, every-always}
 use Rattle.packed.proofs.Laws.FlatMap.{flat-map}
-use Rattle.packed.proofs.Laws.Pieces.{pieces-at, pieces-end, pieces-step, pieces-one, pieces-first, pieces-within, few-pieces}
+use Rattle.packed.proofs.Laws.Pieces.{pieces-at, pieces-end, pieces-step, pieces-within, pieces-made, few-pieces}
 use Rattle.document.specs.Limits.{documentBytes, mostDocuments}
 use Rattle.document.specs.Rules.{between}
 use Rattle.detail.specs.Limits.{fullCount, mostGroups, groupBytes}
@@ -46,35 +46,11 @@ shorter x s = simp length-drop (omega arith)
 
 module _ (operation : ℕ) where
   -- a written detail is cut into the groups that it was made of
-  cut-again : (n : ℕ) (p : List ℕ) → length p ≤ n → pieces groupBytes (flatMap (writtenGroup operation) (pieces fill p)) ≡ map (writtenGroup operation) (pieces fill p)
-  unfolding cut flatMap
-  cut-again zero [] h = refl
-  cut-again zero (x ∷ s) h = absurd (omega arith)
-  cut-again (suc n) [] h = refl
-  cut-again (suc n) (x ∷ s) h =
-      let step = pieces-step fill (lit< tt) (x ∷ s) (omega arith) in
-      ap (λ (l : List (List ℕ)). pieces groupBytes (flatMap (writtenGroup operation) l)) step
-      ∙ go (leb fill (length (x ∷ s))) refl (cut-again n (drop fill (x ∷ s)) (omega (arith, shorter x s)))
-      ∙ ap (map (writtenGroup operation)) (sym step)
-    where
-      go : (t : Bool) → leb fill (length (x ∷ s)) ≡ t → pieces groupBytes (flatMap (writtenGroup operation) (pieces fill (drop fill (x ∷ s)))) ≡ map (writtenGroup operation) (pieces fill (drop fill (x ∷ s))) → pieces groupBytes (writtenGroup operation (take fill (x ∷ s)) ++ flatMap (writtenGroup operation) (pieces fill (drop fill (x ∷ s)))) ≡ writtenGroup operation (take fill (x ∷ s)) ∷ map (writtenGroup operation) (pieces fill (drop fill (x ∷ s)))
-      go true e again =
-          let first = writtenGroup operation (take fill (x ∷ s)) in
-          pieces-first groupBytes (lit< tt) first (flatMap (writtenGroup operation) (pieces fill (drop fill (x ∷ s)))) (omega (arith, length-take-le fill (x ∷ s) (leb-true fill (length (x ∷ s)) e)))
-          ∙ ap (λ (l : List (List ℕ)). first ∷ l) again
-      go false e again =
-          let short = leb-false fill (length (x ∷ s)) e in
-          let first = writtenGroup operation (x ∷ s) in
-          let all = take-all fill (x ∷ s) (omega arith) in
-          let none = drop-of-length-le (x ∷ s) {i = fill} (omega arith) in
-          (λ i. pieces groupBytes (writtenGroup operation (all i) ++ flatMap (writtenGroup operation) (pieces fill (none i))))
-          ∙ ap (pieces groupBytes) (append-nil first)
-          ∙ pieces-one groupBytes (lit< tt) first (omega arith) (omega arith)
-          ∙ sym (λ i. writtenGroup operation (all i) ∷ map (writtenGroup operation) (pieces fill (none i)))
-
   pub groups-written : (p : List ℕ) → groups (written operation p) ≡ map (writtenGroup operation) (pieces fill p)
   unfolding groups written
-  groups-written p = cut-again (length p) p (omega arith)
+  groups-written p =
+      pieces-made fill groupBytes (lit< tt) (lit< tt) (writtenGroup operation) (λ (ds : List ℕ). true) (λ (ds : List ℕ) (e : true ≡ true) (h : length ds ≡ fill). omega arith) (λ (ds : List ℕ) (e : true ≡ true) (h : length ds ≤ fill). (omega arith, omega arith)) p
+      (every-always (λ (ds : List ℕ). true) (λ (ds : List ℕ). refl) (pieces fill p))
 
   -- the documents of a written detail are those of the part, in order and to the byte
   pub documents-written : (p : List ℕ) → documents (written operation p) ≡ pieces documentBytes p

@@ -1,16 +1,18 @@
 -- Laws of a list cut into pieces: the step, the split after whole pieces, their count, and that they make up the list again.
 use mathlib.Core.Path.{_≡_, refl, ap, sym, _∙_}
 use mathlib.Core.Bool.{Bool, true, false}
-use mathlib.Core.List.{List, [], _∷_, _++_, flatMap, append-nil}
+use mathlib.Core.List.{List, [], _∷_, _++_, map, flatMap, append-nil}
 use Prim.Native.Nat.{ℕ, zero, suc, _+_, _*_, _≤_, _<_}
 use native.Mathlib.Nat.{zero-mul, suc-mul}
 use native.Mathlib.Omega.{arith}
 use lib.Dec.{leb}
-use lib.ListN.{length, take, drop, length-append, length-drop, take-append-drop, drop-of-length-le}
+use lib.ListN.{length, take, drop, length-append, length-take, length-drop, take-append-drop, drop-of-length-le}
 use lib.Seq.{take-all, length-take-le, take-append-le, drop-append-le, drop-drop, take-at, drop-at}
 use borrow.Author.Tests.{leb-true, leb-false, le-leb, lt-leb}
 use Rattle.packed.specs.Part.{part}
+use Rattle.packed.specs.Every.{every}
 use Rattle.packed.specs.Pieces.{cut, pieces}
+use Rattle.packed.proofs.Laws.Every.{every-cons}
 
 module _ (k : ℕ) (wide : 0 < k) where
   -- what is left of a list once a piece is taken is shorter
@@ -128,3 +130,36 @@ module _ (k j : ℕ) (wide : 0 < k) (many : 0 < j * k) where
 
   pub pieces-within : (s : List ℕ) → flatMap (pieces k) (pieces (j * k) s) ≡ pieces k s
   pieces-within s = within (length s) s (omega arith)
+
+-- what is made of each piece, laid end to end, is cut into what was made: where a full piece becomes a full one of the other width, and the
+-- last becomes no more than that and not nothing
+module _ (k m : ℕ) (wide : 0 < k) (wide' : 0 < m) (f : List ℕ → List ℕ) (q : List ℕ → Bool) (full : (p : List ℕ) → q p ≡ true → length p ≡ k → length (f p) ≡ m) (last : (p : List ℕ) → q p ≡ true → length p ≤ k → (0 < length (f p)) × (length (f p) ≤ m)) where
+  made : (n : ℕ) (s : List ℕ) → length s ≤ n → every q (pieces k s) ≡ true → pieces m (flatMap f (pieces k s)) ≡ map f (pieces k s)
+  unfolding cut flatMap
+  made zero [] h e = refl
+  made zero (x ∷ s) h e = absurd (omega arith)
+  made (suc n) [] h e = refl
+  made (suc n) (x ∷ s) h e =
+      let step = pieces-step k wide (x ∷ s) (omega arith) in
+      let both = every-cons q (take k (x ∷ s)) (pieces k (drop k (x ∷ s))) (sym (ap (every q) step) ∙ e) in
+      ap (λ (l : List (List ℕ)). pieces m (flatMap f l)) step
+      ∙ go (leb k (length (x ∷ s))) refl (both .0) (made n (drop k (x ∷ s)) (omega (arith, shorter k wide x s)) (both .1))
+      ∙ ap (map f) (sym step)
+    where
+      go : (t : Bool) → leb k (length (x ∷ s)) ≡ t → q (take k (x ∷ s)) ≡ true → pieces m (flatMap f (pieces k (drop k (x ∷ s)))) ≡ map f (pieces k (drop k (x ∷ s))) → pieces m (f (take k (x ∷ s)) ++ flatMap f (pieces k (drop k (x ∷ s)))) ≡ f (take k (x ∷ s)) ∷ map f (pieces k (drop k (x ∷ s)))
+      go true e good rest =
+          let first = take k (x ∷ s) in
+          pieces-first m wide' (f first) (flatMap f (pieces k (drop k (x ∷ s)))) (full first good (length-take-le k (x ∷ s) (leb-true k (length (x ∷ s)) e)))
+          ∙ ap (λ (l : List (List ℕ)). f first ∷ l) rest
+      go false e good rest =
+          let short = leb-false k (length (x ∷ s)) e in
+          let first = take k (x ∷ s) in
+          let none = drop-of-length-le (x ∷ s) {i = k} (omega arith) in
+          let size = last first good (simp length-take (omega arith)) in
+          (λ i. pieces m (f first ++ flatMap f (pieces k (none i))))
+          ∙ ap (pieces m) (append-nil (f first))
+          ∙ pieces-one m wide' (f first) (size .0) (size .1)
+          ∙ sym (λ i. f first ∷ map f (pieces k (none i)))
+
+  pub pieces-made : (s : List ℕ) → every q (pieces k s) ≡ true → pieces m (flatMap f (pieces k s)) ≡ map f (pieces k s)
+  pieces-made s e = made (length s) s (omega arith) e
