@@ -3,3 +3,4 @@ pub mod Numbered
 pub mod Reply
 pub mod Refusal
 pub mod Chain
+pub mod Field

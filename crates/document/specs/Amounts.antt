@@ -1,17 +1,16 @@
 -- 01, 'Detail': what documents are worth, and the commission on them.
-use Prim.Native.Nat.{ℕ, _*_, _≤_}
+use Prim.Native.Nat.{ℕ, _*_, _^_, _≤_}
 use mathlib.Core.List.{List, [], _∷_}
-use Rattle.packed.specs.Field.{printed}
-use Rattle.packed.specs.Number.{number}
+use Rattle.codes.specs.Field.{fieldNumber}
 use Rattle.amounts.specs.declared.Totals.{Totals}
 use Rattle.amounts.specs.Totals.{totals, zeros, plus}
-use Rattle.document.specs.Fields.{firstPosition}
+use Rattle.document.specs.Fields.{firstPosition, nominalField, commissionField}
 
 unfoldable pub nominal : List ℕ → ℕ
-nominal d = number (printed firstPosition 30 6 d)
+nominal d = fieldNumber firstPosition d nominalField
 
 unfoldable pub commission : List ℕ → ℕ
-commission d = number (printed firstPosition 48 4 d)
+commission d = fieldNumber firstPosition d commissionField
 
 -- the totals of one document, and of some
 abbrev pub documentTotals : List ℕ → Totals
@@ -24,5 +23,5 @@ totalsOf (d ∷ ds) = plus (documentTotals d) (totalsOf ds)
 -- totals that n documents of any bytes cannot pass: a nominal and a commission stay below twice what digits reach
 pub record Within (n : ℕ) (t : Totals) : Type 0 where
   pub documents : t .documents .0 ≤ n
-  pub nominal : t .nominal .0 ≤ n * 2000000000000
-  pub commission : t .commission .0 ≤ n * 200000000
+  pub nominal : t .nominal .0 ≤ n * (2 * 100 ^ 6)
+  pub commission : t .commission .0 ≤ n * (2 * 100 ^ 4)

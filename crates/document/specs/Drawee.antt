@@ -3,14 +3,13 @@ use Prim.Native.Nat.{ℕ}
 use mathlib.Core.Bool.{Bool, not, _||_}
 use mathlib.Core.List.{List, _∷_}
 use lib.Dec.{eqb}
-use Rattle.packed.specs.Field.{printed}
-use Rattle.packed.specs.Number.{number}
+use Rattle.codes.specs.Field.{fieldNumber}
 use Rattle.document.specs.Operation.{presented}
-use Rattle.document.specs.Fields.{firstPosition}
+use Rattle.document.specs.Fields.{firstPosition, draweeField}
 use Rattle.document.specs.Entities.{member}
 
 unfoldable pub drawee : List ℕ → ℕ
-drawee d = number (printed firstPosition 36 2 d)
+drawee d = fieldNumber firstPosition d draweeField
 
 -- the drawee of a presented document is own or represented; a return's is not compared
 unfoldable pub draweeServed : (operation own : ℕ) (represented : List ℕ) → List ℕ → Bool

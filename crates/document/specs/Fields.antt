@@ -2,14 +2,24 @@
 use Prim.Native.Nat.{ℕ}
 use mathlib.Core.Bool.{Bool}
 use mathlib.Core.List.{List, [], _∷_}
-use Rattle.packed.specs.Field.{Field, field, amount, unread, any, tableValues, tableGood}
+use Rattle.codes.specs.Field.{Field, field, amount, unread, any, tableValues, tableGood}
 use Rattle.codes.specs.Reply.{codeNumber}
 use Rattle.codes.specs.declared.reply.Code.{Code}
-use Rattle.document.specs.Rules.{identification, dayAndMonth, province, entity, truncation, keyOrReason}
+use Rattle.document.specs.Rules.{identification, dayAndMonth, province, receivingEntity, truncation, keyOrReason}
 
 -- the printed position of a document's first byte
 abbrev pub firstPosition : ℕ
 firstPosition = 5
+
+-- the fields that other definitions read
+abbrev pub draweeField : Field
+draweeField = field 36 2 any
+
+abbrev pub nominalField : Field
+nominalField = amount 30 6
+
+abbrev pub commissionField : Field
+commissionField = amount 48 4
 
 -- position, bytes, rule
 unfoldable pub documentFields : (operation receiving : ℕ) → List Field
@@ -21,34 +31,27 @@ documentFields operation receiving =
     ∷ field 18 2 any  -- taker
     ∷ field 20 2 any  -- its branch
     ∷ field 22 1 province
-    ∷ field 23 2 (entity receiving)
+    ∷ field 23 2 (receivingEntity receiving)
     ∷ field 25 1 province
     ∷ field 26 4 any  -- entity and branch for claims
-    ∷ amount 30 6  -- nominal
-    ∷ field 36 2 any  -- drawee
+    ∷ nominalField
+    ∷ draweeField
     ∷ field 38 2 any  -- its branch
     ∷ field 40 5 any  -- account
     ∷ field 45 1 truncation
     ∷ field 46 2 (keyOrReason operation)
-    ∷ amount 48 4  -- commission
+    ∷ commissionField
     ∷ unread 52 4  -- key
     ∷ []
 
--- the codes of the two kinds of fault
-abbrev pub wrongField : ℕ
-wrongField = codeNumber Code.WrongField
-
-abbrev pub wrongAmount : ℕ
-wrongAmount = codeNumber Code.WrongAmount
-
 -- no fault that earns 01
 unfoldable pub fieldsGood : (operation receiving : ℕ) → List ℕ → Bool
-fieldsGood operation receiving d = tableGood firstPosition wrongField (documentFields operation receiving) d
+fieldsGood operation receiving d = tableGood firstPosition (codeNumber Code.WrongField) (documentFields operation receiving) d
 
--- of the fields whose fault is 01, their values alone
+-- of the same fields the values alone, as a reader needs it that tests digits apart
 unfoldable pub valuesGood : (operation receiving : ℕ) → List ℕ → Bool
-valuesGood operation receiving d = tableValues firstPosition wrongField (documentFields operation receiving) d
+valuesGood operation receiving d = tableValues firstPosition (codeNumber Code.WrongField) (documentFields operation receiving) d
 
 -- no fault that earns 03
 unfoldable pub amountsGood : (operation receiving : ℕ) → List ℕ → Bool
-amountsGood operation receiving d = tableGood firstPosition wrongAmount (documentFields operation receiving) d
+amountsGood operation receiving d = tableGood firstPosition (codeNumber Code.WrongAmount) (documentFields operation receiving) d

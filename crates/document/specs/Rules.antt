@@ -4,7 +4,7 @@ use mathlib.Core.Bool.{Bool, _&&_, _||_, cond}
 use mathlib.Core.List.{List, [], _∷_}
 use lib.Dec.{eqb, leb}
 use lib.ListN.{getD}
-use Rattle.packed.specs.Field.{any}
+use Rattle.codes.specs.Field.{any}
 use Rattle.document.specs.Operation.{returned}
 
 abbrev pub between : (least most v : ℕ) → Bool
@@ -27,8 +27,8 @@ abbrev pub province : ℕ → Bool
 province v = between 1 52 v
 
 -- the session's receiving entity
-abbrev pub entity : (receiving v : ℕ) → Bool
-entity receiving v = eqb v receiving
+abbrev pub receivingEntity : (receiving v : ℕ) → Bool
+receivingEntity receiving v = eqb v receiving
 
 -- 01 or 02
 abbrev pub truncation : ℕ → Bool
@@ -38,6 +38,6 @@ truncation v = between 1 2 v
 abbrev pub reason : ℕ → Bool
 reason v = between 1 49 v || between 51 99 v
 
--- a tariff key, in a return its reason
+-- which of the two stands there is told by the operation; a tariff key may be any
 abbrev pub keyOrReason : (operation v : ℕ) → Bool
 keyOrReason operation v = cond (eqb operation returned) (reason v) (any v)

@@ -6,4 +6,3 @@ pub mod Every
 pub mod Digits
 pub mod Number
 pub mod Writing
-pub mod Field

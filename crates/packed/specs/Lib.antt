@@ -4,5 +4,4 @@ pub mod Every
 pub mod Digits
 pub mod Number
 pub mod Writing
-pub mod Field
 pub mod Pieces

@@ -7,11 +7,13 @@ use Rattle.packed.specs.Part.{part}
 use Rattle.packed.specs.Every.{every}
 use Rattle.packed.specs.Number.{number}
 use Rattle.packed.specs.Digits.{areDigits}
-use Rattle.packed.specs.Field.{earning, tableDigits}
-use Rattle.packed.proofs.Laws.Field.{table-split, digitRuns, total, runs-join, adjoining}
+use Rattle.codes.specs.Field.{earning}
+use Rattle.codes.specs.Reply.{codeNumber}
+use Rattle.codes.specs.declared.reply.Code.{Code}
+use Rattle.codes.proofs.Laws.Field.{tableDigits, table-split, digitRuns, total, runs-join, adjoining}
 use Rattle.document.specs.Limits.{documentBytes}
-use Rattle.document.specs.Rules.{identification, dayAndMonth, province, entity, truncation, keyOrReason}
-use Rattle.document.specs.Fields.{firstPosition, documentFields, wrongField, wrongAmount, fieldsGood, valuesGood, amountsGood}
+use Rattle.document.specs.Rules.{identification, dayAndMonth, province, receivingEntity, truncation, keyOrReason}
+use Rattle.document.specs.Fields.{firstPosition, documentFields, fieldsGood, valuesGood, amountsGood}
 
 listed : (a b c d e f g : Bool) → a && (b && (c && (d && (e && (f && (g && true)))))) ≡ a && b && c && d && e && f && g
 listed a b c d e f g = simp (and-assoc, and-true)
@@ -22,7 +24,7 @@ module _ (operation receiving : ℕ) where
   unfolding adjoining documentFields
   covered = refl
 
-  field-digits : (d : List ℕ) → tableDigits firstPosition wrongField (documentFields operation receiving) d ≡ areDigits (part 0 25 d) && areDigits (part 31 12 d)
+  field-digits : (d : List ℕ) → tableDigits firstPosition (codeNumber Code.WrongField) (documentFields operation receiving) d ≡ areDigits (part 0 25 d) && areDigits (part 31 12 d)
   unfolding documentFields earning every digitRuns total
   field-digits d =
       runs-join 0 (5 ∷ 2 ∷ 4 ∷ 2 ∷ 2 ∷ 2 ∷ 1 ∷ 2 ∷ 1 ∷ 4 ∷ []) d (digitRuns 31 (2 ∷ 2 ∷ 5 ∷ 1 ∷ 2 ∷ []) d true)
@@ -31,25 +33,25 @@ module _ (operation receiving : ℕ) where
   pub fields-split : (d : List ℕ) → fieldsGood operation receiving d ≡ areDigits (part 0 25 d) && areDigits (part 31 12 d) && valuesGood operation receiving d
   unfolding fieldsGood valuesGood
   fields-split d =
-      table-split firstPosition wrongField (documentFields operation receiving) d
+      table-split firstPosition (codeNumber Code.WrongField) (documentFields operation receiving) d
       ∙ ap (λ (t : Bool). t && valuesGood operation receiving d) (field-digits d)
 
   pub amounts-split : (d : List ℕ) → amountsGood operation receiving d ≡ areDigits (part 25 6 d) && areDigits (part 43 4 d)
   unfolding amountsGood documentFields earning every
   amounts-split d =
-      table-split firstPosition wrongAmount (documentFields operation receiving) d
+      table-split firstPosition (codeNumber Code.WrongAmount) (documentFields operation receiving) d
       ∙ and-true (areDigits (part 25 6 d) && (areDigits (part 43 4 d) && true))
       ∙ ap (λ (t : Bool). areDigits (part 25 6 d) && t) (and-true (areDigits (part 43 4 d)))
 
   -- the rules of the table, one behind the other
-  pub values-listed : (d : List ℕ) → valuesGood operation receiving d ≡ identification (number (part 5 2 d)) && dayAndMonth (number (part 11 2 d)) && province (number (part 17 1 d)) && entity receiving (number (part 18 2 d)) && province (number (part 20 1 d)) && truncation (number (part 40 1 d)) && keyOrReason operation (number (part 41 2 d))
+  pub values-listed : (d : List ℕ) → valuesGood operation receiving d ≡ identification (number (part 5 2 d)) && dayAndMonth (number (part 11 2 d)) && province (number (part 17 1 d)) && receivingEntity receiving (number (part 18 2 d)) && province (number (part 20 1 d)) && truncation (number (part 40 1 d)) && keyOrReason operation (number (part 41 2 d))
   unfolding valuesGood documentFields earning every
   values-listed d =
       listed
       (identification (number (part 5 2 d)))
       (dayAndMonth (number (part 11 2 d)))
       (province (number (part 17 1 d)))
-      (entity receiving (number (part 18 2 d)))
+      (receivingEntity receiving (number (part 18 2 d)))
       (province (number (part 20 1 d)))
       (truncation (number (part 40 1 d)))
       (keyOrReason operation (number (part 41 2 d)))

@@ -4,12 +4,16 @@ use mathlib.Core.Bool.{Bool, true, false, _&&_, cond, and-assoc}
 use mathlib.Core.List.{List, [], _∷_}
 use Prim.Native.Nat.{ℕ, _+_}
 use lib.Dec.{eqb}
 use Rattle.packed.specs.Part.{part}
 use Rattle.packed.specs.Every.{every}
 use Rattle.packed.specs.Digits.{areDigits}
-use Rattle.packed.specs.Field.{Field, fieldDigits, fieldValue, earning, tableDigits, tableValues, tableGood}
+use Rattle.codes.specs.Field.{Field, fieldDigits, fieldValue, earning, tableValues, tableGood}
 use Rattle.packed.proofs.Laws.Every.{every-both}
 use Rattle.packed.proofs.Laws.Digits.{digits-split}
+
+-- all of the rows of a code are digits
+abbrev pub tableDigits : (first code : ℕ) → List Field → List ℕ → Bool
+tableDigits first code fields s = every (fieldDigits first s) (earning code fields)
 
 pub table-split : (first code : ℕ) (fields : List Field) (s : List ℕ) → tableGood first code fields s ≡ tableDigits first code fields s && tableValues first code fields s
 table-split first code fields s = every-both (fieldDigits first s) (fieldValue first s) (earning code fields)
@@ -31,7 +35,7 @@ runs-join at (w ∷ ws) s rest =
     ∙ sym (and-assoc (areDigits (part at w s)) (areDigits (part (at + w) (total ws) s)) rest)
     ∙ ap (λ (t : Bool). t && rest) (sym (digits-split at w (total ws) s))
 
--- each field begins where the one before it ends: where the last one ends, or nothing where there is a gap
+-- whether each field begins where the one before it ends, and where the last one ends or the first gap is
 unfoldable pub adjoining : (position : ℕ) → List Field → Bool × ℕ
 adjoining position [] = (true, position)
 adjoining position (f ∷ fs) = cond (eqb (f .position) position) (adjoining (position + f .width) fs) (false, position)

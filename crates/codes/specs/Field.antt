@@ -3,16 +3,18 @@ use Prim.Native.Nat.{ℕ, _-_}
 use mathlib.Core.Bool.{Bool, true, _&&_, cond}
 use mathlib.Core.List.{List, [], _∷_}
 use lib.Dec.{eqb}
 use Rattle.packed.specs.Part.{part}
 use Rattle.packed.specs.Every.{every}
 use Rattle.packed.specs.Digits.{areDigits}
 use Rattle.packed.specs.Number.{number}
+use Rattle.codes.specs.declared.reply.Code.{Code}
+use Rattle.codes.specs.Reply.{codeNumber}
 
 -- a row of a table
 pub record Field : Type 0 where
   pub position : ℕ  -- of its first byte, as printed
   pub width : ℕ  -- in bytes
-  pub code : ℕ  -- what a fault in it earns, 0 where it has none
+  pub code : ℕ  -- what a fault in it earns
   pub rule : ℕ → Bool  -- the values that it takes
 
 -- a field with no stated range
@@ -21,19 +23,23 @@ any v = true
 
 -- a field with a rule, whose fault is 01
 abbrev pub field : (position width : ℕ) → (ℕ → Bool) → Field
-field p w rule = record { position = p; width = w; code = 1; rule = rule }
+field p w rule = record { position = p; width = w; code = codeNumber Code.WrongField; rule = rule }
 
 -- a nominal or a commission, whose fault is 03
 abbrev pub amount : (position width : ℕ) → Field
-amount p w = record { position = p; width = w; code = 3; rule = any }
+amount p w = record { position = p; width = w; code = codeNumber Code.WrongAmount; rule = any }
 
--- bytes that nobody reads
+-- bytes that nobody reads, and any of which are accepted
 abbrev pub unread : (position width : ℕ) → Field
-unread p w = record { position = p; width = w; code = 0; rule = any }
+unread p w = record { position = p; width = w; code = codeNumber Code.Accepted; rule = any }
 
 -- the bytes at a printed position, in a layout whose first byte has the position `first`
 abbrev pub printed : (first position width : ℕ) → List ℕ → List ℕ
 printed first position width s = part (position - first) width s
+
+-- the number that it holds
+abbrev pub fieldNumber : (first : ℕ) → List ℕ → Field → ℕ
+fieldNumber first s f = number (printed first (f .position) (f .width) s)
 
 -- digits throughout
 abbrev pub fieldDigits : (first : ℕ) → List ℕ → Field → Bool
@@ -41,7 +47,7 @@ fieldDigits first s f = areDigits (printed first (f .position) (f .width) s)
 
 -- a value that the field takes
 abbrev pub fieldValue : (first : ℕ) → List ℕ → Field → Bool
-fieldValue first s f = f .rule (number (printed first (f .position) (f .width) s))
+fieldValue first s f = f .rule (fieldNumber first s f)
 
 abbrev pub fieldGood : (first : ℕ) → List ℕ → Field → Bool
 fieldGood first s f = fieldDigits first s f && fieldValue first s f
@@ -51,12 +57,9 @@ unfoldable pub earning : (code : ℕ) → List Field → List Field
 earning code [] = []
 earning code (f ∷ fs) = cond (eqb (f .code) code) (f ∷ earning code fs) (earning code fs)
 
--- all of them digits; all of a value that they take; all good
-abbrev pub tableDigits : (first code : ℕ) → List Field → List ℕ → Bool
-tableDigits first code fields s = every (fieldDigits first s) (earning code fields)
+-- all of them good; and, for a reader that tests digits apart, all of a value that they take
+abbrev pub tableGood : (first code : ℕ) → List Field → List ℕ → Bool
+tableGood first code fields s = every (fieldGood first s) (earning code fields)
 
 abbrev pub tableValues : (first code : ℕ) → List Field → List ℕ → Bool
 tableValues first code fields s = every (fieldValue first s) (earning code fields)
-
-abbrev pub tableGood : (first code : ℕ) → List Field → List ℕ → Bool
-tableGood first code fields s = every (fieldGood first s) (earning code fields)
