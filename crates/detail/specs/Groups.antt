@@ -3,7 +3,8 @@ use Prim.Native.Nat.{ℕ, _+_, _*_}
 use mathlib.Core.Bool.{Bool, _&&_, _||_}
 use mathlib.Core.List.{List, flatMap}
 use lib.Dec.{eqb}
-use lib.ListN.{length, drop, getD}
+use lib.ListN.{length, drop}
+use Rattle.packed.specs.Part.{byteAt}
 use Rattle.packed.specs.Every.{every}
 use Rattle.packed.specs.Pieces.{pieces}
 use Rattle.document.specs.Limits.{documentBytes}
@@ -17,10 +18,10 @@ groups body = pieces groupBytes body
 
 -- byte 3, of a group and so of a body
 abbrev pub operationOf : List ℕ → ℕ
-operationOf g = getD g 2 0
+operationOf g = byteAt 3 g
 
 abbrev pub countOf : List ℕ → ℕ
-countOf g = getD g 3 0
+countOf g = byteAt 4 g
 
 abbrev pub isOperation : ℕ → Bool
 isOperation o = eqb o presented || eqb o returned
@@ -28,7 +29,7 @@ isOperation o = eqb o presented || eqb o returned
 -- the mark, one of the two operations, a count of 1 to 4, and so many documents to the byte
 unfoldable pub groupGood : List ℕ → Bool
 groupGood g =
-    eqb (getD g 1 0) mark && isOperation (operationOf g) && between 1 fullCount (countOf g) && eqb (length g) (headBytes + countOf g * documentBytes)
+    eqb (byteAt 2 g) mark && isOperation (operationOf g) && between 1 fullCount (countOf g) && eqb (length g) (headBytes + countOf g * documentBytes)
 
 -- 1 to 50 groups, all good
 unfoldable pub shapeGood : List ℕ → Bool

@@ -17,9 +17,12 @@ fullCount = 4
 abbrev pub mostGroups : ℕ
 mostGroups = 50
 
--- the bytes of a full group
+-- the bytes of a full group's documents, and with the head of the whole group
+abbrev pub fillBytes : ℕ
+fillBytes = fullCount * documentBytes
+
 abbrev pub groupBytes : ℕ
-groupBytes = headBytes + fullCount * documentBytes
+groupBytes = headBytes + fillBytes
 
 -- the bytes of the longest body
 abbrev pub longestBody : ℕ

@@ -1,10 +1,10 @@
 -- 01, 'Trays' and 'Detail': a detail as it is written, from an operation byte and the bytes of whole documents.
-use Prim.Native.Nat.{ℕ, _*_, _/_}
+use Prim.Native.Nat.{ℕ, _/_}
 use mathlib.Core.List.{List, _∷_, flatMap}
 use lib.ListN.{length, drop}
 use Rattle.packed.specs.Pieces.{pieces}
 use Rattle.document.specs.Limits.{documentBytes}
-use Rattle.detail.specs.Limits.{mark, fullCount}
+use Rattle.detail.specs.Limits.{mark, fillBytes}
 use Rattle.detail.specs.Groups.{groups, documents}
 
 -- a group of some documents, its free byte 00
@@ -13,7 +13,7 @@ writtenGroup operation ds = 0x00 ∷ mark ∷ operation ∷ length ds / document
 
 -- groups of four, the last with the documents that are left
 unfoldable pub written : (operation : ℕ) → List ℕ → List ℕ
-written operation part = flatMap (writtenGroup operation) (pieces (fullCount * documentBytes) part)
+written operation part = flatMap (writtenGroup operation) (pieces fillBytes part)
 
 -- the documents of a body as one part
 unfoldable pub partOf : List ℕ → List ℕ

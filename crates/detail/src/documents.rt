@@ -1,7 +1,7 @@
 // What is found in many documents: those of a part, and those of a body, group by group.
-use crate::groups::GROUP;
-use crate::groups::HEAD;
-use document::BYTES;
+use crate::groups::GROUP_BYTES;
+use crate::groups::HEAD_BYTES;
+use document::DOCUMENT_BYTES;
 use document::found::Found;
 use document::found::read;
 use packed::pieces::piece_at;
@@ -25,11 +25,11 @@ pub fn read_documents(part: &[u8], operation: u8, receiving: u16, represented: &
     ensures bound { λ r. ⌜ Within (length (now (part .entry))) (r .totals) ⌝ }
 {
     let mut found = Found::nothing();
-    let mut end = BYTES;
+    let mut end = DOCUMENT_BYTES;
     while end <= part.len() {
-        let at = end - BYTES;
+        let at = end - DOCUMENT_BYTES;
         found = found.join(read(&part[at..end], operation, receiving, represented));
-        end += BYTES;
+        end += DOCUMENT_BYTES;
     }
     found
 }
@@ -43,9 +43,9 @@ pub fn read_groups(body: &[u8], operation: u8, receiving: u16, represented: &[u1
     let mut found = Found::nothing();
     let mut at: usize = 0;
     while at < body.len() {
-        let g = piece_at(body, at, GROUP);
-        found = found.join(read_documents(&g[HEAD..], operation, receiving, represented));
-        at += GROUP;
+        let g = piece_at(body, at, GROUP_BYTES);
+        found = found.join(read_documents(&g[HEAD_BYTES..], operation, receiving, represented));
+        at += GROUP_BYTES;
     }
     found
 }

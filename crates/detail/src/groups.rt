@@ -1,5 +1,5 @@
 // The groups of a body: where each lies, and whether the body has the shape of a detail.
-use document::BYTES;
+use document::DOCUMENT_BYTES;
 use document::PRESENTED;
 use document::RETURNED;
 use packed::pieces::piece_at;
@@ -14,15 +14,17 @@ ghost use Rattle.detail.specs.Groups.{operationOf, groupGood, groups, on
 pub const MARK: u8 = 0x51;
 
 // Free byte, mark, operation and count.
-pub const HEAD: usize = 4;
+pub const HEAD_BYTES: usize = 4;
 
 // The documents of a full group, and its bytes.
-pub const FULL: usize = 4;
+pub const FULL_COUNT: usize = 4;
 
-pub const GROUP: usize = HEAD + FULL * BYTES;
+pub const GROUP_BYTES: usize = HEAD_BYTES + FULL_COUNT * DOCUMENT_BYTES;
 
-// The longest body: 50 full groups.
-pub const LONGEST: usize = 50 * GROUP;
+// The groups of a body, at most, and the bytes of the longest.
+pub const MOST_GROUPS: usize = 50;
+
+pub const LONGEST_BODY: usize = MOST_GROUPS * GROUP_BYTES;
 
 // The operation byte, 0 where there is none.
 pub fn operation_of(g: &[u8]) -> u8
@@ -38,14 +40,14 @@ pub fn operation_of(g: &[u8]) -> u8
 pub fn group_good(g: &[u8]) -> bool
     ensures { λ r. ⌜ r ≡ groupGood (now (g .entry)) ⌝ }
 {
-    if g.len() < HEAD {
+    if g.len() < HEAD_BYTES {
         return false;
     }
     let count = g[3] as usize;
     (g[1] == MARK)
         & ((g[2] == PRESENTED) | (g[2] == RETURNED))
-        & ((1 <= count) & (count <= FULL))
-        & (g.len() == HEAD + count * BYTES)
+        & ((1 <= count) & (count <= FULL_COUNT))
+        & (g.len() == HEAD_BYTES + count * DOCUMENT_BYTES)
 }
 
 // What the heads of all groups say together.
@@ -65,10 +67,10 @@ pub fn read_heads(body: &[u8]) -> Heads
     let mut one = true;
     let mut at: usize = 0;
     while at < body.len() {
-        let g = piece_at(body, at, GROUP);
+        let g = piece_at(body, at, GROUP_BYTES);
         good = good & group_good(g);
         one = one & (operation_of(g) == operation);
-        at += GROUP;
+        at += GROUP_BYTES;
     }
     Heads {
         good: good,

@@ -1,14 +1,14 @@
 // A detail read whole, as its receiver and as its presenter read it.
 use crate::documents::read_documents;
 use crate::documents::read_groups;
-use crate::groups::LONGEST;
+use crate::groups::LONGEST_BODY;
 use crate::groups::operation_of;
 use crate::groups::read_heads;
 use crate::verdict::Verdict;
 use crate::verdict::judge;
 use crate::verdict::refused;
 use codes::reply::Code;
-use document::BYTES;
+use document::DOCUMENT_BYTES;
 use document::MOST_DOCUMENTS;
 use packed::writing::packed_byte;
 ghost use mathlib.Core.Path.{_≡_};
@@ -23,7 +23,7 @@ pub fn read_detail(body: &[u8], own: u16, represented: &[u16]) -> Verdict
     ensures code { λ r. ⌜ codeNumber (r .code) ≡ receivedCode own (now (represented .entry)) (now (body .entry)) ⌝ }
     ensures totals { λ r. ⌜ r .totals ≡ accepted (codeNumber (r .code)) (documents (now (body .entry))) ⌝ }
 {
-    if (body.len() < 1) | (LONGEST < body.len()) {
+    if (body.len() < 1) | (LONGEST_BODY < body.len()) {
         return refused(Code::WrongField);
     }
     let heads = read_heads(body);
@@ -42,9 +42,9 @@ pub fn read_detail(body: &[u8], own: u16, represented: &[u16]) -> Verdict
 pub fn sendable(operation: u8, part: &[u8]) -> bool
     ensures { λ r. ⌜ r ≡ sendable operation (now (part .entry)) ⌝ }
 {
-    let documents = part.len() / BYTES;
+    let documents = part.len() / DOCUMENT_BYTES;
     ((operation == 30) | (operation == 40))
-        & (part.len() % BYTES == 0)
+        & (part.len() % DOCUMENT_BYTES == 0)
         & ((1 <= documents) & (documents <= MOST_DOCUMENTS))
 }
 

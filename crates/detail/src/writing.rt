@@ -1,8 +1,8 @@
 // A detail written from documents.
-use crate::groups::FULL;
-use crate::groups::HEAD;
+use crate::groups::FULL_COUNT;
+use crate::groups::HEAD_BYTES;
 use crate::groups::MARK;
-use document::BYTES;
+use document::DOCUMENT_BYTES;
 use packed::pieces::piece_at;
 use packed::writing::copy;
 ghost use mathlib.Core.Path.{_≡_};
@@ -10,23 +10,23 @@ ghost use Prim.Native.Nat.{_+_, _*_, _≤_};
 ghost use lib.ListN.{length};
 ghost use lib.Seq.{sets};
 ghost use Rattle.document.specs.Limits.{documentBytes, mostDocuments};
-ghost use Rattle.detail.specs.Limits.{headBytes, fullCount};
+ghost use Rattle.detail.specs.Limits.{headBytes, fillBytes};
 ghost use Rattle.detail.specs.Writing.{writtenGroup, written};
 
 // The bytes of a full group's documents.
-const FILL: usize = FULL * BYTES;
+const FILL_BYTES: usize = FULL_COUNT * DOCUMENT_BYTES;
 
 // Writes one group of at most four documents at `to`; every other byte keeps its value.
 fn write_group(out: &mut [u8], to: usize, operation: u8, documents: &[u8])
     requires { ⌜ to + headBytes + length (now documents) ≤ length (now out) ⌝ }
-    requires { ⌜ length (now documents) ≤ fullCount * documentBytes ⌝ }
+    requires { ⌜ length (now documents) ≤ fillBytes ⌝ }
     ensures { λ _. ⌜ now (out .exit) ≡ sets (now (out .entry)) to (writtenGroup operation (now (documents .entry))) ⌝ }
 {
     out[to] = 0;
     out[to + 1] = MARK;
     out[to + 2] = operation;
-    out[to + 3] = (documents.len() / BYTES) as u8;
-    copy(out, to + HEAD, documents);
+    out[to + 3] = (documents.len() / DOCUMENT_BYTES) as u8;
+    copy(out, to + HEAD_BYTES, documents);
 }
 
 // Writes a body from the operation byte and the part at the start of `out`, and answers its length; every other byte keeps
@@ -40,10 +40,10 @@ pub fn write_detail(out: &mut [u8], operation: u8, part: &[u8]) -> usize
     let mut to: usize = 0;
     let mut at: usize = 0;
     while at < part.len() {
-        let documents = piece_at(part, at, FILL);
+        let documents = piece_at(part, at, FILL_BYTES);
         write_group(out, to, operation, documents);
-        to += HEAD + documents.len();
-        at += FILL;
+        to += HEAD_BYTES + documents.len();
+        at += FILL_BYTES;
     }
     to
 }

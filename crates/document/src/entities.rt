@@ -3,19 +3,19 @@ ghost use mathlib.Core.Path.{_≡_};
 ghost use Rattle.document.specs.Entities.{entitiesGood, member};
 
 // The largest entity code.
-pub const LARGEST: u16 = 9999;
+pub const LARGEST_ENTITY: u16 = 9999;
 
 // How many entities a centre may represent.
-pub const MOST: usize = 8;
+pub const MOST_REPRESENTED: usize = 8;
 
 // Whether own and represented entities are within the limits of a start.
 pub fn entities_good(own: u16, represented: &[u16]) -> bool
     ensures { λ r. ⌜ r ≡ entitiesGood own (now (represented .entry)) ⌝ }
 {
-    let mut good = (own <= LARGEST) & (represented.len() <= MOST);
+    let mut good = (own <= LARGEST_ENTITY) & (represented.len() <= MOST_REPRESENTED);
     let mut i: usize = 0;
     while i < represented.len() {
-        good = good & (represented[i] <= LARGEST);
+        good = good & (represented[i] <= LARGEST_ENTITY);
         i += 1;
     }
     good

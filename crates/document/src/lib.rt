@@ -14,6 +14,6 @@ pub const PRESENTED: u8 = 0x30;
 pub const RETURNED: u8 = 0x40;
 
 // The bytes of a document, and the most documents of a detail.
-pub const BYTES: usize = 51;
+pub const DOCUMENT_BYTES: usize = 51;
 
 pub const MOST_DOCUMENTS: usize = 200;

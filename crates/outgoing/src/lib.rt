@@ -1,7 +1,7 @@
 // Ready documents that wait to be sent, 01's trays: presentations and returns, each a run of whole documents with a cursor
 // that counts how many of them are sent. The caller moves the cursors. What the words mean stands in specs/.
 use codes::refusal::Refusal;
-use document::BYTES;
+use document::DOCUMENT_BYTES;
 use document::MOST_DOCUMENTS;
 use packed::pieces::piece_at;
 ghost use mathlib.Core.Path.{_≡_};
@@ -19,7 +19,7 @@ pub enum Answer {
 fn tray_good(tray: &[u8], cursor: usize) -> bool
     ensures { λ r. ⌜ r ≡ trayGood (now (tray .entry)) cursor ⌝ }
 {
-    (tray.len() % BYTES == 0) & (cursor <= tray.len() / BYTES)
+    (tray.len() % DOCUMENT_BYTES == 0) & (cursor <= tray.len() / DOCUMENT_BYTES)
 }
 
 // Whether both are good.
@@ -34,8 +34,8 @@ fn next_of<'a>(tray: &'a [u8], cursor: usize) -> &'a [u8]
     requires { ⌜ trayGood (now tray) cursor ≡ true ⌝ }
     ensures { λ r. ⌜ now r ≡ nextOf (now (tray .entry)) cursor ⌝ }
 {
-    let at = cursor * BYTES;
-    piece_at(tray, at, MOST_DOCUMENTS * BYTES)
+    let at = cursor * DOCUMENT_BYTES;
+    piece_at(tray, at, MOST_DOCUMENTS * DOCUMENT_BYTES)
 }
 
 // The documents of the next detail: presentations while any remain, then returns, never both; nothing when all are sent,
@@ -49,7 +49,7 @@ pub fn next<'a>(
     ensures { λ r. ⌜ now r ≡ next (now (presentations .entry)) (now (returns .entry)) presented returned ⌝ }
 {
     if both_good(presentations, returns, presented, returned) {
-        if presented < presentations.len() / BYTES {
+        if presented < presentations.len() / DOCUMENT_BYTES {
             return next_of(presentations, presented);
         }
         return next_of(returns, returned);

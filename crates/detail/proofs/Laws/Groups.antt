@@ -5,8 +5,9 @@ use mathlib.Core.List.{List, [], _∷_}
 use Prim.Native.Nat.{ℕ, _+_, _*_, _≤_}
 use native.Mathlib.Omega.{arith}
 use lib.Dec.{eqb, leb, ltb, lit<}
-use lib.ListN.{length, getD}
+use lib.ListN.{length}
 use borrow.Author.Tests.{eqb-true, leb-true, ltb-true, ltb-false, le-leb, lt-leb}
+use Rattle.packed.specs.Part.{byteAt}
 use Rattle.packed.specs.Every.{every}
 use Rattle.packed.specs.Pieces.{cut, pieces}
 use Rattle.packed.proofs.Laws.Pieces.{pieces-step, pieces-count}
@@ -17,7 +18,7 @@ use Rattle.detail.specs.Groups.{groups, isOperation, operationOf, countO
 
 -- what is known of a good group
 pub record Good (g : List ℕ) : Type 0 where
-  pub marked : getD g 1 0 ≡ mark
+  pub marked : byteAt 2 g ≡ mark
   pub operation : isOperation (operationOf g) ≡ true
   pub least : 1 ≤ countOf g
   pub most : countOf g ≤ fullCount
@@ -26,7 +27,7 @@ pub record Good (g : List ℕ) : Type 0 where
 pub good : (g : List ℕ) → groupGood g ≡ true → Good g
 unfolding groupGood
 good g e =
-    let marked = eqb (getD g 1 0) mark in
+    let marked = eqb (byteAt 2 g) mark in
     let operation = isOperation (operationOf g) in
     let count = between 1 fullCount (countOf g) in
     let whole = eqb (length g) (headBytes + countOf g * documentBytes) in
@@ -35,7 +36,7 @@ good g e =
     let first = and-eq-true-iff marked operation .0 (third .0) in
     let range = and-eq-true-iff (leb 1 (countOf g)) (leb (countOf g) fullCount) .0 (third .1) in
     record {
-      marked = eqb-true (getD g 1 0) mark (first .0);
+      marked = eqb-true (byteAt 2 g) mark (first .0);
       operation = first .1;
       least = leb-true 1 (countOf g) (range .0);
       most = leb-true (countOf g) fullCount (range .1);

@@ -2,30 +2,29 @@
 -- own bytes with the free bytes 00.
 use mathlib.Core.Path.{_≡_, refl, ap, sym, _∙_}
 use mathlib.Core.Bool.{Bool, true, false, _&&_, _||_, and-eq-true-iff}
-use mathlib.Core.List.{List, [], _∷_, _++_, map, flatMap, append-nil}
-use Prim.Native.Nat.{ℕ, zero, suc, _+_, _/_, _≤_, _<_}
+use mathlib.Core.List.{List, [], _∷_, _++_, map, flatMap}
+use Prim.Native.Nat.{ℕ, _+_, _/_, _≤_, _<_}
 use native.Mathlib.Omega.{arith}
-use lib.Dec.{eqb, leb, lit<}
-use lib.ListN.{length, take, drop, length-drop, drop-of-length-le}
-use lib.Seq.{take-all, length-take-le}
-use borrow.Author.Tests.{leb-true, leb-false, eqb-true}
+use lib.Dec.{eqb, lit<}
+use lib.ListN.{length, drop, length-drop}
+use borrow.Author.Tests.{eqb-true}
 use Rattle.packed.specs.Every.{every}
-use Rattle.packed.specs.Pieces.{cut, pieces}
+use Rattle.packed.specs.Pieces.{pieces}
 use Rattle.packed.specs.Writing.{packedByte}
-use Rattle.packed.proofs.Laws.Every.{every-cons, every-both}
+use Rattle.packed.proofs.Laws.Every.{every-both}
 use Rattle.packed.proofs.Laws.FlatMap.{flat-map, flat-flat, flat-same}
 use Rattle.packed.proofs.Laws.Pieces.{pieces-flat, pieces-made}
 use Rattle.document.specs.Limits.{documentBytes}
 use Rattle.document.specs.Rules.{between}
 use Rattle.document.specs.Fields.{fieldsGood, amountsGood}
 use Rattle.document.specs.Drawee.{draweeServed}
-use Rattle.detail.specs.Limits.{headBytes, mostGroups, groupBytes}
+use Rattle.detail.specs.Limits.{headBytes, mostGroups, fillBytes, groupBytes}
 use Rattle.detail.specs.Groups.{groups, isOperation, operationOf, groupGood, shapeGood, oneOperation, groupDocuments, documents}
 use Rattle.detail.specs.Codes.{receivedCode, sendable}
 use Rattle.detail.specs.Writing.{writtenGroup, written, partOf, cleared}
 use Rattle.detail.proofs.Laws.Groups.{Good, good}
 use Rattle.detail.proofs.Laws.Codes.{sendable-part, judged, received}
-use Rattle.detail.proofs.Laws.Writing.{fill, documents-written, operation-written, one-written, shape-written}
+use Rattle.detail.proofs.Laws.Writing.{documents-written, operation-written, one-written, shape-written}
 
 -- the byte of operation 30 or 40 is one of the two of a group
 operation-byte : (operation : ℕ) → eqb operation 30 || eqb operation 40 ≡ true → isOperation (packedByte operation) ≡ true
@@ -55,9 +54,9 @@ heads-dropped gs = flat-flat (λ (d : List ℕ). d) groupDocuments gs ∙ all gs
     all (g ∷ gs) = λ i. pieces-flat documentBytes (lit< tt) (drop headBytes g) i ++ all gs i
 
 -- and is cut into the same pieces again
-cut-again : (body : List ℕ) → every groupGood (pieces groupBytes body) ≡ true → pieces fill (flatMap (drop headBytes) (pieces groupBytes body)) ≡ map (drop headBytes) (pieces groupBytes body)
+cut-again : (body : List ℕ) → every groupGood (pieces groupBytes body) ≡ true → pieces fillBytes (flatMap (drop headBytes) (pieces groupBytes body)) ≡ map (drop headBytes) (pieces groupBytes body)
 cut-again body e =
-    pieces-made groupBytes fill (lit< tt) (lit< tt) (drop headBytes) groupGood
+    pieces-made groupBytes fillBytes (lit< tt) (lit< tt) (drop headBytes) groupGood
     (λ (g : List ℕ) (e : groupGood g ≡ true) (h : length g ≡ groupBytes). simp length-drop (omega arith))
     (λ (g : List ℕ) (e : groupGood g ≡ true) (h : length g ≤ groupBytes). let known = good g e in (simp length-drop (omega arith), simp length-drop (omega arith)))
     body
@@ -80,7 +79,7 @@ read-then-written body shape one =
     let operation = operationOf body in
     let same : List ℕ → Bool = λ (g : List ℕ). eqb (operationOf g) operation in
     let all = and-eq-true-iff (between 1 mostGroups (length gs)) (every groupGood gs) .0 shape .1 in
-    ap (λ (p : List ℕ). flatMap (writtenGroup operation) (pieces fill p)) (heads-dropped gs)
+    ap (λ (p : List ℕ). flatMap (writtenGroup operation) (pieces fillBytes p)) (heads-dropped gs)
     ∙ ap (flatMap (writtenGroup operation)) (cut-again body all)
     ∙ flat-map (writtenGroup operation) (drop headBytes) gs
     ∙ flat-same (λ (g : List ℕ). groupGood g && same g) (λ (g : List ℕ). writtenGroup operation (drop headBytes g)) (λ (g : List ℕ). 0x00 ∷ drop 1 g) (λ (g : List ℕ) (e : groupGood g && same g ≡ true). kept g e) gs (every-both groupGood same gs ∙ (λ i. all i && one i))

@@ -1,13 +1,12 @@
 -- Laws of a written detail: how it grows group by group, and what its receiver reads of it.
 use mathlib.Core.Path.{_≡_, refl, ap, sym, _∙_}
-use mathlib.Core.Bool.{Bool, true, false, _&&_, and-eq-true-iff}
-use mathlib.Core.List.{List, [], _∷_, _++_, map, flatMap, append-nil}
+use mathlib.Core.Bool.{Bool, true, _&&_, and-eq-true-iff}
+use mathlib.Core.List.{List, [], _∷_, _++_, map, flatMap}
 use Prim.Native.Nat.{ℕ, zero, suc, _+_, _*_, _/_, _%_, _≤_, _<_}
 use native.Mathlib.Omega.{arith}
-use lib.Dec.{eqb, leb, lit<}
-use lib.ListN.{length, take, drop, length-append, length-take, length-drop, length-map, drop-of-length-le}
-use lib.Seq.{length-take-le, take-all}
-use borrow.Author.Tests.{leb-true, leb-false, le-leb, eqb-true, eq-eqb}
+use lib.Dec.{eqb, lit<}
+use lib.ListN.{length, take, drop, length-append, length-take, length-drop, length-map}
+use borrow.Author.Tests.{le-leb, eqb-true, eq-eqb}
 use Rattle.packed.specs.Part.{part}
 use Rattle.packed.specs.Every.{every}
 use Rattle.packed.specs.Pieces.{cut, pieces}
@@ -16,77 +15,73 @@ use Rattle.packed.proofs.Laws.FlatMap.{flat-map}
 use Rattle.packed.proofs.Laws.Pieces.{pieces-at, pieces-end, pieces-step, pieces-within, pieces-made, few-pieces}
 use Rattle.document.specs.Limits.{documentBytes, mostDocuments}
 use Rattle.document.specs.Rules.{between}
-use Rattle.detail.specs.Limits.{fullCount, mostGroups, groupBytes}
+use Rattle.detail.specs.Limits.{fullCount, mostGroups, fillBytes, groupBytes}
 use Rattle.detail.specs.Groups.{groups, isOperation, operationOf, groupGood, shapeGood, oneOperation, groupDocuments, documents}
 use Rattle.detail.specs.Writing.{writtenGroup, written}
 
--- the bytes of a full group's documents
-abbrev pub fill : ℕ
-fill = fullCount * documentBytes
-
 -- what is still to be written from place at of a part on
 abbrev pub rest : (operation at : ℕ) → List ℕ → List ℕ
-rest operation at p = flatMap (writtenGroup operation) (pieces fill (drop at p))
+rest operation at p = flatMap (writtenGroup operation) (pieces fillBytes (drop at p))
 
 module _ (operation at : ℕ) (p : List ℕ) where
-  pub rest-step : at < length p → rest operation at p ≡ writtenGroup operation (part at fill p) ++ rest operation (at + fill) p
+  pub rest-step : at < length p → rest operation at p ≡ writtenGroup operation (part at fillBytes p) ++ rest operation (at + fillBytes) p
   unfolding flatMap
-  rest-step h = ap (flatMap (writtenGroup operation)) (pieces-at fill (lit< tt) at p h)
+  rest-step h = ap (flatMap (writtenGroup operation)) (pieces-at fillBytes (lit< tt) at p h)
 
   pub rest-end : length p ≤ at → rest operation at p ≡ []
   unfolding flatMap
-  rest-end h = ap (flatMap (writtenGroup operation)) (pieces-end fill (lit< tt) at p h)
+  rest-end h = ap (flatMap (writtenGroup operation)) (pieces-end fillBytes (lit< tt) at p h)
 
-  pub rest-length : at < length p → length (rest operation at p) ≡ 4 + length (part at fill p) + length (rest operation (at + fill) p)
-  rest-length h = ap length (rest-step h) ∙ length-append (writtenGroup operation (part at fill p)) (rest operation (at + fill) p) ∙ omega arith
+  pub rest-length : at < length p → length (rest operation at p) ≡ 4 + length (part at fillBytes p) + length (rest operation (at + fillBytes) p)
+  rest-length h = ap length (rest-step h) ∙ length-append (writtenGroup operation (part at fillBytes p)) (rest operation (at + fillBytes) p) ∙ omega arith
 
 -- what is left of a list once a group's documents are taken is shorter
-shorter : (x : ℕ) (s : List ℕ) → length (drop fill (x ∷ s)) ≤ length s
+shorter : (x : ℕ) (s : List ℕ) → length (drop fillBytes (x ∷ s)) ≤ length s
 shorter x s = simp length-drop (omega arith)
 
 module _ (operation : ℕ) where
   -- a written detail is cut into the groups that it was made of
-  pub groups-written : (p : List ℕ) → groups (written operation p) ≡ map (writtenGroup operation) (pieces fill p)
+  pub groups-written : (p : List ℕ) → groups (written operation p) ≡ map (writtenGroup operation) (pieces fillBytes p)
   unfolding groups written
   groups-written p =
-      pieces-made fill groupBytes (lit< tt) (lit< tt) (writtenGroup operation) (λ (ds : List ℕ). true) (λ (ds : List ℕ) (e : true ≡ true) (h : length ds ≡ fill). omega arith) (λ (ds : List ℕ) (e : true ≡ true) (h : length ds ≤ fill). (omega arith, omega arith)) p
-      (every-always (λ (ds : List ℕ). true) (λ (ds : List ℕ). refl) (pieces fill p))
+      pieces-made fillBytes groupBytes (lit< tt) (lit< tt) (writtenGroup operation) (λ (ds : List ℕ). true) (λ (ds : List ℕ) (e : true ≡ true) (h : length ds ≡ fillBytes). omega arith) (λ (ds : List ℕ) (e : true ≡ true) (h : length ds ≤ fillBytes). (omega arith, omega arith)) p
+      (every-always (λ (ds : List ℕ). true) (λ (ds : List ℕ). refl) (pieces fillBytes p))
 
   -- the documents of a written detail are those of the part, in order and to the byte
   pub documents-written : (p : List ℕ) → documents (written operation p) ≡ pieces documentBytes p
   unfolding documents
   documents-written p =
       ap (flatMap groupDocuments) (groups-written p)
-      ∙ flat-map groupDocuments (writtenGroup operation) (pieces fill p)
+      ∙ flat-map groupDocuments (writtenGroup operation) (pieces fillBytes p)
       ∙ pieces-within documentBytes fullCount (lit< tt) (lit< tt) p
 
   pub operation-written : (p : List ℕ) → 0 < length p → operationOf (written operation p) ≡ operation
   unfolding written flatMap
-  operation-written p h = ap (λ (l : List (List ℕ)). operationOf (flatMap (writtenGroup operation) l)) (pieces-step fill (lit< tt) p h)
+  operation-written p h = ap (λ (l : List (List ℕ)). operationOf (flatMap (writtenGroup operation) l)) (pieces-step fillBytes (lit< tt) p h)
 
   pub one-written : (p : List ℕ) → 0 < length p → oneOperation (written operation p) ≡ true
   unfolding oneOperation
   one-written p h =
       ap (every (λ (g : List ℕ). eqb (operationOf g) (operationOf (written operation p)))) (groups-written p)
-      ∙ every-map (λ (g : List ℕ). eqb (operationOf g) (operationOf (written operation p))) (writtenGroup operation) (pieces fill p)
-      ∙ every-always (λ (ds : List ℕ). eqb operation (operationOf (written operation p))) (λ (ds : List ℕ). eq-eqb operation (operationOf (written operation p)) (sym (operation-written p h))) (pieces fill p)
+      ∙ every-map (λ (g : List ℕ). eqb (operationOf g) (operationOf (written operation p))) (writtenGroup operation) (pieces fillBytes p)
+      ∙ every-always (λ (ds : List ℕ). eqb operation (operationOf (written operation p))) (λ (ds : List ℕ). eq-eqb operation (operationOf (written operation p)) (sym (operation-written p h))) (pieces fillBytes p)
 
 -- 1 to 4 whole documents
 abbrev wholeFew : List ℕ → Bool
 wholeFew ds = between 1 fullCount (length ds / documentBytes) && eqb (length ds % documentBytes) 0
 
 -- they are so in each piece of a part of whole documents
-few : (n : ℕ) (p : List ℕ) → length p ≤ n → length p % documentBytes ≡ 0 → every wholeFew (pieces fill p) ≡ true
+few : (n : ℕ) (p : List ℕ) → length p ≤ n → length p % documentBytes ≡ 0 → every wholeFew (pieces fillBytes p) ≡ true
 unfolding cut every
 few zero [] h w = refl
 few zero (x ∷ s) h w = absurd (omega arith)
 few (suc n) [] h w = refl
 few (suc n) (x ∷ s) h w =
-    let left : length (drop fill (x ∷ s)) % documentBytes ≡ 0 = simp length-drop (omega arith) in
-    ap (every wholeFew) (pieces-step fill (lit< tt) (x ∷ s) (omega arith))
-    ∙ λ i. piece (take fill (x ∷ s)) (simp length-take (omega arith)) (simp length-take (omega arith)) (simp length-take (omega arith)) i && few n (drop fill (x ∷ s)) (omega (arith, shorter x s)) left i
+    let left : length (drop fillBytes (x ∷ s)) % documentBytes ≡ 0 = simp length-drop (omega arith) in
+    ap (every wholeFew) (pieces-step fillBytes (lit< tt) (x ∷ s) (omega arith))
+    ∙ λ i. piece (take fillBytes (x ∷ s)) (simp length-take (omega arith)) (simp length-take (omega arith)) (simp length-take (omega arith)) i && few n (drop fillBytes (x ∷ s)) (omega (arith, shorter x s)) left i
   where
-    piece : (ds : List ℕ) → 0 < length ds → length ds ≤ fill → length ds % documentBytes ≡ 0 → wholeFew ds ≡ true
+    piece : (ds : List ℕ) → 0 < length ds → length ds ≤ fillBytes → length ds % documentBytes ≡ 0 → wholeFew ds ≡ true
     piece ds a b c =
         let n = length ds / documentBytes in
         rw (le-leb 1 n (omega arith), le-leb n fullCount (omega arith), eq-eqb (length ds % documentBytes) 0 c)
@@ -103,9 +98,9 @@ whole-group operation ds o e =
 pub shape-written : (operation : ℕ) (p : List ℕ) → isOperation operation ≡ true → 0 < length p → length p ≤ mostDocuments * documentBytes → length p % documentBytes ≡ 0 → shapeGood (written operation p) ≡ true
 unfolding shapeGood
 shape-written operation p o some most whole =
-    let ps = pieces fill p in
+    let ps = pieces fillBytes p in
     let count = length-map ps (writtenGroup operation) in
-    let least : 1 ≤ length ps = omega (arith, ap length (pieces-step fill (lit< tt) p some)) in
+    let least : 1 ≤ length ps = omega (arith, ap length (pieces-step fillBytes (lit< tt) p some)) in
     let good = every-then wholeFew (λ (ds : List ℕ). groupGood (writtenGroup operation ds)) (λ (ds : List ℕ) (e : wholeFew ds ≡ true). whole-group operation ds o e) ps (few (length p) p (omega arith) whole) in
-    rw (groups-written operation p, count, le-leb 1 (length ps) least, le-leb (length ps) mostGroups (few-pieces fill (lit< tt) mostGroups p (omega arith)))
+    rw (groups-written operation p, count, le-leb 1 (length ps) least, le-leb (length ps) mostGroups (few-pieces fillBytes (lit< tt) mostGroups p (omega arith)))
     (every-map groupGood (writtenGroup operation) ps ∙ good)

@@ -8,8 +8,9 @@ use lib.ListN.{length, length-take}
 use lib.Seq.{sets}
 use Rattle.packed.specs.Part.{part}
 use Rattle.packed.proofs.Laws.Writing.{sets-append}
+use Rattle.detail.specs.Limits.{fillBytes}
 use Rattle.detail.specs.Writing.{writtenGroup, written}
-use Rattle.detail.proofs.Laws.Writing.{fill, rest, rest-step, rest-end, rest-length}
+use Rattle.detail.proofs.Laws.Writing.{rest, rest-step, rest-end, rest-length}
 use Rattle.detail.proofs.writing.write_detail.Statement.{statement}
 use Rattle.detail.proofs.writing.write_detail.Tie as tie
 
@@ -35,7 +36,7 @@ Here c =
     let t = c .before .before in
     let a = t .before .before .before .args in
     let n = length (c .piece-at .result .now) in
-    (length (rest (a .operation) (t .loop .at) (a .part .now)) ≡ 4 + n + length (rest (a .operation) (t .loop .at + fill) (a .part .now))) × (n ≤ fill)
+    (length (rest (a .operation) (t .loop .at) (a .part .now)) ≡ 4 + n + length (rest (a .operation) (t .loop .at + fillBytes) (a .part .now))) × (n ≤ fillBytes)
 
 here : (c : tie.After-piece-at Inv-loop μ-loop) → Here c
 here c =
@@ -66,12 +67,12 @@ loop-again c =
     let h = here p in
     let to = t .loop .to in
     let at = t .loop .at in
-    let group = writtenGroup (a .operation) (part at fill (a .part .now)) in
-    let size : to + (4 + length (part at fill (a .part .now))) ≡ to + length group = omega arith in (
+    let group = writtenGroup (a .operation) (part at fillBytes (a .part .now)) in
+    let size : to + (4 + length (part at fillBytes (a .part .now))) ≡ to + length group = omega arith in (
       c .before .before .write-group .kept .0 ∙ t .loop .inv .0,
       omega arith,
       rw (c .before .before .write-group .ensures, p .piece-at .ensures, size)
-          (sets-append group (rest (a .operation) (at + fill) (a .part .now)) (t .loop .out) to
+          (sets-append group (rest (a .operation) (at + fillBytes) (a .part .now)) (t .loop .out) to
           ∙ ap (sets (t .loop .out) to) (sym (rest-step (a .operation) at (a .part .now) (omega arith)))
           ∙ t .loop .inv .2),
     )
