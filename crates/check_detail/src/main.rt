@@ -1,7 +1,7 @@
 // The check program (01, 'The check program'): one bare detail body on standard input, for receiving entity 0072 with none
 // represented; on standard output one line with the code in two digits, documents, nominal and commission.
-use detail::exported::Checked;
-use detail::exported::line_check_detail;
+use detail::checked::Checked;
+use detail::checked::line_check_detail;
 
 fn print(c: Checked) {
     if c.code < 10 {

@@ -5,19 +5,19 @@ use mathlib.Core.List.{List}
 use Rattle.amounts.specs.declared.Totals.{Totals}
 use Rattle.codes.specs.Chain.{_when_, _orelse_}
 use Rattle.document.specs.Entities.{entitiesGood}
-use Rattle.detail.specs.declared.exported.Checked.{Checked}
+use Rattle.detail.specs.declared.checked.Checked.{Checked}
 use Rattle.detail.specs.Groups.{documents}
-use Rattle.detail.specs.Codes.{receivedCode, accepted}
+use Rattle.detail.specs.Codes.{receiverCode, acceptedTotals}
 
 -- entities outside the limits of a start come before the codes
 unfoldable pub checkedCode : (own : ℕ) (represented body : List ℕ) → ℕ
 checkedCode own represented body =
     24 when not (entitiesGood own represented)
-    orelse receivedCode own represented body
+    orelse receiverCode own represented body
 
 -- a code and totals, as four numbers
 abbrev pub numbers : ℕ → Totals → Checked
 numbers code t = record { code = code; documents = t .documents .0; nominal = t .nominal .0; commission = t .commission .0 }
 
 unfoldable pub checked : (own : ℕ) (represented body : List ℕ) → Checked
-checked own represented body = numbers (checkedCode own represented body) (accepted (checkedCode own represented body) (documents body))
+checked own represented body = numbers (checkedCode own represented body) (acceptedTotals (checkedCode own represented body) (documents body))

@@ -8,12 +8,12 @@ use Rattle.detail.specs.Limits.{mark, fillBytes}
 use Rattle.detail.specs.Groups.{groups, documents}
 
 -- a group of some documents, its free byte 00
-abbrev pub writtenGroup : (operation : ℕ) → List ℕ → List ℕ
-writtenGroup operation ds = 0x00 ∷ mark ∷ operation ∷ length ds / documentBytes ∷ ds
+abbrev pub writtenGroup : (operationByte : ℕ) → List ℕ → List ℕ
+writtenGroup operationByte ds = 0x00 ∷ mark ∷ operationByte ∷ length ds / documentBytes ∷ ds
 
 -- groups of four, the last with the documents that are left
-unfoldable pub written : (operation : ℕ) → List ℕ → List ℕ
-written operation part = flatMap (writtenGroup operation) (pieces fillBytes part)
+unfoldable pub written : (operationByte : ℕ) → List ℕ → List ℕ
+written operationByte part = flatMap (writtenGroup operationByte) (pieces fillBytes part)
 
 -- the documents of a body as one part
 unfoldable pub partOf : List ℕ → List ℕ

@@ -3,7 +3,7 @@ use crate::groups::GROUP_BYTES;
 use crate::groups::HEAD_BYTES;
 use document::DOCUMENT_BYTES;
 use document::found::Found;
-use document::found::read;
+use document::found::read_document;
 use packed::pieces::piece_at;
 ghost use mathlib.Core.Path.{_≡_};
 ghost use mathlib.Core.Bool.{true};
@@ -28,7 +28,7 @@ pub fn read_documents(part: &[u8], operation: u8, receiving: u16, represented: &
     let mut end = DOCUMENT_BYTES;
     while end <= part.len() {
         let at = end - DOCUMENT_BYTES;
-        found = found.join(read(&part[at..end], operation, receiving, represented));
+        found = found.join(read_document(&part[at..end], operation, receiving, represented));
         end += DOCUMENT_BYTES;
     }
     found

@@ -58,7 +58,6 @@ pub struct Heads {
 
 // Whether every group is good, and whether all have one operation: one pass over the heads.
 pub fn read_heads(body: &[u8]) -> Heads
-    requires { ⌜ length (now body) ≤ longestBody ⌝ }
     ensures good { λ r. ⌜ r .good ≡ every groupGood (groups (now (body .entry))) ⌝ }
     ensures one { λ r. ⌜ r .one ≡ oneOperation (now (body .entry)) ⌝ }
 {

@@ -1,8 +1,8 @@
 // A detail (01, 'Detail'): the groups of a body, its codes and totals; and the writing of a body from documents. What the
 // words mean stands in specs/.
 
+pub mod checked;
 pub mod documents;
-pub mod exported;
 pub mod groups;
 pub mod reading;
 pub mod verdict;

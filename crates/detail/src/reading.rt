@@ -10,18 +10,20 @@ use crate::verdict::refused;
 use codes::reply::Code;
 use document::DOCUMENT_BYTES;
 use document::MOST_DOCUMENTS;
+use document::PRESENTED_NUMBER;
+use document::RETURNED_NUMBER;
 use packed::writing::packed_byte;
 ghost use mathlib.Core.Path.{_≡_};
 ghost use Rattle.packed.specs.Pieces.{pieces};
 ghost use Rattle.codes.specs.Reply.{codeNumber};
 ghost use Rattle.document.specs.Limits.{documentBytes};
 ghost use Rattle.detail.specs.Groups.{documents};
-ghost use Rattle.detail.specs.Codes.{receivedCode, presentedCode, sendable, accepted};
+ghost use Rattle.detail.specs.Codes.{receiverCode, presenterCode, sendable, acceptedTotals};
 
 // A received body. Its documents are passed over once, after its heads.
 pub fn read_detail(body: &[u8], own: u16, represented: &[u16]) -> Verdict
-    ensures code { λ r. ⌜ codeNumber (r .code) ≡ receivedCode own (now (represented .entry)) (now (body .entry)) ⌝ }
-    ensures totals { λ r. ⌜ r .totals ≡ accepted (codeNumber (r .code)) (documents (now (body .entry))) ⌝ }
+    ensures code { λ r. ⌜ codeNumber (r .code) ≡ receiverCode own (now (represented .entry)) (now (body .entry)) ⌝ }
+    ensures totals { λ r. ⌜ r .totals ≡ acceptedTotals (codeNumber (r .code)) (documents (now (body .entry))) ⌝ }
 {
     if (body.len() < 1) | (LONGEST_BODY < body.len()) {
         return refused(Code::WrongField);
@@ -38,20 +40,20 @@ pub fn read_detail(body: &[u8], own: u16, represented: &[u16]) -> Verdict
     refused(Code::WrongField)
 }
 
-// Whether a detail may be sent from an operation and a part.
+// Whether a detail may be sent from an operation, the plain number, and a part.
 pub fn sendable(operation: u8, part: &[u8]) -> bool
     ensures { λ r. ⌜ r ≡ sendable operation (now (part .entry)) ⌝ }
 {
     let documents = part.len() / DOCUMENT_BYTES;
-    ((operation == 30) | (operation == 40))
+    ((operation == PRESENTED_NUMBER) | (operation == RETURNED_NUMBER))
         & (part.len() % DOCUMENT_BYTES == 0)
         & ((1 <= documents) & (documents <= MOST_DOCUMENTS))
 }
 
-// A part that is to be sent. The presenter is not asked about drawees.
+// A part that is to be sent, with the operation's plain number. What was found of drawees is left aside.
 pub fn read_part(operation: u8, part: &[u8], partner: u16) -> Verdict
-    ensures code { λ r. ⌜ codeNumber (r .code) ≡ presentedCode operation partner (now (part .entry)) ⌝ }
-    ensures totals { λ r. ⌜ r .totals ≡ accepted (codeNumber (r .code)) (pieces documentBytes (now (part .entry))) ⌝ }
+    ensures code { λ r. ⌜ codeNumber (r .code) ≡ presenterCode operation partner (now (part .entry)) ⌝ }
+    ensures totals { λ r. ⌜ r .totals ≡ acceptedTotals (codeNumber (r .code)) (pieces documentBytes (now (part .entry))) ⌝ }
 {
     if sendable(operation, part) {
         let nobody = [0u16; 1];

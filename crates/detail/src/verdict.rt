@@ -2,18 +2,16 @@
 use amounts::Totals;
 use codes::reply::Code;
 ghost use mathlib.Core.Path.{_≡_};
-ghost use mathlib.Core.Bool.{not};
 ghost use Rattle.amounts.specs.Totals.{zeros};
-ghost use Rattle.codes.specs.Chain.{_when_, _orelse_};
 ghost use Rattle.codes.specs.Reply.{codeNumber};
-ghost use Rattle.detail.specs.Codes.{ifAccepted};
+ghost use Rattle.detail.specs.Codes.{judged, ifAccepted};
 
 pub struct Verdict {
     pub code: Code,
     pub totals: Totals,
 }
 
-// A code other than 00.
+// A code that accepts nothing.
 pub fn refused(code: Code) -> Verdict
     ensures { λ r. ⌜ (r .code ≡ code) × (r .totals ≡ zeros) ⌝ }
 {
@@ -23,9 +21,9 @@ pub fn refused(code: Code) -> Verdict
     }
 }
 
-// The first of 01, 03 and 06 that has something against the documents.
+// The first of 01, 03 and 06 that a document earns, or 00.
 pub fn judge(fields: bool, amounts: bool, served: bool, totals: Totals) -> Verdict
-    ensures code { λ r. ⌜ codeNumber (r .code) ≡ (1 when not fields orelse 3 when not amounts orelse 6 when not served) ⌝ }
+    ensures code { λ r. ⌜ codeNumber (r .code) ≡ judged fields amounts served ⌝ }
     ensures totals { λ r. ⌜ r .totals ≡ ifAccepted (codeNumber (r .code)) totals ⌝ }
 {
     if fields {

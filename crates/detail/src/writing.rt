@@ -9,7 +9,6 @@ ghost use mathlib.Core.Path.{_≡_};
 ghost use Prim.Native.Nat.{_+_, _*_, _≤_};
 ghost use lib.ListN.{length};
 ghost use lib.Seq.{sets};
-ghost use Rattle.document.specs.Limits.{documentBytes, mostDocuments};
 ghost use Rattle.detail.specs.Limits.{headBytes, fillBytes};
 ghost use Rattle.detail.specs.Writing.{writtenGroup, written};
 
@@ -17,31 +16,30 @@ ghost use Rattle.detail.specs.Writing.{writtenGroup, written};
 const FILL_BYTES: usize = FULL_COUNT * DOCUMENT_BYTES;
 
 // Writes one group of at most four documents at `to`; every other byte keeps its value.
-fn write_group(out: &mut [u8], to: usize, operation: u8, documents: &[u8])
+fn write_group(out: &mut [u8], to: usize, operation_byte: u8, documents: &[u8])
     requires { ⌜ to + headBytes + length (now documents) ≤ length (now out) ⌝ }
     requires { ⌜ length (now documents) ≤ fillBytes ⌝ }
-    ensures { λ _. ⌜ now (out .exit) ≡ sets (now (out .entry)) to (writtenGroup operation (now (documents .entry))) ⌝ }
+    ensures { λ _. ⌜ now (out .exit) ≡ sets (now (out .entry)) to (writtenGroup «operation_byte» (now (documents .entry))) ⌝ }
 {
     out[to] = 0;
     out[to + 1] = MARK;
-    out[to + 2] = operation;
+    out[to + 2] = operation_byte;
     out[to + 3] = (documents.len() / DOCUMENT_BYTES) as u8;
     copy(out, to + HEAD_BYTES, documents);
 }
 
 // Writes a body from the operation byte and the part at the start of `out`, and answers its length; every other byte keeps
 // its value.
-pub fn write_detail(out: &mut [u8], operation: u8, part: &[u8]) -> usize
-    requires { ⌜ length (now part) ≤ mostDocuments * documentBytes ⌝ }
-    requires { ⌜ length (written operation (now part)) ≤ length (now out) ⌝ }
-    ensures length { λ r. ⌜ r ≡ length (written operation (now (part .entry))) ⌝ }
-    ensures bytes { λ _. ⌜ now (out .exit) ≡ sets (now (out .entry)) 0 (written operation (now (part .entry))) ⌝ }
+pub fn write_detail(out: &mut [u8], operation_byte: u8, part: &[u8]) -> usize
+    requires { ⌜ length (written «operation_byte» (now part)) ≤ length (now out) ⌝ }
+    ensures length { λ r. ⌜ r ≡ length (written «operation_byte» (now (part .entry))) ⌝ }
+    ensures bytes { λ _. ⌜ now (out .exit) ≡ sets (now (out .entry)) 0 (written «operation_byte» (now (part .entry))) ⌝ }
 {
     let mut to: usize = 0;
     let mut at: usize = 0;
     while at < part.len() {
         let documents = piece_at(part, at, FILL_BYTES);
-        write_group(out, to, operation, documents);
+        write_group(out, to, operation_byte, documents);
         to += HEAD_BYTES + documents.len();
         at += FILL_BYTES;
     }

@@ -1,10 +1,16 @@
--- 01, 'Detail': the two operations, as the byte of a group has them.
+-- 01, 'Detail' and 'Trays': the two operations, as a group's byte and as the plain number that a caller says.
 use Prim.Native.Nat.{ℕ}
 
--- 30, documents presented for payment
+-- documents presented for payment
 abbrev pub presented : ℕ
 presented = 0x30
 
--- 40, documents that come back unpaid
+abbrev pub presentedNumber : ℕ
+presentedNumber = 30
+
+-- documents that come back unpaid
 abbrev pub returned : ℕ
 returned = 0x40
+
+abbrev pub returnedNumber : ℕ
+returnedNumber = 40

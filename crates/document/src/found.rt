@@ -52,7 +52,7 @@ impl Found {
 
 // Of one document, read once. Its receiving entity has to be `receiving`, which is also the first of those that its drawee
 // may be. The bounds hold of any bytes, so that callers may add before they know whether the digits are good.
-pub fn read(d: &[u8], operation: u8, receiving: u16, represented: &[u16]) -> Found
+pub fn read_document(d: &[u8], operation: u8, receiving: u16, represented: &[u16]) -> Found
     requires { ⌜ length (now d) ≡ documentBytes ⌝ }
     ensures found { λ r. ⌜ r ≡ found operation receiving (now (represented .entry)) (now (d .entry)) ⌝ }
     ensures bound { λ r. ⌜ Within 1 (r .totals) ⌝ }

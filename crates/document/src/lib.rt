@@ -8,10 +8,14 @@ pub mod entities;
 pub mod found;
 pub mod rules;
 
-// The operation byte of a group of presented documents, and of a group of returns.
+// The operation byte of a group of presented documents, and of a group of returns; and the plain numbers of the two.
 pub const PRESENTED: u8 = 0x30;
 
 pub const RETURNED: u8 = 0x40;
+
+pub const PRESENTED_NUMBER: u8 = 30;
+
+pub const RETURNED_NUMBER: u8 = 40;
 
 // The bytes of a document, and the most documents of a detail.
 pub const DOCUMENT_BYTES: usize = 51;

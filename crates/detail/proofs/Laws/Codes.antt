@@ -12,15 +12,16 @@ use Rattle.packed.specs.Writing.{packedByte}
 use Rattle.codes.specs.Chain.{_when_, _orelse_}
 use Rattle.codes.proofs.Laws.Chain.{applies, passes, last}
 use Rattle.document.specs.Limits.{documentBytes, mostDocuments}
+use Rattle.document.specs.Operation.{presentedNumber, returnedNumber}
 use Rattle.document.specs.Rules.{between}
 use Rattle.document.specs.Fields.{fieldsGood, amountsGood}
 use Rattle.document.specs.Drawee.{draweeServed}
 use Rattle.detail.specs.Groups.{shapeGood, oneOperation, operationOf, documents}
-use Rattle.detail.specs.Codes.{receivedCode, presentedCode, sendable}
+use Rattle.detail.specs.Codes.{receiverCode, presenterCode, sendable, judged}
 
 -- what is known of a part that may be sent
 pub record Sendable (operation : ℕ) (part : List ℕ) : Type 0 where
-  pub kind : eqb operation 30 || eqb operation 40 ≡ true
+  pub kind : eqb operation presentedNumber || eqb operation returnedNumber ≡ true
   pub whole : length part % documentBytes ≡ 0
   pub least : 1 ≤ length part / documentBytes
   pub most : length part / documentBytes ≤ mostDocuments
@@ -28,7 +29,7 @@ pub record Sendable (operation : ℕ) (part : List ℕ) : Type 0 where
 pub sendable-part : (operation : ℕ) (part : List ℕ) → sendable operation part ≡ true → Sendable operation part
 unfolding sendable
 sendable-part operation part e =
-    let kind = eqb operation 30 || eqb operation 40 in
+    let kind = eqb operation presentedNumber || eqb operation returnedNumber in
     let whole = eqb (length part % documentBytes) 0 in
     let n = length part / documentBytes in
     let last = and-eq-true-iff (kind && whole) (between 1 mostDocuments n) .0 e in
@@ -41,32 +42,28 @@ sendable-part operation part e =
       most = leb-true n mostDocuments (range .1);
     }
 
--- 01, 03 and 06, in this order, of documents of which this is known
-abbrev pub judged : (fields amounts served : Bool) → ℕ
-judged fields amounts served = 1 when not fields orelse 3 when not amounts orelse 6 when not served
-
 module _ (operation partner : ℕ) (part : List ℕ) where
-  pub unsendable : sendable operation part ≡ false → presentedCode operation partner part ≡ 1
-  unfolding presentedCode
+  pub unsendable : sendable operation part ≡ false → presenterCode operation partner part ≡ 1
+  unfolding presenterCode
   unsendable e = applies 1 (not (sendable operation part)) _ (lit< tt) (ap not e)
 
-  pub presented : sendable operation part ≡ true → presentedCode operation partner part ≡ judged (every (fieldsGood (packedByte operation) partner) (pieces documentBytes part)) (every (amountsGood (packedByte operation) partner) (pieces documentBytes part)) true
-  unfolding presentedCode _when_
-  presented e =
+  pub sendable-judged : sendable operation part ≡ true → presenterCode operation partner part ≡ judged (every (fieldsGood (packedByte operation) partner) (pieces documentBytes part)) (every (amountsGood (packedByte operation) partner) (pieces documentBytes part)) true
+  unfolding presenterCode _when_
+  sendable-judged e =
       let fields = every (fieldsGood (packedByte operation) partner) (pieces documentBytes part) in
       let amounts = every (amountsGood (packedByte operation) partner) (pieces documentBytes part) in
       passes 1 (not (sendable operation part)) (1 when not fields orelse 3 when not amounts) (ap not e)
       ∙ ap (λ (n : ℕ). 1 when not fields orelse n) (sym (last (3 when not amounts)))
 
 module _ (own : ℕ) (represented body : List ℕ) where
-  pub misshapen : shapeGood body ≡ false → receivedCode own represented body ≡ 1
-  unfolding receivedCode
+  pub misshapen : shapeGood body ≡ false → receiverCode own represented body ≡ 1
+  unfolding receiverCode
   misshapen e = applies 1 (not (shapeGood body)) _ (lit< tt) (ap not e)
 
-  pub mixed : shapeGood body ≡ true → oneOperation body ≡ false → receivedCode own represented body ≡ 9
-  unfolding receivedCode
+  pub mixed : shapeGood body ≡ true → oneOperation body ≡ false → receiverCode own represented body ≡ 9
+  unfolding receiverCode
   mixed s e = passes 1 (not (shapeGood body)) _ (ap not s) ∙ applies 9 (not (oneOperation body)) _ (lit< tt) (ap not e)
 
-  pub received : shapeGood body ≡ true → oneOperation body ≡ true → receivedCode own represented body ≡ judged (every (fieldsGood (operationOf body) own) (documents body)) (every (amountsGood (operationOf body) own) (documents body)) (every (draweeServed (operationOf body) own represented) (documents body))
-  unfolding receivedCode
-  received s e = passes 1 (not (shapeGood body)) _ (ap not s) ∙ passes 9 (not (oneOperation body)) _ (ap not e)
+  pub shaped-judged : shapeGood body ≡ true → oneOperation body ≡ true → receiverCode own represented body ≡ judged (every (fieldsGood (operationOf body) own) (documents body)) (every (amountsGood (operationOf body) own) (documents body)) (every (draweeServed (operationOf body) own represented) (documents body))
+  unfolding receiverCode
+  shaped-judged s e = passes 1 (not (shapeGood body)) _ (ap not s) ∙ passes 9 (not (oneOperation body)) _ (ap not e)

@@ -1,4 +1,4 @@
--- Both round trips of a detail: what is written from a part reads as that part, and an accepted body that is read and written again is its
+-- Both round trips of a detail: what is written from a part reads as that part, and an acceptedTotals body that is read and written again is its
 -- own bytes with the free bytes 00.
 use mathlib.Core.Path.{_≡_, refl, ap, sym, _∙_}
 use mathlib.Core.Bool.{Bool, true, false, _&&_, _||_, and-eq-true-iff}
@@ -15,33 +15,34 @@ use Rattle.packed.proofs.Laws.Every.{every-both}
 use Rattle.packed.proofs.Laws.FlatMap.{flat-map, flat-flat, flat-same}
 use Rattle.packed.proofs.Laws.Pieces.{pieces-flat, pieces-made}
 use Rattle.document.specs.Limits.{documentBytes}
+use Rattle.document.specs.Operation.{presentedNumber, returnedNumber}
 use Rattle.document.specs.Rules.{between}
 use Rattle.document.specs.Fields.{fieldsGood, amountsGood}
 use Rattle.document.specs.Drawee.{draweeServed}
 use Rattle.detail.specs.Limits.{headBytes, mostGroups, fillBytes, groupBytes}
 use Rattle.detail.specs.Groups.{groups, isOperation, operationOf, groupGood, shapeGood, oneOperation, groupDocuments, documents}
-use Rattle.detail.specs.Codes.{receivedCode, sendable}
+use Rattle.detail.specs.Codes.{receiverCode, sendable, judged}
 use Rattle.detail.specs.Writing.{writtenGroup, written, partOf, cleared}
 use Rattle.detail.proofs.Laws.Groups.{Good, good}
-use Rattle.detail.proofs.Laws.Codes.{sendable-part, judged, received}
+use Rattle.detail.proofs.Laws.Codes.{sendable-part, shaped-judged}
 use Rattle.detail.proofs.Laws.Writing.{documents-written, operation-written, one-written, shape-written}
 
 -- the byte of operation 30 or 40 is one of the two of a group
-operation-byte : (operation : ℕ) → eqb operation 30 || eqb operation 40 ≡ true → isOperation (packedByte operation) ≡ true
+operation-byte : (operation : ℕ) → eqb operation presentedNumber || eqb operation returnedNumber ≡ true → isOperation (packedByte operation) ≡ true
 unfolding packedByte
-operation-byte operation e = go (eqb operation 30) refl e
+operation-byte operation e = go (eqb operation presentedNumber) refl e
   where
-    go : (t : Bool) → eqb operation 30 ≡ t → t || eqb operation 40 ≡ true → isOperation (packedByte operation) ≡ true
-    go true h e = rw (eqb-true operation 30 h)
-    go false h e = rw (eqb-true operation 40 e)
+    go : (t : Bool) → eqb operation presentedNumber ≡ t → t || eqb operation returnedNumber ≡ true → isOperation (packedByte operation) ≡ true
+    go true h e = rw (eqb-true operation presentedNumber h)
+    go false h e = rw (eqb-true operation returnedNumber e)
 
 -- a part that may be sent is judged by its receiver on the very documents of the part
-pub written-then-read : (own operation : ℕ) (represented part : List ℕ) → sendable operation part ≡ true → receivedCode own represented (written (packedByte operation) part) ≡ judged (every (fieldsGood (packedByte operation) own) (pieces documentBytes part)) (every (amountsGood (packedByte operation) own) (pieces documentBytes part)) (every (draweeServed (packedByte operation) own represented) (pieces documentBytes part))
+pub written-then-read : (own operation : ℕ) (represented part : List ℕ) → sendable operation part ≡ true → receiverCode own represented (written (packedByte operation) part) ≡ judged (every (fieldsGood (packedByte operation) own) (pieces documentBytes part)) (every (amountsGood (packedByte operation) own) (pieces documentBytes part)) (every (draweeServed (packedByte operation) own represented) (pieces documentBytes part))
 written-then-read own operation represented part e =
     let fit = sendable-part operation part e in
     let o = packedByte operation in
     let some : 0 < length part = omega arith in
-    received own represented (written o part) (shape-written o part (operation-byte operation (fit .kind)) some (omega arith) (fit .whole)) (one-written o part some)
+    shaped-judged own represented (written o part) (shape-written o part (operation-byte operation (fit .kind)) some (omega arith) (fit .whole)) (one-written o part some)
     ∙ λ i. judged (every (fieldsGood (operation-written o part some i) own) (documents-written o part i)) (every (amountsGood (operation-written o part some i) own) (documents-written o part i)) (every (draweeServed (operation-written o part some i) own represented) (documents-written o part i))
 
 -- the part of a body is its groups without their heads

@@ -44,22 +44,22 @@ loop-holds c =
 sub-at : tie.Need-sub-at Inv-loop μ-loop
 sub-at c = omega arith
 
-sub-read : tie.Need-sub-read Inv-loop μ-loop
-sub-read c = omega arith
+sub-read-document : tie.Need-sub-read-document Inv-loop μ-loop
+sub-read-document c = omega arith
 
-part-read-start : tie.Need-part-read-start Inv-loop μ-loop
-part-read-start c = search needs
+part-read-document-start : tie.Need-part-read-document-start Inv-loop μ-loop
+part-read-document-start c = search needs
 
-part-read-end : tie.Need-part-read-end Inv-loop μ-loop
-part-read-end c = search needs
+part-read-document-end : tie.Need-part-read-document-end Inv-loop μ-loop
+part-read-document-end c = search needs
 
-read-requires : tie.Need-read-requires Inv-loop μ-loop
-read-requires c κs = simp (length-take, length-drop) (omega arith)
+read-document-requires : tie.Need-read-document-requires Inv-loop μ-loop
+read-document-requires c κs = simp (length-take, length-drop) (omega arith)
 
 join-requires : tie.Need-join-requires Inv-loop μ-loop
 join-requires c κs =
     let t = c .before .before .before in
-    within-fits (t .loop .end - documentBytes) 1 (t .loop .found .totals) (c .read .result .totals) (omega arith) (t .loop .inv .3) (c .read .ensures .1)
+    within-fits (t .loop .end - documentBytes) 1 (t .loop .found .totals) (c .read-document .result .totals) (omega arith) (t .loop .inv .3) (c .read-document .ensures .1)
 
 add-end : tie.Need-add-end Inv-loop μ-loop
 add-end c = omega arith
@@ -80,8 +80,8 @@ loop-again c =
       omega arith,
       omega arith,
       rw (c .join .ensures, next)
-          (within-more (at + 1) (at + documentBytes) _ (omega arith) (within-plus at 1 (so .totals) (c .before .read .result .totals) (t .loop .inv .3) (c .before .read .ensures .1))),
-      rw (c .join .ensures, c .before .read .ensures .0, size, next)
+          (within-more (at + 1) (at + documentBytes) _ (omega arith) (within-plus at 1 (so .totals) (c .before .read-document .result .totals) (t .loop .inv .3) (c .before .read-document .ensures .1))),
+      rw (c .join .ensures, c .before .read-document .ensures .0, size, next)
           (found-step (a .operation) (a .receiving) (a .represented .now) so (part at documentBytes (a .part .now)) _
           ∙ ap (λ (ds : List (List ℕ)). join so (foundIn (a .operation) (a .receiving) (a .represented .now) ds)) (sym (pieces-at documentBytes (lit< tt) at (a .part .now) (omega arith)))
           ∙ t .loop .inv .4),
@@ -109,10 +109,10 @@ read-documents-spec =
     nothing-requires
     loop-holds
     sub-at
-    sub-read
-    part-read-start
-    part-read-end
-    read-requires
+    sub-read-document
+    part-read-document-start
+    part-read-document-end
+    read-document-requires
     join-requires
     add-end
     loop-less

@@ -13,9 +13,9 @@ use Rattle.document.specs.declared.found.Found.{Found}
 use Rattle.document.specs.Found.{foundIn}
 use Rattle.detail.specs.Limits.{longestBody}
 use Rattle.detail.specs.Groups.{shapeGood, groups, groupGood, documents}
-use Rattle.detail.specs.Codes.{ifAccepted}
+use Rattle.detail.specs.Codes.{judged, ifAccepted}
 use Rattle.detail.proofs.Laws.Groups.{shape-told}
-use Rattle.detail.proofs.Laws.Codes.{judged, misshapen, mixed, received}
+use Rattle.detail.proofs.Laws.Codes.{misshapen, mixed, shaped-judged}
 use Rattle.detail.proofs.reading.read_detail.Statement.{statement}
 use Rattle.detail.proofs.reading.read_detail.Tie as tie
 
@@ -41,7 +41,7 @@ shaped : (body : List ℕ) (t : Bool) → ltb (length body) 1 || ltb longestBody
 shaped body t e h = shape-told body ∙ λ i. not (e i) && h i
 
 read-heads-requires : tie.Need-read-heads-requires
-read-heads-requires c κs = fits (c .before .before .before .args .body .now) (c .if1 .left)
+read-heads-requires c κs = search needs
 
 operation-of-requires : tie.Need-operation-of-requires
 operation-of-requires c κs = search needs
@@ -66,7 +66,7 @@ returns-2 c =
     let operation = c .before .before .before .operation-of .ensures in (
       c .judge .ensures .0
           ∙ ap (λ (f : Found). judged (f .fields) (f .amounts) (f .served)) (read ∙ ap (λ (o : ℕ). foundIn o (a .own) (a .represented .now) (documents body)) operation)
-          ∙ sym (received (a .own) (a .represented .now) body shape one),
+          ∙ sym (shaped-judged (a .own) (a .represented .now) body shape one),
       c .judge .ensures .1 ∙ ap (λ (f : Found). ifAccepted (codeNumber (c .judge .result .code)) (f .totals)) read,
     )
 

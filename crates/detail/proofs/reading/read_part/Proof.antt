@@ -9,8 +9,8 @@ use Rattle.codes.specs.Reply.{codeNumber}
 use Rattle.document.specs.Limits.{documentBytes}
 use Rattle.document.specs.declared.found.Found.{Found}
 use Rattle.document.specs.Found.{foundIn}
-use Rattle.detail.specs.Codes.{ifAccepted}
-use Rattle.detail.proofs.Laws.Codes.{sendable-part, judged, unsendable, presented}
+use Rattle.detail.specs.Codes.{judged, ifAccepted}
+use Rattle.detail.proofs.Laws.Codes.{sendable-part, unsendable, sendable-judged}
 use Rattle.detail.proofs.reading.read_part.Statement.{statement}
 use Rattle.detail.proofs.reading.read_part.Tie as tie
 
@@ -44,7 +44,7 @@ returns c =
     let operation = c .before .before .before .before .packed-byte .ensures in (
       c .judge .ensures .0
           ∙ ap (λ (f : Found). judged (f .fields) (f .amounts) true) (read ∙ ap (λ (o : ℕ). foundIn o (a .partner) _ (pieces documentBytes (a .part .now))) operation)
-          ∙ sym (presented (a .operation) (a .partner) (a .part .now) may),
+          ∙ sym (sendable-judged (a .operation) (a .partner) (a .part .now) may),
       c .judge .ensures .1 ∙ ap (λ (f : Found). ifAccepted (codeNumber (c .judge .result .code)) (f .totals)) read,
     )
 

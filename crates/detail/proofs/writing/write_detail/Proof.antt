@@ -36,13 +36,13 @@ Here c =
     let t = c .before .before in
     let a = t .before .before .before .args in
     let n = length (c .piece-at .result .now) in
-    (length (rest (a .operation) (t .loop .at) (a .part .now)) ≡ 4 + n + length (rest (a .operation) (t .loop .at + fillBytes) (a .part .now))) × (n ≤ fillBytes)
+    (length (rest (a .operation-byte) (t .loop .at) (a .part .now)) ≡ 4 + n + length (rest (a .operation-byte) (t .loop .at + fillBytes) (a .part .now))) × (n ≤ fillBytes)
 
 here : (c : tie.After-piece-at Inv-loop μ-loop) → Here c
 here c =
     let t = c .before .before in
     let a = t .before .before .before .args in
-    rw (c .piece-at .ensures) (rest-length (a .operation) (t .loop .at) (a .part .now) (omega arith), simp length-take (omega arith))
+    rw (c .piece-at .ensures) (rest-length (a .operation-byte) (t .loop .at) (a .part .now) (omega arith), simp length-take (omega arith))
 
 write-group-requires : tie.Need-write-group-requires Inv-loop μ-loop
 write-group-requires c κs = let h = here (c .before) in (omega arith, h .1)
@@ -67,13 +67,13 @@ loop-again c =
     let h = here p in
     let to = t .loop .to in
     let at = t .loop .at in
-    let group = writtenGroup (a .operation) (part at fillBytes (a .part .now)) in
+    let group = writtenGroup (a .operation-byte) (part at fillBytes (a .part .now)) in
     let size : to + (4 + length (part at fillBytes (a .part .now))) ≡ to + length group = omega arith in (
       c .before .before .write-group .kept .0 ∙ t .loop .inv .0,
       omega arith,
       rw (c .before .before .write-group .ensures, p .piece-at .ensures, size)
-          (sets-append group (rest (a .operation) (at + fillBytes) (a .part .now)) (t .loop .out) to
-          ∙ ap (sets (t .loop .out) to) (sym (rest-step (a .operation) at (a .part .now) (omega arith)))
+          (sets-append group (rest (a .operation-byte) (at + fillBytes) (a .part .now)) (t .loop .out) to
+          ∙ ap (sets (t .loop .out) to) (sym (rest-step (a .operation-byte) at (a .part .now) (omega arith)))
           ∙ t .loop .inv .2),
     )
 
@@ -84,7 +84,7 @@ returns : tie.Need-returns Inv-loop μ-loop
 returns c =
     let t = c .before in
     let a = t .before .before .before .args in
-    let none = rest-end (a .operation) (t .loop .at) (a .part .now) (omega arith) in
+    let none = rest-end (a .operation-byte) (t .loop .at) (a .part .now) (omega arith) in
     (omega (arith, ap length none), ap (sets (t .loop .out) (t .loop .to)) (sym none) ∙ t .loop .inv .2)
 
 pub write-detail-spec : {M : Type 1} → statement M

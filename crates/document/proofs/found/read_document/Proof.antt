@@ -3,8 +3,8 @@ use native.Mathlib.Omega.{arith}
 use borrow.Author.Needs.{needs}
 use Rattle.document.specs.Amounts.{nominal, commission}
 use Rattle.document.proofs.Laws.Fields.{fields-split, amounts-split}
-use Rattle.document.proofs.found.read.Statement.{statement}
-use Rattle.document.proofs.found.read.Tie as tie
+use Rattle.document.proofs.found.read_document.Statement.{statement}
+use Rattle.document.proofs.found.read_document.Tie as tie
 
 all-digits-requires : tie.Need-all-digits-requires
 all-digits-requires c κs = search needs
@@ -27,8 +27,8 @@ returns c =
     let a = c .before .before .before .before .before .before .before .before .args in
     (cc (fields-split (a .operation) (a .receiving) (a .d .now), amounts-split (a .operation) (a .receiving) (a .d .now)), record { documents = omega arith; nominal = omega arith; commission = omega arith })
 
-pub read-spec : {M : Type 1} → statement M
-read-spec =
+pub read-document-spec : {M : Type 1} → statement M
+read-document-spec =
     tie.close
     (tie.spec
     all-digits-requires

@@ -7,10 +7,10 @@ use lib.Dec.{lit<}
 use Rattle.codes.proofs.Laws.Chain.{applies, passes}
 use Rattle.document.specs.Entities.{entitiesGood}
 use Rattle.detail.specs.Groups.{documents}
-use Rattle.detail.specs.Codes.{receivedCode, accepted}
+use Rattle.detail.specs.Codes.{receiverCode, acceptedTotals}
 use Rattle.detail.specs.Checked.{checkedCode, numbers, checked}
-use Rattle.detail.proofs.exported.line_check_detail.Statement.{statement}
-use Rattle.detail.proofs.exported.line_check_detail.Tie as tie
+use Rattle.detail.proofs.checked.line_check_detail.Statement.{statement}
+use Rattle.detail.proofs.checked.line_check_detail.Tie as tie
 
 entities-good-requires : tie.Need-entities-good-requires
 entities-good-requires c κs = search needs
@@ -29,8 +29,8 @@ returns c =
     let a = c .before .before .before .before .before .before .before .args in
     let body = a .body .now in
     let good = sym e ∙ c .before .before .before .if1 .taken in
-    let code = read .0 ∙ sym (passes 24 (not (entitiesGood (a .own) (a .represented .now))) (receivedCode (a .own) (a .represented .now) body) (ap not good)) in
-    let totals = read .1 ∙ ap (λ (n : ℕ). accepted n (documents body)) code in
+    let code = read .0 ∙ sym (passes 24 (not (entitiesGood (a .own) (a .represented .now))) (receiverCode (a .own) (a .represented .now) body) (ap not good)) in
+    let totals = read .1 ∙ ap (λ (n : ℕ). acceptedTotals n (documents body)) code in
     λ i. numbers ((c .code-number .ensures ∙ code) i) (totals i)
 
 refusal-number-requires : tie.Need-refusal-number-requires
@@ -42,8 +42,8 @@ returns-2 c =
     let a = c .before .before .before .before .before .args in
     let body = a .body .now in
     let bad = sym (c .before .before .entities-good .ensures) ∙ c .before .if1 .left in
-    let code = sym (applies 24 (not (entitiesGood (a .own) (a .represented .now))) (receivedCode (a .own) (a .represented .now) body) (lit< tt) (ap not bad)) in
-    (λ i. numbers (c .refusal-number .ensures i) (accepted 24 (documents body))) ∙ ap (λ (n : ℕ). numbers n (accepted n (documents body))) code
+    let code = sym (applies 24 (not (entitiesGood (a .own) (a .represented .now))) (receiverCode (a .own) (a .represented .now) body) (lit< tt) (ap not bad)) in
+    (λ i. numbers (c .refusal-number .ensures i) (acceptedTotals 24 (documents body))) ∙ ap (λ (n : ℕ). numbers n (acceptedTotals n (documents body))) code
 
 pub line-check-detail-spec : {M : Type 1} → statement M
 line-check-detail-spec =
