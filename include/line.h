@@ -23,12 +23,14 @@ typedef struct line_checked {
  *
  * Codes, the first that applies:
  *   24  own or a represented entity above 9999, or more than 8 represented
- *    1  shape: length, byte 51, operation or count of any group
+ *    1  shape: length, or the mark (byte 2, hexadecimal 51), operation or
+ *       count of any group
  *    9  a later group has the other operation
  *    1  a field of any document, amounts aside
  *    3  a nominal or commission with a non-digit
  *    6  a presented document's drawee is neither own nor represented
- * They are plain numbers: 24 is twenty-four.
+ * They are plain numbers: 24 is twenty-four. So are own and represented:
+ * entity 0072 is 72.
  *
  * Lengths: body_len counts bytes, represented_len counts entities. Any
  * length may be passed as long as its bytes fit in PTRDIFF_MAX; a body of 0
@@ -36,7 +38,7 @@ typedef struct line_checked {
  *
  * Pointers: each must be valid for reading its whole length, and
  * represented aligned as uint16_t. A null pointer is not allowed, not even
- * with length 0; pass the address of any object then.
+ * with length 0; the address of any object will do there.
  *
  * The call only reads what is lent, changes none of it and keeps nothing.
  * There is no global state, so several threads may call at once, on the

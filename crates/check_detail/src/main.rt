@@ -1,5 +1,5 @@
-// The check program (01, 'The check program'): one bare detail body on standard input, for receiving entity 0072 with none
-// represented; on standard output one line with the code in two digits, documents, nominal and commission.
+// The check program (01, 'The check program'): takes the bytes of a detail's body from standard input, as entity 0072 would
+// receive them that represents nobody, and prints the code in two digits and the three totals.
 use detail::checked::Checked;
 use detail::checked::line_check_detail;
 

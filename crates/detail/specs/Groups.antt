@@ -12,7 +12,7 @@ use Rattle.document.specs.Operation.{presented, returned}
 use Rattle.document.specs.Rules.{between}
 use Rattle.detail.specs.Limits.{mark, headBytes, fullCount, mostGroups, groupBytes}
 
--- each group but the last is full, so the groups of a body are its pieces of that width
+-- each group but the last is full, so the groups of a body are its pieces of that width; the law `full-but-last` says it of the counts
 unfoldable pub groups : List ℕ → List (List ℕ)
 groups body = pieces groupBytes body
 

@@ -17,7 +17,7 @@ ghost use Rattle.document.specs.Found.{foundIn};
 ghost use Rattle.detail.specs.Limits.{longestBody};
 ghost use Rattle.detail.specs.Groups.{groupGood, groups, documents};
 
-// In the documents of a part.
+// What is found in the documents of a part. They are fewer than its bytes, and that bound is enough for the sums.
 pub fn read_documents(part: &[u8], operation: u8, receiving: u16, represented: &[u16]) -> Found
     requires { ⌜ length (now part) % documentBytes ≡ 0 ⌝ }
     requires { ⌜ length (now part) ≤ longestBody ⌝ }
@@ -34,7 +34,7 @@ pub fn read_documents(part: &[u8], operation: u8, receiving: u16, represented: &
     found
 }
 
-// In the documents of a body whose groups are good.
+// What is found in the documents of a body whose groups are good.
 pub fn read_groups(body: &[u8], operation: u8, receiving: u16, represented: &[u16]) -> Found
     requires { ⌜ every groupGood (groups (now body)) ≡ true ⌝ }
     requires { ⌜ length (now body) ≤ longestBody ⌝ }

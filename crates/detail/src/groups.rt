@@ -4,10 +4,7 @@ use document::PRESENTED;
 use document::RETURNED;
 use packed::pieces::piece_at;
 ghost use mathlib.Core.Path.{_≡_};
-ghost use Prim.Native.Nat.{_≤_};
-ghost use lib.ListN.{length};
 ghost use Rattle.packed.specs.Every.{every};
-ghost use Rattle.detail.specs.Limits.{longestBody};
 ghost use Rattle.detail.specs.Groups.{operationOf, groupGood, groups, oneOperation};
 
 // The second byte of every group.

@@ -9,7 +9,7 @@ use Rattle.document.specs.Fields.{fieldsGood, amountsGood}
 use Rattle.document.specs.Drawee.{draweeServed}
 use Rattle.document.specs.Amounts.{documentTotals, totalsOf}
 
--- in one document
+-- what is found in one document
 abbrev pub found : (operation receiving : ℕ) (represented : List ℕ) → List ℕ → Found
 found operation receiving represented d =
     record {
@@ -19,7 +19,7 @@ found operation receiving represented d =
       totals = documentTotals d;
     }
 
--- in some documents, each test over all of them
+-- what is found in some, each test over all of them
 abbrev pub foundIn : (operation receiving : ℕ) (represented : List ℕ) → List (List ℕ) → Found
 foundIn operation receiving represented ds =
     record {
@@ -29,11 +29,11 @@ foundIn operation receiving represented ds =
       totals = totalsOf ds;
     }
 
--- in none
+-- what is found where there is none
 abbrev pub nothing : Found
 nothing = record { fields = true; amounts = true; served = true; totals = zeros }
 
--- in some and in some more
+-- what is found in some and in some more
 abbrev pub join : Found → Found → Found
 join a b =
     record {

@@ -7,7 +7,7 @@ ghost use lib.ListN.{length};
 ghost use Rattle.document.specs.Limits.{documentBytes};
 ghost use Rattle.document.specs.Drawee.{draweeServed};
 
-// Whether 06 has nothing against a document. The commonest drawee is own, and costs no search.
+// Whether a document does not earn 06. The commonest drawee is own, and costs no search.
 pub fn drawee_served(d: &[u8], operation: u8, own: u16, represented: &[u16]) -> bool
     requires { ⌜ length (now d) ≡ documentBytes ⌝ }
     ensures { λ r. ⌜ r ≡ draweeServed operation own (now (represented .entry)) (now (d .entry)) ⌝ }

@@ -1,4 +1,4 @@
-// What a reading of documents finds, one or many: whether 01, 03 and 06 have nothing against them, and their totals.
+// What a reading of documents finds, one or many: whether none earns 01, 03 or 06, and their totals.
 use crate::digits::all_digits;
 use crate::drawee::drawee_served;
 use crate::rules::values_good;
@@ -22,7 +22,7 @@ pub struct Found {
 }
 
 impl Found {
-    // Of no documents.
+    // What is found where there is no document.
     pub fn nothing() -> Found
         ensures { λ r. ⌜ r ≡ nothing ⌝ }
     {
@@ -34,7 +34,7 @@ impl Found {
         }
     }
 
-    // Of some documents and some more.
+    // What is found in some documents and in some more.
     pub fn join(self, other: Found) -> Found
         requires { ⌜ SumFits (self .totals) (other .totals) ⌝ }
         ensures { λ r. ⌜ r ≡ join self other ⌝ }
@@ -50,8 +50,8 @@ impl Found {
     }
 }
 
-// Of one document, read once. Its receiving entity has to be `receiving`, which is also the first of those that its drawee
-// may be. The bounds hold of any bytes, so that callers may add before they know whether the digits are good.
+// What one document holds, in one reading. Its receiving entity is compared with `receiving`, and its drawee with that and
+// the represented ones. The bounds hold of any bytes, so that callers may add before they know whether the digits are good.
 pub fn read_document(d: &[u8], operation: u8, receiving: u16, represented: &[u16]) -> Found
     requires { ⌜ length (now d) ≡ documentBytes ⌝ }
     ensures found { λ r. ⌜ r ≡ found operation receiving (now (represented .entry)) (now (d .entry)) ⌝ }

@@ -4,6 +4,7 @@
 use codes::refusal::refusal_number;
 use outgoing::Answer;
 use packed::pieces::piece_at;
+ghost use mathlib.Core.Path.{_≡_};
 ghost use Prim.Native.Nat.{_<_};
 use outgoing::check;
 use outgoing::next;
@@ -24,7 +25,8 @@ fn mark(tray: &mut [u8], letter: u8) {
 }
 
 fn wide(b: u8) -> u64
-    ensures { λ r. ⌜ r < 256 ⌝ }
+    ensures value { λ r. ⌜ r ≡ b ⌝ }
+    ensures bound { λ r. ⌜ r < 256 ⌝ }
 {
     b as u64
 }

@@ -1,19 +1,21 @@
 -- Both round trips of a detail: what is written from a part reads as that part, and an acceptedTotals body that is read and written again is its
 -- own bytes with the free bytes 00.
 use mathlib.Core.Path.{_≡_, refl, ap, sym, _∙_}
-use mathlib.Core.Bool.{Bool, true, false, _&&_, _||_, and-eq-true-iff}
+use mathlib.Core.Bool.{Bool, true, false, not, _&&_, _||_, and-eq-true-iff}
 use mathlib.Core.List.{List, [], _∷_, _++_, map, flatMap}
 use Prim.Native.Nat.{ℕ, _+_, _/_, _≤_, _<_}
 use native.Mathlib.Omega.{arith}
 use lib.Dec.{eqb, lit<}
 use lib.ListN.{length, drop, length-drop}
-use borrow.Author.Tests.{eqb-true}
+use borrow.Author.Tests.{not-false, eqb-true}
 use Rattle.packed.specs.Every.{every}
 use Rattle.packed.specs.Pieces.{pieces}
 use Rattle.packed.specs.Writing.{packedByte}
 use Rattle.packed.proofs.Laws.Every.{every-both}
 use Rattle.packed.proofs.Laws.FlatMap.{flat-map, flat-flat, flat-same}
 use Rattle.packed.proofs.Laws.Pieces.{pieces-flat, pieces-made}
+use Rattle.codes.specs.Chain.{_when_}
+use Rattle.codes.proofs.Laws.Chain.{none-test, none-both}
 use Rattle.document.specs.Limits.{documentBytes}
 use Rattle.document.specs.Operation.{presentedNumber, returnedNumber}
 use Rattle.document.specs.Rules.{between}
@@ -89,3 +91,11 @@ read-then-written body shape one =
     kept g e =
         let both = and-eq-true-iff (groupGood g) (eqb (operationOf g) (operationOf body)) .0 e in
         again (operationOf body) g (good g (both .0)) (eqb-true (operationOf g) (operationOf body) (both .1))
+
+-- so for every body that its receiver accepts
+pub accepted-again : (own : ℕ) (represented body : List ℕ) → receiverCode own represented body ≡ 0 → written (operationOf body) (partOf body) ≡ cleared body
+unfolding receiverCode
+accepted-again own represented body e =
+    let shape = none-both (1 when not (shapeGood body)) _ e in
+    let one = none-both (9 when not (oneOperation body)) _ (shape .1) in
+    read-then-written body (not-false (shapeGood body) (none-test 1 (not (shapeGood body)) (lit< tt) (shape .0))) (not-false (oneOperation body) (none-test 9 (not (oneOperation body)) (lit< tt) (one .0)))

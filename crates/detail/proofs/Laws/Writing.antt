@@ -12,7 +12,7 @@ use Rattle.packed.specs.Every.{every}
 use Rattle.packed.specs.Pieces.{cut, pieces}
 use Rattle.packed.proofs.Laws.Every.{every-map, every-then, every-always}
 use Rattle.packed.proofs.Laws.FlatMap.{flat-map}
-use Rattle.packed.proofs.Laws.Pieces.{pieces-at, pieces-end, pieces-step, pieces-within, pieces-made, few-pieces}
+use Rattle.packed.proofs.Laws.Pieces.{shorter, pieces-at, pieces-end, pieces-step, pieces-within, pieces-made, few-pieces}
 use Rattle.document.specs.Limits.{documentBytes, mostDocuments}
 use Rattle.document.specs.Rules.{between}
 use Rattle.detail.specs.Limits.{fullCount, mostGroups, fillBytes, groupBytes}
@@ -34,10 +34,6 @@ module _ (operation at : ℕ) (p : List ℕ) where
 
   pub rest-length : at < length p → length (rest operation at p) ≡ 4 + length (part at fillBytes p) + length (rest operation (at + fillBytes) p)
   rest-length h = ap length (rest-step h) ∙ length-append (writtenGroup operation (part at fillBytes p)) (rest operation (at + fillBytes) p) ∙ omega arith
-
--- what is left of a list once a group's documents are taken is shorter
-shorter : (x : ℕ) (s : List ℕ) → length (drop fillBytes (x ∷ s)) ≤ length s
-shorter x s = simp length-drop (omega arith)
 
 module _ (operation : ℕ) where
   -- a written detail is cut into the groups that it was made of
@@ -79,7 +75,7 @@ few (suc n) [] h w = refl
 few (suc n) (x ∷ s) h w =
     let left : length (drop fillBytes (x ∷ s)) % documentBytes ≡ 0 = simp length-drop (omega arith) in
     ap (every wholeFew) (pieces-step fillBytes (lit< tt) (x ∷ s) (omega arith))
-    ∙ λ i. piece (take fillBytes (x ∷ s)) (simp length-take (omega arith)) (simp length-take (omega arith)) (simp length-take (omega arith)) i && few n (drop fillBytes (x ∷ s)) (omega (arith, shorter x s)) left i
+    ∙ λ i. piece (take fillBytes (x ∷ s)) (simp length-take (omega arith)) (simp length-take (omega arith)) (simp length-take (omega arith)) i && few n (drop fillBytes (x ∷ s)) (omega (arith, shorter fillBytes (lit< tt) x s)) left i
   where
     piece : (ds : List ℕ) → 0 < length ds → length ds ≤ fillBytes → length ds % documentBytes ≡ 0 → wholeFew ds ≡ true
     piece ds a b c =

@@ -8,22 +8,22 @@ use lib.Dec.{eqb, leb}
 use lib.ListN.{length}
 use borrow.Author.Tests.{leb-true, lt-ltb, le-ltb}
 use Rattle.document.specs.Limits.{documentBytes}
-use Rattle.outgoing.specs.Outgoing.{count, trayGood, bothGood, nextOf, next}
+use Rattle.outgoing.specs.Outgoing.{count, readyGood, bothGood, nextOf, next}
 
 -- a good cursor lies within its tray, in bytes too
-pub cursor-within : (tray : List ℕ) (cursor : ℕ) → trayGood tray cursor ≡ true → cursor * documentBytes ≤ length tray
-cursor-within tray cursor e =
-    omega (arith, leb-true cursor (count tray) (and-eq-true-iff (eqb (length tray % documentBytes) 0) (leb cursor (count tray)) .0 e .1))
+pub cursor-within : (ready : List ℕ) (cursor : ℕ) → readyGood ready cursor ≡ true → cursor * documentBytes ≤ length ready
+cursor-within ready cursor e =
+    omega (arith, leb-true cursor (count ready) (and-eq-true-iff (eqb (length ready % documentBytes) 0) (leb cursor (count ready)) .0 e .1))
 
-module _ (presentations returns : List ℕ) (presented returned : ℕ) where
-  pub each-good : bothGood presentations returns presented returned ≡ true → (trayGood presentations presented ≡ true) × (trayGood returns returned ≡ true)
-  each-good e = and-eq-true-iff (trayGood presentations presented) (trayGood returns returned) .0 e
+module _ (presentations returns : List ℕ) (presentationsSent returnsSent : ℕ) where
+  pub each-good : bothGood presentations returns presentationsSent returnsSent ≡ true → (readyGood presentations presentationsSent ≡ true) × (readyGood returns returnsSent ≡ true)
+  each-good e = and-eq-true-iff (readyGood presentations presentationsSent) (readyGood returns returnsSent) .0 e
 
-  pub nothing-next : bothGood presentations returns presented returned ≡ false → next presentations returns presented returned ≡ []
+  pub nothing-next : bothGood presentations returns presentationsSent returnsSent ≡ false → next presentations returns presentationsSent returnsSent ≡ []
   nothing-next e = rw e
 
-  pub next-presented : bothGood presentations returns presented returned ≡ true → presented < count presentations → next presentations returns presented returned ≡ nextOf presentations presented
-  next-presented e h = rw (e, lt-ltb presented (count presentations) h)
+  pub next-presented : bothGood presentations returns presentationsSent returnsSent ≡ true → presentationsSent < count presentations → next presentations returns presentationsSent returnsSent ≡ nextOf presentations presentationsSent
+  next-presented e h = rw (e, lt-ltb presentationsSent (count presentations) h)
 
-  pub next-returned : bothGood presentations returns presented returned ≡ true → count presentations ≤ presented → next presentations returns presented returned ≡ nextOf returns returned
-  next-returned e h = rw (e, le-ltb presented (count presentations) h)
+  pub next-returned : bothGood presentations returns presentationsSent returnsSent ≡ true → count presentations ≤ presentationsSent → next presentations returns presentationsSent returnsSent ≡ nextOf returns returnsSent
+  next-returned e h = rw (e, le-ltb presentationsSent (count presentations) h)

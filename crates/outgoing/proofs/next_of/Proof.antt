@@ -6,13 +6,13 @@ use Rattle.outgoing.proofs.next_of.Statement.{statement}
 use Rattle.outgoing.proofs.next_of.Tie as tie
 
 mul-at : tie.Need-mul-at
-mul-at c = let a = c .before .args in omega (arith, cursor-within (a .tray .now) (a .cursor) (c .before .pre))
+mul-at c = let a = c .before .args in omega (arith, cursor-within (a .ready .now) (a .cursor) (c .before .pre))
 
 mul-piece-at : tie.Need-mul-piece-at
 mul-piece-at c = search needs
 
 piece-at-requires : tie.Need-piece-at-requires
-piece-at-requires c κs = let a = c .before .args in cursor-within (a .tray .now) (a .cursor) (c .before .pre)
+piece-at-requires c κs = search needs
 
 returns : tie.Need-returns
 returns c = search needs

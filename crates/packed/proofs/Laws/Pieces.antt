@@ -16,7 +16,7 @@ use Rattle.packed.proofs.Laws.Every.{every-cons}
 
 module _ (k : ℕ) (wide : 0 < k) where
   -- what is left of a list once a piece is taken is shorter
-  shorter : (x : ℕ) (s : List ℕ) → length (drop k (x ∷ s)) ≤ length s
+  pub shorter : (x : ℕ) (s : List ℕ) → length (drop k (x ∷ s)) ≤ length s
   shorter x s = simp length-drop (omega arith)
 
   cut-enough : (n m : ℕ) (s : List ℕ) → length s ≤ n → length s ≤ m → cut k n s ≡ cut k m s

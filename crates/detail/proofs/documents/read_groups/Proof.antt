@@ -46,7 +46,7 @@ loop-holds c =
     )
 
 piece-at-requires : tie.Need-piece-at-requires Inv-loop μ-loop
-piece-at-requires c κs = omega arith
+piece-at-requires c κs = search needs
 
 -- the group at hand is good
 here : (c : tie.After-piece-at Inv-loop μ-loop) → Good (c .piece-at .result .now)

@@ -37,7 +37,7 @@ unfolding groups oneOperation
 loop-holds c = (refl, refl)
 
 piece-at-requires : tie.Need-piece-at-requires Inv-loop μ-loop
-piece-at-requires c κs = omega arith
+piece-at-requires c κs = search needs
 
 group-good-requires : tie.Need-group-good-requires Inv-loop μ-loop
 group-good-requires c κs = search needs

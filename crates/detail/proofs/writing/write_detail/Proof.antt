@@ -4,6 +4,7 @@ use mathlib.Core.Path.{_≡_, refl, ap, sym, _∙_}
 use Prim.Native.Nat.{_+_, _-_, _≤_}
 use native.Mathlib.Nat.{zero-add}
 use native.Mathlib.Omega.{arith}
+use borrow.Author.Needs.{needs}
 use lib.ListN.{length, length-take}
 use lib.Seq.{sets}
 use Rattle.packed.specs.Part.{part}
@@ -28,7 +29,7 @@ unfolding written
 loop-holds c = (refl, zero-add _, refl)
 
 piece-at-requires : tie.Need-piece-at-requires Inv-loop μ-loop
-piece-at-requires c κs = omega arith
+piece-at-requires c κs = search needs
 
 -- what is to come is the group at hand and the rest
 abbrev Here : tie.After-piece-at Inv-loop μ-loop → Type 0
