@@ -1,4 +1,9 @@
 // The digits of a document: those of its fields and those of its amounts, which earn different codes.
+use crate::COMMISSION;
+use crate::COMMISSION_BYTES;
+use crate::DRAWEE;
+use crate::NOMINAL;
+use crate::NOMINAL_BYTES;
 use packed::digits::are_digits;
 use packed::digits::is_digits;
 ghost use mathlib.Core.Path.{_≡_};
@@ -7,6 +12,9 @@ ghost use lib.ListN.{length};
 ghost use Rattle.packed.specs.Part.{part};
 ghost use Rattle.packed.specs.Digits.{areDigits};
 ghost use Rattle.document.specs.Limits.{documentBytes};
+
+// The bytes of the fields between the two amounts.
+const LATE_FIELDS: usize = COMMISSION - DRAWEE;
 
 // Whether all fields are digits, and whether both amounts are.
 pub struct AllDigits {
@@ -46,7 +54,8 @@ pub fn all_digits(d: &[u8]) -> AllDigits
         };
     }
     AllDigits {
-        fields: are_digits(d, 0, 25) & are_digits(d, 31, 12),
-        amounts: are_digits(d, 25, 6) & are_digits(d, 43, 4),
+        fields: are_digits(d, 0, NOMINAL) & are_digits(d, DRAWEE, LATE_FIELDS),
+        amounts: are_digits(d, NOMINAL, NOMINAL_BYTES)
+            & are_digits(d, COMMISSION, COMMISSION_BYTES),
     }
 }

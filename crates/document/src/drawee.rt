@@ -1,4 +1,5 @@
 // Code 06: the drawee of a presented document is one that the receiving centre stands for.
+use crate::DRAWEE;
 use crate::PRESENTED;
 use crate::entities::is_member;
 use packed::number::number2;
@@ -12,7 +13,7 @@ pub fn drawee_served(d: &[u8], operation: u8, own: u16, represented: &[u16]) -> 
     requires { ⌜ length (now d) ≡ documentBytes ⌝ }
     ensures { λ r. ⌜ r ≡ draweeServed operation own (now (represented .entry)) (now (d .entry)) ⌝ }
 {
-    let drawee = number2(d, 31);
+    let drawee = number2(d, DRAWEE);
     if (operation != PRESENTED) | (drawee == own) {
         return true;
     }

@@ -1,4 +1,8 @@
 // What a reading of documents finds, one or many: whether none earns 01, 03 or 06, and their totals.
+use crate::COMMISSION;
+use crate::COMMISSION_BYTES;
+use crate::NOMINAL;
+use crate::NOMINAL_BYTES;
 use crate::digits::all_digits;
 use crate::drawee::drawee_served;
 use crate::rules::values_good;
@@ -64,8 +68,8 @@ pub fn read_document(d: &[u8], operation: u8, receiving: u16, represented: &[u16
         served: drawee_served(d, operation, receiving, represented),
         totals: Totals {
             documents: Documents(1),
-            nominal: Nominal(number(d, 25, 6)),
-            commission: Commission(number(d, 43, 4)),
+            nominal: Nominal(number(d, NOMINAL, NOMINAL_BYTES)),
+            commission: Commission(number(d, COMMISSION, COMMISSION_BYTES)),
         },
     }
 }

@@ -21,3 +21,14 @@ pub const RETURNED_NUMBER: u8 = 40;
 pub const DOCUMENT_BYTES: usize = 51;
 
 pub const MOST_DOCUMENTS: usize = 200;
+
+// Where the fields stand that more than one test reads, and how wide the amounts are.
+pub const NOMINAL: usize = 25;
+
+pub const NOMINAL_BYTES: usize = 6;
+
+pub const DRAWEE: usize = 31;
+
+pub const COMMISSION: usize = 43;
+
+pub const COMMISSION_BYTES: usize = 4;
