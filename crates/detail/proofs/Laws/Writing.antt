@@ -37,7 +37,7 @@ module _ (operation at : ℕ) (p : List ℕ) where
 
 module _ (operation : ℕ) where
   -- a written detail is cut into the groups that it was made of
-  pub groups-written : (p : List ℕ) → groups (written operation p) ≡ map (writtenGroup operation) (pieces fillBytes p)
+  groups-written : (p : List ℕ) → groups (written operation p) ≡ map (writtenGroup operation) (pieces fillBytes p)
   unfolding groups written
   groups-written p =
       pieces-made fillBytes groupBytes (lit< tt) (lit< tt) (writtenGroup operation) (λ (ds : List ℕ). true) (λ (ds : List ℕ) (e : true ≡ true) (h : length ds ≡ fillBytes). omega arith) (λ (ds : List ℕ) (e : true ≡ true) (h : length ds ≤ fillBytes). (omega arith, omega arith)) p

@@ -15,14 +15,14 @@ use Rattle.document.specs.Drawee.{draweeServed}
 use Rattle.document.specs.Amounts.{Within, documentTotals, totalsOf}
 use Rattle.document.specs.Found.{found, foundIn, nothing, join}
 
-pub join-nothing : (a : Found) → join a nothing ≡ a
+join-nothing : (a : Found) → join a nothing ≡ a
 join-nothing a =
     λ i. record { fields = and-true (a .fields) i; amounts = and-true (a .amounts) i; served = and-true (a .served) i; totals = plus-zeros (a .totals) i }
 
 pub nothing-join : (a : Found) → join nothing a ≡ a
 nothing-join a = λ i. record { fields = a .fields; amounts = a .amounts; served = a .served; totals = zeros-plus (a .totals) i }
 
-pub join-assoc : (a b c : Found) → join (join a b) c ≡ join a (join b c)
+join-assoc : (a b c : Found) → join (join a b) c ≡ join a (join b c)
 join-assoc a b c =
     λ i.
     record {
@@ -38,15 +38,15 @@ totals-append [] ys = sym (zeros-plus (totalsOf ys))
 totals-append (x ∷ xs) ys = ap (plus (documentTotals x)) (totals-append xs ys) ∙ sym (plus-assoc (documentTotals x) (totalsOf xs) (totalsOf ys))
 
 module _ (operation receiving : ℕ) (represented : List ℕ) where
-  pub found-none : foundIn operation receiving represented [] ≡ nothing
+  found-none : foundIn operation receiving represented [] ≡ nothing
   unfolding every totalsOf
   found-none = refl
 
-  pub found-cons : (d : List ℕ) (ds : List (List ℕ)) → foundIn operation receiving represented (d ∷ ds) ≡ join (found operation receiving represented d) (foundIn operation receiving represented ds)
+  found-cons : (d : List ℕ) (ds : List (List ℕ)) → foundIn operation receiving represented (d ∷ ds) ≡ join (found operation receiving represented d) (foundIn operation receiving represented ds)
   unfolding every totalsOf
   found-cons d ds = refl
 
-  pub found-append : (xs ys : List (List ℕ)) → foundIn operation receiving represented (xs ++ ys) ≡ join (foundIn operation receiving represented xs) (foundIn operation receiving represented ys)
+  found-append : (xs ys : List (List ℕ)) → foundIn operation receiving represented (xs ++ ys) ≡ join (foundIn operation receiving represented xs) (foundIn operation receiving represented ys)
   found-append xs ys =
       λ i.
       record {
@@ -72,7 +72,7 @@ module _ (operation receiving : ℕ) (represented : List ℕ) where
       join-assoc so (foundIn operation receiving represented xs) (foundIn operation receiving represented ys)
       ∙ ap (join so) (sym (found-append xs ys))
 
--- what keeps sums within 64 bits
+-- what keeps sums within 64 bits, for far more documents than a body can have
 pub within-plus : (m n : ℕ) (a b : Totals) → Within m a → Within n b → Within (m + n) (plus a b)
 within-plus m n a b ha hb = record { documents = omega arith; nominal = omega arith; commission = omega arith }
 
