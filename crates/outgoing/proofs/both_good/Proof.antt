@@ -1,4 +1,5 @@
 -- `both_good` tests one tray and the other.
+use mathlib.Core.Bool.{_&&_}
 use borrow.Author.Needs.{needs}
 use Rattle.outgoing.proofs.both_good.Statement.{statement}
 use Rattle.outgoing.proofs.both_good.Tie as tie
@@ -10,7 +11,7 @@ ready-good-requires-2 : tie.Need-ready-good-requires-2
 ready-good-requires-2 c κs = search needs
 
 returns : tie.Need-returns
-returns c = cc
+returns c = λ i. c .before .ready-good .ensures i && c .ready-good2 .ensures i
 
 pub both-good-spec : {M : Type 1} → statement M
 both-good-spec = tie.close (tie.spec ready-good-requires ready-good-requires-2 returns)

@@ -1,5 +1,6 @@
 -- `all_digits`: where the sweep finds digits, each run within it is digits.
 use mathlib.Core.Path.{sym, _∙_}
+use mathlib.Core.Bool.{_&&_}
 use native.Mathlib.Omega.{arith}
 use borrow.Author.Needs.{needs}
 use Rattle.packed.proofs.Laws.Digits.{digits-inside}
@@ -29,7 +30,9 @@ are-digits-requires-4 : tie.Need-are-digits-requires-4
 are-digits-requires-4 c κs = search needs
 
 returns-2 : tie.Need-returns-2
-returns-2 c = (cc, cc)
+returns-2 c =
+    let early = c .before .before in
+    (λ i. early .before .are-digits .ensures i && early .are-digits2 .ensures i, λ i. c .before .are-digits3 .ensures i && c .are-digits4 .ensures i)
 
 pub all-digits-spec : {M : Type 1} → statement M
 all-digits-spec =

@@ -1,6 +1,9 @@
 -- `read` puts together what the tests and the readings of amounts find.
+use mathlib.Core.Path.{sym, _∙_}
+use mathlib.Core.Bool.{_&&_}
 use native.Mathlib.Omega.{arith}
 use borrow.Author.Needs.{needs}
+use Rattle.amounts.specs.Totals.{totals}
 use Rattle.document.specs.Amounts.{nominal, commission}
 use Rattle.document.proofs.Laws.Fields.{fields-split, amounts-split}
 use Rattle.document.proofs.found.read_document.Statement.{statement}
@@ -24,8 +27,14 @@ number-requires-2 c κs = search needs
 returns : tie.Need-returns
 unfolding nominal commission
 returns c =
-    let a = c .before .before .before .before .before .before .before .before .args in
-    (cc (fields-split (a .operation) (a .receiving) (a .d .now), amounts-split (a .operation) (a .receiving) (a .d .now)), record { documents = omega arith; nominal = omega arith; commission = omega arith })
+    let t = c .before .before .before .before .before in
+    let a = t .before .before .before .args in
+    let digits = t .all-digits .ensures in
+    let fields = (λ i. digits .0 i && c .before .before .before .before .values-good .ensures i) ∙ sym (fields-split (a .operation) (a .receiving) (a .d .now)) in
+    let amounts = digits .1 ∙ sym (amounts-split (a .operation) (a .receiving) (a .d .now)) in (
+      λ i. record { fields = fields i; amounts = amounts i; served = c .before .before .drawee-served .ensures i; totals = totals 1 (c .before .number .ensures .0 i) (c .number2 .ensures .0 i) },
+      record { documents = omega arith; nominal = omega arith; commission = omega arith },
+    )
 
 pub read-document-spec : {M : Type 1} → statement M
 read-document-spec =
