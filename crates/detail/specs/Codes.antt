@@ -27,7 +27,7 @@ receiverCode own represented body =
     orelse 3 when not (every (amountsGood (operationOf body) own) (documents body))
     orelse 6 when not (every (draweeServed (operationOf body) own represented) (documents body))
 
--- the operation is the plain number, and the documents are whole and neither none nor too many
+-- 01, 'Trays', what a detail may be sent from: the operation as a plain number, and documents that are whole and neither none nor too many
 unfoldable pub sendable : (operation : ℕ) (part : List ℕ) → Bool
 sendable operation part =
     (eqb operation presentedNumber || eqb operation returnedNumber) && eqb (length part % documentBytes) 0 && between 1 mostDocuments (length part / documentBytes)
