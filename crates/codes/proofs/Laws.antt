@@ -4,3 +4,4 @@ pub mod Reply
 pub mod Refusal
 pub mod Chain
 pub mod Field
+pub mod Table

@@ -1,12 +1,13 @@
 -- 01, 'Layouts': a table of fields, with the columns that the paper prints.
-use Prim.Native.Nat.{ℕ, _-_}
-use mathlib.Core.Bool.{Bool, true, _&&_, cond}
-use mathlib.Core.List.{List, [], _∷_}
-use lib.Dec.{eqb}
+use Prim.Native.Nat.{ℕ, _-_, _^_}
+use mathlib.Core.Bool.{Bool, true, false, _&&_, cond}
+use mathlib.Core.List.{List, [], _∷_, _++_, map}
+use lib.Dec.{eqb, leb, ltb}
 use Rattle.packed.specs.Part.{part}
 use Rattle.packed.specs.Every.{every}
 use Rattle.packed.specs.Digits.{areDigits}
 use Rattle.packed.specs.Number.{number}
+use Rattle.packed.specs.Writing.{packedBytes}
 use Rattle.codes.specs.declared.reply.Code.{Code}
 use Rattle.codes.specs.Reply.{codeNumber}
 
@@ -20,6 +21,13 @@ pub record Field : Type 0 where
 -- a field with no stated range
 abbrev pub any : ℕ → Bool
 any v = true
+
+-- a field with a range, and one with a single value
+abbrev pub between : (least most v : ℕ) → Bool
+between least most v = leb least v && leb v most
+
+abbrev pub exactly : (wanted v : ℕ) → Bool
+exactly wanted v = eqb v wanted
 
 -- a field with a rule, whose fault is 01
 abbrev pub field : (position width : ℕ) → (ℕ → Bool) → Field
@@ -63,3 +71,20 @@ tableGood first code fields s = every (fieldGood first s) (earning code fields)
 
 abbrev pub tableValues : (first code : ℕ) → List Field → List ℕ → Bool
 tableValues first code fields s = every (fieldValue first s) (earning code fields)
+
+-- the numbers of all rows, in order
+abbrev pub tableNumbers : (first : ℕ) → List Field → List ℕ → List ℕ
+tableNumbers first fields s = map (fieldNumber first s) fields
+
+-- numbers that the rows take, one for each: short enough for the width, and by the rule
+unfoldable pub tableTakes : List Field → List ℕ → Bool
+tableTakes [] [] = true
+tableTakes [] (v ∷ vs) = false
+tableTakes (f ∷ fs) [] = false
+tableTakes (f ∷ fs) (v ∷ vs) = ltb v (100 ^ f .width) && f .rule v && tableTakes fs vs
+
+-- numbers as they are written, one behind the other in the widths of the rows
+unfoldable pub tableWritten : List Field → List ℕ → List ℕ
+tableWritten [] vs = []
+tableWritten (f ∷ fs) [] = []
+tableWritten (f ∷ fs) (v ∷ vs) = packedBytes (f .width) v ++ tableWritten fs vs

@@ -3,4 +3,5 @@ pub mod Numbered
 pub mod Reply
 pub mod Refusal
 pub mod Chain
+pub mod Body
 pub mod Field

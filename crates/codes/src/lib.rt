@@ -2,5 +2,6 @@
 // 'Given because of the state'). When each is given is decided by the crates above; here stand the numbers, in
 // specs/Chain.antt the way in which the paper puts them in order, and in specs/Field.antt how a table of fields is written.
 
+pub mod body;
 pub mod refusal;
 pub mod reply;

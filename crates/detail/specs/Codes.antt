@@ -10,13 +10,14 @@ use Rattle.packed.specs.Writing.{packedByte}
 use Rattle.amounts.specs.declared.Totals.{Totals}
 use Rattle.amounts.specs.Totals.{zeros}
 use Rattle.codes.specs.Chain.{_when_, _orelse_}
+use Rattle.codes.specs.Field.{between}
+use Rattle.codes.specs.Body.{operationOf}
 use Rattle.document.specs.Limits.{documentBytes, mostDocuments}
 use Rattle.document.specs.Operation.{presentedNumber, returnedNumber}
-use Rattle.document.specs.Rules.{between}
 use Rattle.document.specs.Fields.{fieldsGood, amountsGood}
 use Rattle.document.specs.Drawee.{draweeServed}
 use Rattle.document.specs.Amounts.{totalsOf}
-use Rattle.detail.specs.Groups.{shapeGood, oneOperation, operationOf, documents}
+use Rattle.detail.specs.Groups.{shapeGood, oneOperation, documents}
 
 -- the receiver's, at the entity own with some represented
 unfoldable pub receiverCode : (own : ℕ) (represented body : List ℕ) → ℕ

@@ -7,18 +7,15 @@ use lib.ListN.{length, drop}
 use Rattle.packed.specs.Part.{byteAt}
 use Rattle.packed.specs.Every.{every}
 use Rattle.packed.specs.Pieces.{pieces}
+use Rattle.codes.specs.Field.{between}
+use Rattle.codes.specs.Body.{mark, operationOf}
 use Rattle.document.specs.Limits.{documentBytes}
 use Rattle.document.specs.Operation.{presented, returned}
-use Rattle.document.specs.Rules.{between}
-use Rattle.detail.specs.Limits.{mark, headBytes, fullCount, mostGroups, groupBytes}
+use Rattle.detail.specs.Limits.{headBytes, fullCount, mostGroups, groupBytes}
 
 -- each group but the last is full, so the groups of a body are its pieces of that width; the law `full-but-last` says it of the counts
 unfoldable pub groups : List ℕ → List (List ℕ)
 groups body = pieces groupBytes body
-
--- byte 3, of a group and so of a body
-abbrev pub operationOf : List ℕ → ℕ
-operationOf g = byteAt 3 g
 
 abbrev pub countOf : List ℕ → ℕ
 countOf g = byteAt 4 g

@@ -2,10 +2,6 @@
 use Prim.Native.Nat.{ℕ, _+_, _*_}
 use Rattle.document.specs.Limits.{documentBytes}
 
--- the second byte of every body and of every group
-abbrev pub mark : ℕ
-mark = 0x51
-
 -- free byte, mark, operation and count
 abbrev pub headBytes : ℕ
 headBytes = 4
@@ -23,7 +19,3 @@ fillBytes = fullCount * documentBytes
 
 abbrev pub groupBytes : ℕ
 groupBytes = headBytes + fillBytes
-
--- the bytes of the longest body
-abbrev pub longestBody : ℕ
-longestBody = mostGroups * groupBytes

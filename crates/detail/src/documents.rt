@@ -14,7 +14,7 @@ ghost use Rattle.packed.specs.Pieces.{pieces};
 ghost use Rattle.document.specs.Limits.{documentBytes};
 ghost use Rattle.document.specs.Amounts.{Within};
 ghost use Rattle.document.specs.Found.{foundIn};
-ghost use Rattle.detail.specs.Limits.{longestBody};
+ghost use Rattle.codes.specs.Body.{longestBody};
 ghost use Rattle.detail.specs.Groups.{groupGood, groups, documents};
 
 // What is found in the documents of a part. They are fewer than its bytes, and that bound is enough for the sums.

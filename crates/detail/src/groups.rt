@@ -1,14 +1,13 @@
 // The groups of a body: where each lies, and whether the body has the shape of a detail.
+use codes::body::MARK;
+use codes::body::operation_of;
 use document::DOCUMENT_BYTES;
 use document::PRESENTED;
 use document::RETURNED;
 use packed::pieces::piece_at;
 ghost use mathlib.Core.Path.{_≡_};
 ghost use Rattle.packed.specs.Every.{every};
-ghost use Rattle.detail.specs.Groups.{operationOf, groupGood, groups, oneOperation};
-
-// The second byte of every group.
-pub const MARK: u8 = 0x51;
+ghost use Rattle.detail.specs.Groups.{groupGood, groups, oneOperation};
 
 // Free byte, mark, operation and count.
 pub const HEAD_BYTES: usize = 4;
@@ -17,21 +16,6 @@ pub const HEAD_BYTES: usize = 4;
 pub const FULL_COUNT: usize = 4;
 
 pub const GROUP_BYTES: usize = HEAD_BYTES + FULL_COUNT * DOCUMENT_BYTES;
-
-// The groups of a body, at most, and the bytes of the longest.
-pub const MOST_GROUPS: usize = 50;
-
-pub const LONGEST_BODY: usize = MOST_GROUPS * GROUP_BYTES;
-
-// The operation byte, 0 where there is none.
-pub fn operation_of(g: &[u8]) -> u8
-    ensures { λ r. ⌜ r ≡ operationOf (now (g .entry)) ⌝ }
-{
-    if g.len() < 3 {
-        return 0;
-    }
-    g[2]
-}
 
 // Whether a group is whole and marked as it should be.
 pub fn group_good(g: &[u8]) -> bool

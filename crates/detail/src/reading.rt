@@ -1,12 +1,12 @@
 // A detail read whole, as its receiver and as its presenter read it.
 use crate::documents::read_documents;
 use crate::documents::read_groups;
-use crate::groups::LONGEST_BODY;
-use crate::groups::operation_of;
 use crate::groups::read_heads;
 use crate::verdict::Verdict;
 use crate::verdict::judge;
 use crate::verdict::refused;
+use codes::body::LONGEST_BODY;
+use codes::body::operation_of;
 use codes::reply::Code;
 use document::DOCUMENT_BYTES;
 use document::MOST_DOCUMENTS;

@@ -1,7 +1,7 @@
 // A detail written from documents.
 use crate::groups::FULL_COUNT;
 use crate::groups::HEAD_BYTES;
-use crate::groups::MARK;
+use codes::body::MARK;
 use document::DOCUMENT_BYTES;
 use packed::pieces::piece_at;
 use packed::writing::copy;

@@ -2,10 +2,10 @@
 use Prim.Native.Nat.{ℕ}
 use mathlib.Core.Bool.{Bool}
 use mathlib.Core.List.{List, [], _∷_}
-use Rattle.codes.specs.Field.{Field, field, amount, unread, any, tableValues, tableGood}
+use Rattle.codes.specs.Field.{Field, field, amount, unread, any, exactly, tableValues, tableGood}
 use Rattle.codes.specs.Reply.{codeNumber}
 use Rattle.codes.specs.declared.reply.Code.{Code}
-use Rattle.document.specs.Rules.{identification, dayAndMonth, province, receivingEntity, truncation, keyOrReason}
+use Rattle.document.specs.Rules.{identification, dayAndMonth, province, truncation, keyOrReason}
 
 -- the printed position of a document's first byte
 abbrev pub firstPosition : ℕ
@@ -31,7 +31,7 @@ documentFields operation receiving =
     ∷ field 18 2 any  -- taker
     ∷ field 20 2 any  -- its branch
     ∷ field 22 1 province
-    ∷ field 23 2 (receivingEntity receiving)
+    ∷ field 23 2 (exactly receiving)  -- receiving entity
     ∷ field 25 1 province
     ∷ field 26 4 any  -- entity and branch for claims
     ∷ nominalField

@@ -1,14 +1,11 @@
 -- 01, 'Detail': the values that a field takes where a range is stated.
 use Prim.Native.Nat.{ℕ, _/_, _%_}
-use mathlib.Core.Bool.{Bool, _&&_, _||_, cond}
+use mathlib.Core.Bool.{Bool, _||_, cond}
 use mathlib.Core.List.{List, [], _∷_}
-use lib.Dec.{eqb, leb}
+use lib.Dec.{eqb}
 use lib.ListN.{getD}
-use Rattle.codes.specs.Field.{any}
+use Rattle.codes.specs.Field.{any, between}
 use Rattle.document.specs.Operation.{returned}
-
-abbrev pub between : (least most v : ℕ) → Bool
-between least most v = leb least v && leb v most
 
 -- 0000 or 80NN
 abbrev pub identification : ℕ → Bool
@@ -25,10 +22,6 @@ dayAndMonth v = between 1 (getD monthDays (v % 100) 0) (v / 100)
 -- 01 to 52
 abbrev pub province : ℕ → Bool
 province v = between 1 52 v
-
--- the session's receiving entity
-abbrev pub receivingEntity : (receiving v : ℕ) → Bool
-receivingEntity receiving v = eqb v receiving
 
 -- 01 or 02
 abbrev pub truncation : ℕ → Bool

@@ -11,12 +11,13 @@ use Rattle.packed.specs.Pieces.{pieces}
 use Rattle.packed.specs.Writing.{packedByte}
 use Rattle.codes.specs.Chain.{_when_, _orelse_}
 use Rattle.codes.proofs.Laws.Chain.{applies, passes, last}
+use Rattle.codes.specs.Field.{between}
+use Rattle.codes.specs.Body.{operationOf}
 use Rattle.document.specs.Limits.{documentBytes, mostDocuments}
 use Rattle.document.specs.Operation.{presentedNumber, returnedNumber}
-use Rattle.document.specs.Rules.{between}
 use Rattle.document.specs.Fields.{fieldsGood, amountsGood}
 use Rattle.document.specs.Drawee.{draweeServed}
-use Rattle.detail.specs.Groups.{shapeGood, oneOperation, operationOf, documents}
+use Rattle.detail.specs.Groups.{shapeGood, oneOperation, documents}
 use Rattle.detail.specs.Codes.{receiverCode, presenterCode, sendable, judged}
 
 -- what is known of a part that may be sent

@@ -13,13 +13,14 @@ use Rattle.packed.specs.Every.{every}
 use Rattle.packed.specs.Pieces.{cut, pieces}
 use Rattle.packed.proofs.Laws.Every.{every-cons}
 use Rattle.packed.proofs.Laws.Pieces.{shorter, pieces-step, pieces-count}
+use Rattle.codes.specs.Field.{between}
+use Rattle.codes.specs.Body.{mark, operationOf, longestBody}
 use Rattle.document.specs.Limits.{documentBytes, mostDocuments}
-use Rattle.document.specs.Rules.{between}
-use Rattle.detail.specs.Limits.{mark, headBytes, fullCount, mostGroups, groupBytes, longestBody}
-use Rattle.detail.specs.Groups.{groups, isOperation, operationOf, countOf, groupGood, shapeGood}
+use Rattle.detail.specs.Limits.{headBytes, fullCount, mostGroups, groupBytes}
+use Rattle.detail.specs.Groups.{groups, isOperation, countOf, groupGood, shapeGood}
 
 -- the most documents of a detail are the full groups of the longest body, and make the most bytes that an envelope can hold
-full-body : (mostDocuments ≡ mostGroups * fullCount) × (longestBody ≡ 10400)
+full-body : (mostDocuments ≡ mostGroups * fullCount) × (longestBody ≡ mostGroups * groupBytes)
 full-body = (refl, refl)
 
 -- what is known of a good group

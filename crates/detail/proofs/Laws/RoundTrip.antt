@@ -16,15 +16,16 @@ use Rattle.packed.proofs.Laws.FlatMap.{flat-map, flat-flat, flat-same}
 use Rattle.packed.proofs.Laws.Pieces.{pieces-flat, pieces-made}
 use Rattle.codes.specs.Chain.{_when_}
 use Rattle.codes.proofs.Laws.Chain.{none-test, none-both}
+use Rattle.codes.specs.Field.{between}
+use Rattle.codes.specs.Body.{operationOf, cleared}
 use Rattle.document.specs.Limits.{documentBytes}
 use Rattle.document.specs.Operation.{presentedNumber, returnedNumber}
-use Rattle.document.specs.Rules.{between}
 use Rattle.document.specs.Fields.{fieldsGood, amountsGood}
 use Rattle.document.specs.Drawee.{draweeServed}
 use Rattle.detail.specs.Limits.{headBytes, mostGroups, fillBytes, groupBytes}
-use Rattle.detail.specs.Groups.{groups, isOperation, operationOf, groupGood, shapeGood, oneOperation, groupDocuments, documents}
+use Rattle.detail.specs.Groups.{groups, isOperation, groupGood, shapeGood, oneOperation, groupDocuments, documents}
 use Rattle.detail.specs.Codes.{receiverCode, sendable, judged}
-use Rattle.detail.specs.Writing.{writtenGroup, written, partOf, cleared}
+use Rattle.detail.specs.Writing.{writtenGroup, written, partOf, clearedGroups}
 use Rattle.detail.proofs.Laws.Groups.{Good, good}
 use Rattle.detail.proofs.Laws.Codes.{sendable-part, shaped-judged}
 use Rattle.detail.proofs.Laws.Writing.{documents-written, operation-written, one-written, shape-written}
@@ -66,7 +67,7 @@ cut-again body e =
     e
 
 -- a good group, written again, is itself with a free byte of 00
-again : (operation : ℕ) (g : List ℕ) → Good g → operationOf g ≡ operation → writtenGroup operation (drop headBytes g) ≡ 0x00 ∷ drop 1 g
+again : (operation : ℕ) (g : List ℕ) → Good g → operationOf g ≡ operation → writtenGroup operation (drop headBytes g) ≡ cleared g
 again operation [] h e = absurd (omega arith)
 again operation (x ∷ []) h e = absurd (omega arith)
 again operation (x ∷ a ∷ []) h e = absurd (omega arith)
@@ -75,8 +76,8 @@ again operation (x ∷ a ∷ b ∷ n ∷ ds) h e =
     let count : length ds / documentBytes ≡ n = omega arith in
     λ i. 0x00 ∷ sym (h .marked) i ∷ sym e i ∷ count i ∷ ds
 
-pub read-then-written : (body : List ℕ) → shapeGood body ≡ true → oneOperation body ≡ true → written (operationOf body) (partOf body) ≡ cleared body
-unfolding shapeGood groups oneOperation documents written partOf cleared
+pub read-then-written : (body : List ℕ) → shapeGood body ≡ true → oneOperation body ≡ true → written (operationOf body) (partOf body) ≡ clearedGroups body
+unfolding shapeGood groups oneOperation documents written partOf clearedGroups
 read-then-written body shape one =
     let gs = groups body in
     let operation = operationOf body in
@@ -85,15 +86,15 @@ read-then-written body shape one =
     ap (λ (p : List ℕ). flatMap (writtenGroup operation) (pieces fillBytes p)) (heads-dropped gs)
     ∙ ap (flatMap (writtenGroup operation)) (cut-again body all)
     ∙ flat-map (writtenGroup operation) (drop headBytes) gs
-    ∙ flat-same (λ (g : List ℕ). groupGood g && same g) (λ (g : List ℕ). writtenGroup operation (drop headBytes g)) (λ (g : List ℕ). 0x00 ∷ drop 1 g) (λ (g : List ℕ) (e : groupGood g && same g ≡ true). kept g e) gs (every-both groupGood same gs ∙ (λ i. all i && one i))
+    ∙ flat-same (λ (g : List ℕ). groupGood g && same g) (λ (g : List ℕ). writtenGroup operation (drop headBytes g)) cleared (λ (g : List ℕ) (e : groupGood g && same g ≡ true). kept g e) gs (every-both groupGood same gs ∙ (λ i. all i && one i))
   where
-    kept : (g : List ℕ) → groupGood g && eqb (operationOf g) (operationOf body) ≡ true → writtenGroup (operationOf body) (drop headBytes g) ≡ 0x00 ∷ drop 1 g
+    kept : (g : List ℕ) → groupGood g && eqb (operationOf g) (operationOf body) ≡ true → writtenGroup (operationOf body) (drop headBytes g) ≡ cleared g
     kept g e =
         let both = and-eq-true-iff (groupGood g) (eqb (operationOf g) (operationOf body)) .0 e in
         again (operationOf body) g (good g (both .0)) (eqb-true (operationOf g) (operationOf body) (both .1))
 
 -- so for every body that its receiver accepts
-pub accepted-again : (own : ℕ) (represented body : List ℕ) → receiverCode own represented body ≡ 0 → written (operationOf body) (partOf body) ≡ cleared body
+pub accepted-again : (own : ℕ) (represented body : List ℕ) → receiverCode own represented body ≡ 0 → written (operationOf body) (partOf body) ≡ clearedGroups body
 unfolding receiverCode
 accepted-again own represented body e =
     let shape = none-both (1 when not (shapeGood body)) _ e in

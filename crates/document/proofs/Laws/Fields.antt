@@ -7,12 +7,12 @@ use Rattle.packed.specs.Part.{part}
 use Rattle.packed.specs.Every.{every}
 use Rattle.packed.specs.Number.{number}
 use Rattle.packed.specs.Digits.{areDigits}
-use Rattle.codes.specs.Field.{earning}
+use Rattle.codes.specs.Field.{exactly, earning}
 use Rattle.codes.specs.Reply.{codeNumber}
 use Rattle.codes.specs.declared.reply.Code.{Code}
 use Rattle.codes.proofs.Laws.Field.{tableDigits, table-split, digitRuns, total, runs-join, adjoining}
 use Rattle.document.specs.Limits.{documentBytes}
-use Rattle.document.specs.Rules.{identification, dayAndMonth, province, receivingEntity, truncation, keyOrReason}
+use Rattle.document.specs.Rules.{identification, dayAndMonth, province, truncation, keyOrReason}
 use Rattle.document.specs.Fields.{firstPosition, documentFields, fieldsGood, valuesGood, amountsGood}
 
 listed : (a b c d e f g : Bool) → a && (b && (c && (d && (e && (f && (g && true)))))) ≡ a && b && c && d && e && f && g
@@ -44,14 +44,14 @@ module _ (operation receiving : ℕ) where
       ∙ ap (λ (t : Bool). areDigits (part 25 6 d) && t) (and-true (areDigits (part 43 4 d)))
 
   -- the rules of the table, one behind the other
-  pub values-listed : (d : List ℕ) → valuesGood operation receiving d ≡ identification (number (part 5 2 d)) && dayAndMonth (number (part 11 2 d)) && province (number (part 17 1 d)) && receivingEntity receiving (number (part 18 2 d)) && province (number (part 20 1 d)) && truncation (number (part 40 1 d)) && keyOrReason operation (number (part 41 2 d))
+  pub values-listed : (d : List ℕ) → valuesGood operation receiving d ≡ identification (number (part 5 2 d)) && dayAndMonth (number (part 11 2 d)) && province (number (part 17 1 d)) && exactly receiving (number (part 18 2 d)) && province (number (part 20 1 d)) && truncation (number (part 40 1 d)) && keyOrReason operation (number (part 41 2 d))
   unfolding valuesGood documentFields earning every
   values-listed d =
       listed
       (identification (number (part 5 2 d)))
       (dayAndMonth (number (part 11 2 d)))
       (province (number (part 17 1 d)))
-      (receivingEntity receiving (number (part 18 2 d)))
+      (exactly receiving (number (part 18 2 d)))
       (province (number (part 20 1 d)))
       (truncation (number (part 40 1 d)))
       (keyOrReason operation (number (part 41 2 d)))

@@ -12,8 +12,9 @@ use Rattle.packed.specs.Every.{every}
 use Rattle.packed.specs.Pieces.{pieces}
 use Rattle.packed.proofs.Laws.Every.{every-none, every-step}
 use Rattle.packed.proofs.Laws.Pieces.{pieces-at, pieces-end}
+use Rattle.codes.specs.Body.{operationOf}
 use Rattle.detail.specs.Limits.{groupBytes}
-use Rattle.detail.specs.Groups.{groupGood, groups, operationOf, oneOperation}
+use Rattle.detail.specs.Groups.{groupGood, groups, oneOperation}
 use Rattle.detail.proofs.groups.read_heads.Statement.{statement}
 use Rattle.detail.proofs.groups.read_heads.Tie as tie
 

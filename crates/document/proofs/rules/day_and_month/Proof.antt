@@ -6,7 +6,8 @@ use native.Mathlib.Omega.{arith}
 use borrow.Author.Needs.{needs}
 use borrow.Author.Tests.{lt-leb}
 use lib.ListN.{List·getD-eq-default}
-use Rattle.document.specs.Rules.{between, monthDays}
+use Rattle.codes.specs.Field.{between}
+use Rattle.document.specs.Rules.{monthDays}
 use Rattle.document.proofs.rules.day_and_month.Statement.{statement}
 use Rattle.document.proofs.rules.day_and_month.Tie as tie
 

@@ -2,7 +2,8 @@
 use mathlib.Core.Path.{ap, sym, _∙_}
 use mathlib.Core.Bool.{_&&_}
 use borrow.Author.Needs.{needs}
-use Rattle.document.specs.Rules.{identification, dayAndMonth, province, receivingEntity, truncation, keyOrReason}
+use Rattle.codes.specs.Field.{exactly}
+use Rattle.document.specs.Rules.{identification, dayAndMonth, province, truncation, keyOrReason}
 use Rattle.document.proofs.Laws.Fields.{values-listed}
 use Rattle.document.proofs.rules.values_good.Statement.{statement}
 use Rattle.document.proofs.rules.values_good.Tie as tie
@@ -54,7 +55,7 @@ returns c =
     let id = early .before .identification .ensures ∙ ap identification (early .before .before .number2 .ensures) in
     let date = late .before .before .before .before .day-and-month .ensures ∙ ap dayAndMonth (early .number22 .ensures) in
     let taker = late .before .before .province .ensures ∙ ap province (late .before .before .before .number .ensures .0) in
-    let receiving = ap (receivingEntity (a .receiving)) (late .before .number23 .ensures) in
+    let receiving = ap (exactly (a .receiving)) (late .before .number23 .ensures) in
     let claims = c .before .before .before .before .province2 .ensures ∙ ap province (late .number3 .ensures .0) in
     let form = c .before .before .truncation .ensures ∙ ap truncation (c .before .before .before .number4 .ensures .0) in
     let key = c .key-or-reason .ensures ∙ ap (keyOrReason (a .operation)) (c .before .number24 .ensures) in

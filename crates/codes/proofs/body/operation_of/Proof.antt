@@ -3,11 +3,11 @@ use mathlib.Core.Path.{sym}
 use native.Mathlib.Omega.{arith}
 use borrow.Author.Needs.{needs}
 use lib.ListN.{List·getD-eq-default}
-use Rattle.detail.proofs.groups.operation_of.Statement.{statement}
-use Rattle.detail.proofs.groups.operation_of.Tie as tie
+use Rattle.codes.proofs.body.operation_of.Statement.{statement}
+use Rattle.codes.proofs.body.operation_of.Tie as tie
 
 returns : tie.Need-returns
-returns c = sym (List·getD-eq-default (c .before .args .g .now) 0 {n = 2} (omega arith))
+returns c = sym (List·getD-eq-default (c .before .args .body .now) 0 {n = 2} (omega arith))
 
 shared-slice-read-result : tie.Need-shared-slice-read-result
 shared-slice-read-result c = search needs
