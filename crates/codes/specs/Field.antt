@@ -29,17 +29,20 @@ between least most v = leb least v && leb v most
 abbrev pub exactly : (wanted v : ℕ) → Bool
 exactly wanted v = eqb v wanted
 
+abbrev pub row : (code position width : ℕ) → (ℕ → Bool) → Field
+row c p w rule = record { position = p; width = w; code = c; rule = rule }
+
 -- a field with a rule, whose fault is 01
 abbrev pub field : (position width : ℕ) → (ℕ → Bool) → Field
-field p w rule = record { position = p; width = w; code = codeNumber Code.WrongField; rule = rule }
+field p w rule = row (codeNumber Code.WrongField) p w rule
 
 -- a nominal or a commission, whose fault is 03
 abbrev pub amount : (position width : ℕ) → Field
-amount p w = record { position = p; width = w; code = codeNumber Code.WrongAmount; rule = any }
+amount p w = row (codeNumber Code.WrongAmount) p w any
 
 -- bytes that nobody reads, and any of which are accepted
 abbrev pub unread : (position width : ℕ) → Field
-unread p w = record { position = p; width = w; code = codeNumber Code.Accepted; rule = any }
+unread p w = row (codeNumber Code.Accepted) p w any
 
 -- the bytes at a printed position, in a layout whose first byte has the position `first`
 abbrev pub printed : (first position width : ℕ) → List ℕ → List ℕ

@@ -1,5 +1,6 @@
 -- 01, 'Given because of the input' and 'Given because of the state': the codes that travel in replies.
 use Prim.Native.Nat.{ℕ}
+use mathlib.Core.Bool.{Bool, true, false}
 use mathlib.Core.List.{List, [], _∷_}
 use Rattle.packed.specs.Writing.{packedByte}
 use Rattle.codes.specs.declared.reply.Code.{Code}
@@ -43,3 +44,11 @@ codeByte c = packedByte (codeNumber c)
 -- what a byte says where a reply has its code: the listed code that it carries, else that it is unknown
 unfoldable pub readCode : ℕ → ReadCode
 readCode b = numbered codeByte ReadCode.Known ReadCode.Unknown codes b
+
+-- a byte that carries a code
+abbrev pub isKnown : ReadCode → Bool
+isKnown (ReadCode.Known c) = true
+isKnown ReadCode.Unknown = false
+
+unfoldable pub knownCode : ℕ → Bool
+knownCode b = isKnown (readCode b)

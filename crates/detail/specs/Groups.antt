@@ -1,6 +1,6 @@
 -- 01, 'Detail': a body as a list of groups, and a group as a list of documents.
 use Prim.Native.Nat.{ℕ, _+_, _*_}
-use mathlib.Core.Bool.{Bool, _&&_, _||_}
+use mathlib.Core.Bool.{Bool, _&&_}
 use mathlib.Core.List.{List, flatMap}
 use lib.Dec.{eqb}
 use lib.ListN.{length, drop}
@@ -10,7 +10,7 @@ use Rattle.packed.specs.Pieces.{pieces}
 use Rattle.codes.specs.Field.{between}
 use Rattle.codes.specs.Body.{mark, operationOf}
 use Rattle.document.specs.Limits.{documentBytes}
-use Rattle.document.specs.Operation.{presented, returned}
+use Rattle.document.specs.Operation.{isOperation}
 use Rattle.detail.specs.Limits.{headBytes, fullCount, mostGroups, groupBytes}
 
 -- each group but the last is full, so the groups of a body are its pieces of that width; the law `full-but-last` says it of the counts
@@ -19,9 +19,6 @@ groups body = pieces groupBytes body
 
 abbrev pub countOf : List ℕ → ℕ
 countOf g = byteAt 4 g
-
-abbrev pub isOperation : ℕ → Bool
-isOperation o = eqb o presented || eqb o returned
 
 -- the mark, one of the two operations, a count of 1 to 4, and so many documents to the byte
 unfoldable pub groupGood : List ℕ → Bool

@@ -1,13 +1,20 @@
 -- A code is read back from its byte, so the byte tells the code; and the known bytes are those of the paper.
 use mathlib.Core.Path.{_≡_, refl, ap, sym, _∙_}
-use mathlib.Core.Bool.{Bool, true, false, cond}
+use mathlib.Core.Bool.{true, cond, false≢true}
 use mathlib.Core.List.{List, [], _∷_, _++_}
-use Prim.Native.Nat.{ℕ, zero, suc}
+use Prim.Native.Nat.{ℕ, zero, suc, _<_}
+use native.Mathlib.Nat.{mod-eq-of-lt}
+use lib.Dec.{ltb}
+use borrow.Author.Tests.{ltb-true}
+use Rattle.packed.specs.Every.{every}
+use Rattle.packed.specs.Number.{byteValue}
 use Rattle.packed.specs.Writing.{packedByte}
 use Rattle.codes.specs.declared.reply.Code.{Code}
 use Rattle.codes.specs.declared.reply.ReadCode.{ReadCode}
 use Rattle.codes.specs.Numbered.{numbered}
-use Rattle.codes.specs.Reply.{codes, codeByte, readCode}
+use Rattle.codes.specs.Reply.{codeNumber, codes, codeByte, readCode, isKnown, knownCode}
+use Rattle.packed.proofs.Laws.Writing.{packed-byte-value}
+use Rattle.codes.proofs.Laws.Numbered.{found-told}
 
 pub written-then-read : (c : Code) → readCode (codeByte c) ≡ ReadCode.Known c
 unfolding readCode numbered codes codeByte packedByte
@@ -23,18 +30,32 @@ written-then-read Code.TooLate = refl
 written-then-read Code.TooManyLots = refl
 written-then-read Code.TooManyDocuments = refl
 
+-- and a byte that is read as a code is the code's; every code has two digits
+told : (b : ℕ) (c : Code) → readCode b ≡ ReadCode.Known c → (b ≡ codeByte c) × (codeNumber c < 100)
+unfolding readCode every codes
+told b c =
+    found-told codeByte ReadCode.Known ReadCode.Unknown b (λ (x : Code). ltb (codeNumber x) 100) (λ (r : ReadCode). r ≡ ReadCode.Known c → (b ≡ codeByte c) × (codeNumber c < 100))
+    (λ (e : ReadCode.Unknown ≡ ReadCode.Known c). absurd (false≢true (ap isKnown e)))
+    (λ (x : Code) (h : b ≡ codeByte x) (p : ltb (codeNumber x) 100 ≡ true) (e : ReadCode.Known x ≡ ReadCode.Known c). let same : x ≡ c = cc in (h ∙ ap codeByte same, ltb-true (codeNumber c) 100 (ap (λ (y : Code). ltb (codeNumber y) 100) (sym same) ∙ p)))
+    codes
+    refl
+
+pub read-then-written : (b : ℕ) (c : Code) → readCode b ≡ ReadCode.Known c → b ≡ codeByte c
+read-then-written b c e = told b c e .0
+
+-- the byte holds the number
+pub code-value : (c : Code) → byteValue (codeByte c) ≡ codeNumber c
+unfolding codeByte
+code-value c = packed-byte-value (codeNumber c) ∙ mod-eq-of-lt (told (codeByte c) c (written-then-read c) .1)
+
 pub same-byte : (c d : Code) → codeByte c ≡ codeByte d → c ≡ d
 same-byte c d e = let known : ReadCode.Known c ≡ ReadCode.Known d = sym (written-then-read c) ∙ ap readCode e ∙ written-then-read d in cc
 
-isKnown : ReadCode → Bool
-isKnown (ReadCode.Known c) = true
-isKnown ReadCode.Unknown = false
-
 knownBelow : ℕ → List ℕ
 knownBelow zero = []
-knownBelow (suc b) = knownBelow b ++ cond (isKnown (readCode b)) (b ∷ []) []
+knownBelow (suc b) = knownBelow b ++ cond (knownCode b) (b ∷ []) []
 
 -- of all bytes these and no others are known: 00 and the codes that 01 lists, packed
 known-bytes : knownBelow 256 ≡ 0x00 ∷ 0x01 ∷ 0x03 ∷ 0x04 ∷ 0x06 ∷ 0x07 ∷ 0x08 ∷ 0x09 ∷ 0x10 ∷ 0x11 ∷ 0x12 ∷ []
-unfolding knownBelow isKnown readCode numbered codes codeByte packedByte
+unfolding knownBelow knownCode readCode numbered codes codeByte packedByte
 known-bytes = refl

@@ -18,12 +18,13 @@ use Rattle.codes.specs.Chain.{_when_}
 use Rattle.codes.proofs.Laws.Chain.{none-test, none-both}
 use Rattle.codes.specs.Field.{between}
 use Rattle.codes.specs.Body.{operationOf, cleared}
+use Rattle.document.specs.Operation.{isOperation}
 use Rattle.document.specs.Limits.{documentBytes}
 use Rattle.document.specs.Operation.{presentedNumber, returnedNumber}
 use Rattle.document.specs.Fields.{fieldsGood, amountsGood}
 use Rattle.document.specs.Drawee.{draweeServed}
 use Rattle.detail.specs.Limits.{headBytes, mostGroups, fillBytes, groupBytes}
-use Rattle.detail.specs.Groups.{groups, isOperation, groupGood, shapeGood, oneOperation, groupDocuments, documents}
+use Rattle.detail.specs.Groups.{groups, groupGood, shapeGood, oneOperation, groupDocuments, documents}
 use Rattle.detail.specs.Codes.{receiverCode, sendable, judged}
 use Rattle.detail.specs.Writing.{writtenGroup, written, partOf, clearedGroups}
 use Rattle.detail.proofs.Laws.Groups.{Good, good}

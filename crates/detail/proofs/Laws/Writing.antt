@@ -15,9 +15,10 @@ use Rattle.packed.proofs.Laws.FlatMap.{flat-map}
 use Rattle.packed.proofs.Laws.Pieces.{shorter, pieces-at, pieces-end, pieces-step, pieces-within, pieces-made, few-pieces}
 use Rattle.codes.specs.Field.{between}
 use Rattle.codes.specs.Body.{operationOf}
+use Rattle.document.specs.Operation.{isOperation}
 use Rattle.document.specs.Limits.{documentBytes, mostDocuments}
 use Rattle.detail.specs.Limits.{fullCount, mostGroups, fillBytes, groupBytes}
-use Rattle.detail.specs.Groups.{groups, isOperation, groupGood, shapeGood, oneOperation, groupDocuments, documents}
+use Rattle.detail.specs.Groups.{groups, groupGood, shapeGood, oneOperation, groupDocuments, documents}
 use Rattle.detail.specs.Writing.{writtenGroup, written}
 
 -- what is still to be written from place at of a part on

@@ -47,7 +47,7 @@ module _ (v : ℕ) where
   unfolding isDigits
   packed-byte-digits = rw (high-half, low-half, lt-ltb (v / 10 % 10) 10 (omega arith), lt-ltb (v % 10) 10 (omega arith))
 
-  packed-byte-value : byteValue (packedByte v) ≡ v % 100
+  pub packed-byte-value : byteValue (packedByte v) ≡ v % 100
   unfolding byteValue
   packed-byte-value = rw (high-half, low-half) (sym (mod-mul v {m = 10} (lit< tt) (lit< tt)))
 

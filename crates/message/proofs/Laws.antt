@@ -1,0 +1,7 @@
+-- Laws of the messages and of the reply, one file a notion.
+pub mod Reading
+pub mod Layout
+pub mod Envelope
+pub mod Header
+pub mod Total
+pub mod Reply

@@ -1,0 +1,113 @@
+-- Laws of a body of one length: which code each outcome of the tests earns, and the round trips.
+use mathlib.Core.Path.{_≡_, refl, ap, sym, _∙_}
+use mathlib.Core.Bool.{Bool, true, false, not, _&&_, _||_, and-eq-true-iff}
+use mathlib.Core.List.{List, [], _∷_, _++_, append-nil}
+use Prim.Native.Nat.{ℕ, _+_, _-_, _≤_, _<_}
+use native.Mathlib.Omega.{arith}
+use lib.Dec.{eqb, lit<}
+use lib.ListN.{length, drop}
+use borrow.Author.Tests.{eqb-true, eq-eqb, not-false}
+use Rattle.packed.specs.Part.{byteAt, part}
+use Rattle.packed.specs.Every.{every}
+use Rattle.packed.proofs.Laws.Part.{part-tail}
+use Rattle.packed.proofs.Laws.Every.{every-then}
+use Rattle.codes.specs.Body.{free, mark, operationOf, cleared}
+use Rattle.codes.specs.Chain.{_when_, _orelse_}
+use Rattle.codes.specs.Field.{Field, fieldGood, fieldDigits, fieldValue, tableGood, tableNumbers, tableTakes, tableWritten}
+use Rattle.codes.proofs.Laws.Chain.{applies, passes, none-test, none-both, last}
+use Rattle.codes.proofs.Laws.Table.{Adjoin, forward, written-length, written-then-read as table-written, read-then-written as table-read, rows-of, rows-all}
+use Rattle.message.specs.Reading.{reading}
+use Rattle.message.specs.Layout.{Layout, firstPosition, firstField, shapeGood, bodyCode, readBody, writtenBody}
+use Rattle.message.proofs.Laws.Reading.{said-values, said-number}
+
+-- what a good shape tells
+pub record Shaped (bytes operation : ℕ) (body : List ℕ) : Type 0 where
+  pub size : length body ≡ bytes
+  pub marked : byteAt 2 body ≡ mark
+  pub said : operationOf body ≡ operation
+
+pub shaped : (bytes operation : ℕ) (body : List ℕ) → shapeGood bytes operation body ≡ true → Shaped bytes operation body
+unfolding shapeGood
+shaped bytes operation body e =
+    let size = eqb (length body) bytes in
+    let marked = eqb (byteAt 2 body) mark in
+    let all = and-eq-true-iff (size && marked) (eqb (operationOf body) operation) .0 e in
+    let both = and-eq-true-iff size marked .0 (all .0) in
+    record { size = eqb-true (length body) bytes (both .0); marked = eqb-true (byteAt 2 body) mark (both .1); said = eqb-true (operationOf body) operation (all .1) }
+
+module _ (layout : Layout) (body : List ℕ) where
+  abbrev shape : Bool
+  shape = shapeGood (layout .bytes) (layout .operation) body
+
+  abbrev fields : Bool
+  fields = tableGood firstPosition 1 (layout .fields) body
+
+  abbrev amounts : Bool
+  amounts = tableGood firstPosition 3 (layout .fields) body
+
+  pub misshapen : shape ≡ false → bodyCode layout body ≡ 1
+  unfolding bodyCode
+  misshapen e = applies 1 (not shape) _ (lit< tt) (ap not e)
+
+  pub field-wrong : shape ≡ true → fields ≡ false → bodyCode layout body ≡ 1
+  unfolding bodyCode
+  field-wrong s e = passes 1 (not shape) _ (ap not s) ∙ applies 1 (not fields) _ (lit< tt) (ap not e)
+
+  pub amount-wrong : shape ≡ true → fields ≡ true → amounts ≡ false → bodyCode layout body ≡ 3
+  unfolding bodyCode _when_ _orelse_
+  amount-wrong s f e = rw (s, f, e)
+
+  pub accepted : shape ≡ true → fields ≡ true → amounts ≡ true → bodyCode layout body ≡ 0
+  unfolding bodyCode _when_ _orelse_
+  accepted s f e = rw (s, f, e)
+
+  pub accepted-told : bodyCode layout body ≡ 0 → (shape ≡ true) × (fields ≡ true) × (amounts ≡ true)
+  unfolding bodyCode
+  accepted-told e =
+      let first = none-both (1 when not shape) _ e in
+      let rest = none-both (1 when not fields) (3 when not amounts) (first .1) in
+      (not-false shape (none-test 1 (not shape) (lit< tt) (first .0)), not-false fields (none-test 1 (not fields) (lit< tt) (rest .0)), not-false amounts (none-test 3 (not amounts) (lit< tt) (rest .1)))
+
+  -- and so what the answer is
+  pub earns : (m : ℕ) → 0 < m → bodyCode layout body ≡ m → reading m [] ≡ readBody layout body
+  earns m h e = said-number (bodyCode layout body) m (tableNumbers firstPosition (layout .fields) body) h e
+
+  pub holds : (values : List ℕ) → bodyCode layout body ≡ 0 → values ≡ tableNumbers firstPosition (layout .fields) body → reading 0 values ≡ readBody layout body
+  holds values e h = said-values (bodyCode layout body) (tableNumbers firstPosition (layout .fields) body) values e h
+
+-- a layout whose rows fill the body from its first field on, and whose faults earn 01 or 03
+pub record Whole (layout : Layout) : Type 0 where
+  pub covers : Adjoin firstField (layout .bytes + 1) (layout .fields)
+  pub faults : every (λ (f : Field). eqb (f .code) 1 || eqb (f .code) 3) (layout .fields) ≡ true
+
+behind-free : (body : List ℕ) → 3 ≤ length body → drop 1 body ≡ byteAt 2 body ∷ operationOf body ∷ drop 3 body
+behind-free [] h = absurd (omega arith)
+behind-free (x ∷ []) h = absurd (omega arith)
+behind-free (x ∷ m ∷ []) h = absurd (omega arith)
+behind-free (x ∷ m ∷ o ∷ rest) h = refl
+
+module _ (layout : Layout) (whole : Whole layout) where
+  pub length-written : (vs : List ℕ) → tableTakes (layout .fields) vs ≡ true → length (writtenBody layout vs) ≡ layout .bytes
+  length-written vs e =
+      omega (arith, written-length firstField (layout .bytes + 1) (layout .fields) vs (whole .covers) e, forward firstField (layout .bytes + 1) (layout .fields) (whole .covers))
+
+  pub written-then-read : (vs : List ℕ) → tableTakes (layout .fields) vs ≡ true → readBody layout (writtenBody layout vs) ≡ reading 0 vs
+  unfolding shapeGood
+  written-then-read vs e =
+      let body = writtenBody layout vs in
+      let read = table-written firstPosition firstField (layout .bytes + 1) (layout .fields) vs [] body (omega arith) (whole .covers) e (sym (append-nil (tableWritten (layout .fields) vs))) in
+      let shape : shapeGood (layout .bytes) (layout .operation) body ≡ true = rw (eq-eqb (length body) (layout .bytes) (length-written vs e), eq-eqb (layout .operation) (layout .operation) refl) in
+      let good : (code : ℕ) → tableGood firstPosition code (layout .fields) body ≡ true = λ (code : ℕ). rows-of (fieldGood firstPosition body) code (layout .fields) (read .1) in
+      sym (holds layout body vs (accepted layout body shape (good 1) (good 3)) (sym (read .0)))
+
+  pub read-then-written : (body : List ℕ) → bodyCode layout body ≡ 0 → writtenBody layout (tableNumbers firstPosition (layout .fields) body) ≡ cleared body
+  read-then-written body e =
+      let told = accepted-told layout body e in
+      let known = shaped (layout .bytes) (layout .operation) body (told .0) in
+      let ends = forward firstField (layout .bytes + 1) (layout .fields) (whole .covers) in
+      let good = rows-all (fieldGood firstPosition body) 1 3 (layout .fields) (whole .faults) (told .1) (told .2) in
+      let digits = every-then (fieldGood firstPosition body) (fieldDigits firstPosition body) (λ (f : Field) (g : fieldGood firstPosition body f ≡ true). and-eq-true-iff (fieldDigits firstPosition body f) (fieldValue firstPosition body f) .0 g .0) (layout .fields) good in
+      let table = table-read firstPosition firstField (layout .bytes + 1) (layout .fields) body (omega arith) (whole .covers) (omega arith) digits in
+      let left : layout .bytes + 1 - firstField ≡ length body - 3 = omega arith in
+      let rest = table ∙ ap (λ (k : ℕ). part 3 k body) left ∙ part-tail 3 body in
+      (λ i. free ∷ sym (known .marked) i ∷ sym (known .said) i ∷ rest i) ∙ ap (λ (l : List ℕ). free ∷ l) (sym (behind-free body (omega arith)))

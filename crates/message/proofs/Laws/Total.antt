@@ -1,0 +1,46 @@
+-- Laws of the totals: their tests in short.
+use mathlib.Core.Path.{_≡_, refl, sym, _∙_}
+use mathlib.Core.Bool.{Bool, true, _&&_, and-true}
+use mathlib.Core.List.{List, [], _∷_}
+use Prim.Native.Nat.{ℕ, _+_, _-_}
+use native.Mathlib.Omega.{arith}
+use Rattle.packed.specs.Part.{part}
+use Rattle.packed.specs.Every.{every}
+use Rattle.packed.specs.Digits.{areDigits}
+use Rattle.packed.proofs.Laws.Digits.{digits-split}
+use Rattle.codes.specs.Field.{earning, tableGood}
+use Rattle.codes.proofs.Laws.Field.{adjoining}
+use Rattle.message.specs.Layout.{firstPosition, firstField}
+use Rattle.message.specs.Total.{lotTotal, lotTotalFields, sessionTotal, sessionTotalFields, totalFields}
+use Rattle.message.proofs.Laws.Layout.{Whole}
+
+pub lot-whole : Whole lotTotal
+unfolding lotTotalFields adjoining every
+lot-whole = record { covers = refl; faults = refl }
+
+pub session-whole : Whole sessionTotal
+unfolding sessionTotalFields adjoining every
+session-whole = record { covers = refl; faults = refl }
+
+any-two : (a b : Bool) → a && true && (b && true && true) ≡ a && b
+any-two a b = simp and-true
+
+module _ (d n c : ℕ) where
+  -- the printed positions of the amounts as places
+  pub nominal-at : 6 + d - 1 ≡ 5 + d
+  nominal-at = omega arith
+
+  pub commission-at : 6 + d + n - 1 ≡ 5 + d + n
+  commission-at = omega arith
+
+  -- digits of the two counters, and of the two amounts
+  pub counters-split : (s : List ℕ) → tableGood 1 1 (totalFields d n c) s ≡ areDigits (part 3 (2 + d) s)
+  unfolding totalFields earning every
+  counters-split s = any-two (areDigits (part 3 2 s)) (areDigits (part 5 d s)) ∙ sym (digits-split 3 2 d s)
+
+  pub amounts-split : (s : List ℕ) → tableGood 1 3 (totalFields d n c) s ≡ areDigits (part (5 + d) (n + c) s)
+  unfolding totalFields earning every
+  amounts-split s =
+      any-two (areDigits (part (6 + d - 1) n s)) (areDigits (part (6 + d + n - 1) c s))
+      ∙ (λ i. areDigits (part (nominal-at i) n s) && areDigits (part (commission-at i) c s))
+      ∙ sym (digits-split (5 + d) n c s)

@@ -1,0 +1,15 @@
+-- `read_session_total`: the printed table is that of these widths.
+use Rattle.message.specs.Total.{totalFields, sessionTotalFields}
+use borrow.Author.Needs.{needs}
+use Rattle.message.proofs.total.read_session_total.Statement.{statement}
+use Rattle.message.proofs.total.read_session_total.Tie as tie
+
+read-total-requires : tie.Need-read-total-requires
+read-total-requires c κs = search needs
+
+returns : tie.Need-returns
+unfolding totalFields sessionTotalFields
+returns c = c .read-total .ensures
+
+pub read-session-total-spec : {M : Type 1} → statement M
+read-session-total-spec = tie.close (tie.spec read-total-requires returns)

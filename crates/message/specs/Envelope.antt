@@ -1,0 +1,58 @@
+-- 01, 'Envelope': the 12 bytes before every body.
+use Prim.Native.Nat.{ℕ, _+_}
+use mathlib.Core.Bool.{Bool, not, _&&_}
+use mathlib.Core.List.{List, [], _∷_}
+use lib.Dec.{eqb}
+use lib.ListN.{length, drop}
+use Rattle.packed.specs.Part.{byteAt}
+use Rattle.codes.specs.Body.{longestBody}
+use Rattle.codes.specs.Chain.{_when_}
+use Rattle.codes.specs.Field.{Field, row, any, between, tableGood, tableNumbers, tableWritten}
+use Rattle.codes.specs.Refusal.{refusalNumber}
+use Rattle.codes.specs.declared.refusal.Refusal.{Refusal}
+use Rattle.message.specs.declared.envelope.Kind.{Kind}
+use Rattle.message.specs.declared.envelope.Envelope.{Envelope}
+use Rattle.message.specs.declared.envelope.ReadEnvelope.{ReadEnvelope}
+use Rattle.message.specs.Limits.{envelopeBytes, replyBytes, largestSerial}
+use Rattle.message.specs.Reading.{Reading, reading}
+
+abbrev pub kindByte : Kind → ℕ
+kindByte Kind.Message = 0x01
+kindByte Kind.Reply = 0x02
+
+-- what may follow an envelope of a kind: a body, or a reply's body
+abbrev pub lengthGood : Kind → ℕ → Bool
+lengthGood Kind.Message n = between (envelopeBytes + 1) (envelopeBytes + longestBody) n
+lengthGood Kind.Reply n = eqb n (envelopeBytes + replyBytes)
+
+-- behind the kind: position, bytes, rule; a fault in any is 21
+unfoldable pub envelopeFields : List Field
+envelopeFields =
+    row 21 2 3 any  -- date
+    ∷ row 21 5 2 any  -- presenting entity
+    ∷ row 21 7 2 any  -- receiving entity
+    ∷ row 21 9 4 (between 1 largestSerial)
+    ∷ []
+
+unfoldable pub envelopeGood : Kind → List ℕ → Bool
+envelopeGood kind bytes = lengthGood kind (length bytes) && eqb (byteAt 1 bytes) (kindByte kind) && tableGood 1 21 envelopeFields bytes
+
+-- 21, or the four numbers
+abbrev pub readEnvelope : Kind → List ℕ → Reading
+readEnvelope kind bytes = reading (21 when not (envelopeGood kind bytes)) (tableNumbers 1 envelopeFields bytes)
+
+-- the numbers of an envelope, in the order of the table
+abbrev pub envelopeValues : Envelope → List ℕ
+envelopeValues e = e .date ∷ e .presenting ∷ e .receiving ∷ e .serial ∷ []
+
+-- what the answer of a reading says
+abbrev pub envelopeSaid : ReadEnvelope → Reading
+envelopeSaid (ReadEnvelope.Read e) = reading 0 (envelopeValues e)
+envelopeSaid ReadEnvelope.Wrong = reading (refusalNumber Refusal.WrongEnvelope) []
+
+abbrev pub writtenEnvelope : Kind → Envelope → List ℕ
+writtenEnvelope kind e = kindByte kind ∷ tableWritten envelopeFields (envelopeValues e)
+
+-- what stands behind an envelope
+abbrev pub bodyOf : List ℕ → List ℕ
+bodyOf bytes = drop envelopeBytes bytes

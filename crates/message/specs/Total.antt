@@ -1,0 +1,50 @@
+-- 01, 'Lot total' and 'Session total'.
+use Prim.Native.Nat.{ℕ, _+_}
+use mathlib.Core.List.{List, [], _∷_}
+use Rattle.codes.specs.Field.{Field, field, amount, any}
+use Rattle.codes.specs.Reply.{codeNumber}
+use Rattle.message.specs.declared.total.Total.{Total}
+use Rattle.message.specs.declared.total.ReadTotal.{ReadTotal}
+use Rattle.message.specs.Limits.{lotTotalBytes, sessionTotalBytes}
+use Rattle.message.specs.Reading.{Reading, reading}
+use Rattle.message.specs.Layout.{Layout}
+use Rattle.message.specs.Content.{lotTotalOperation, sessionTotalOperation}
+
+-- position, bytes, rule
+unfoldable pub lotTotalFields : List Field
+lotTotalFields =
+    field 4 2 any  -- order number
+    ∷ field 6 3 any  -- documents
+    ∷ amount 9 8  -- nominal
+    ∷ amount 17 6  -- commission
+    ∷ []
+
+unfoldable pub sessionTotalFields : List Field
+sessionTotalFields =
+    field 4 2 any  -- lots
+    ∷ field 6 4 any  -- documents
+    ∷ amount 10 9  -- nominal
+    ∷ amount 19 7  -- commission
+    ∷ []
+
+abbrev pub lotTotal : Layout
+lotTotal = record { bytes = lotTotalBytes; operation = lotTotalOperation; fields = lotTotalFields }
+
+abbrev pub sessionTotal : Layout
+sessionTotal = record { bytes = sessionTotalBytes; operation = sessionTotalOperation; fields = sessionTotalFields }
+
+-- both are this one, in widths of their own for documents, nominal and commission
+unfoldable pub totalFields : (documents nominal commission : ℕ) → List Field
+totalFields d n c = field 4 2 any ∷ field 6 d any ∷ amount (6 + d) n ∷ amount (6 + d + n) c ∷ []
+
+abbrev pub total : (operation documents nominal commission : ℕ) → Layout
+total operation d n c = record { bytes = 5 + d + (n + c); operation = operation; fields = totalFields d n c }
+
+-- the numbers of a total, in the order of the tables
+abbrev pub totalValues : Total → List ℕ
+totalValues t = t .number ∷ t .stated .documents .0 ∷ t .stated .nominal .0 ∷ t .stated .commission .0 ∷ []
+
+-- what the answer of a reading says
+abbrev pub totalSaid : ReadTotal → Reading
+totalSaid (ReadTotal.Read t) = reading 0 (totalValues t)
+totalSaid (ReadTotal.Wrong c) = reading (codeNumber c) []

@@ -1,0 +1,97 @@
+// The envelope before every body: kind, date, the two entities and the serial.
+use crate::reply::REPLY_BYTES;
+use codes::body::LONGEST_BODY;
+use packed::digits::are_digits;
+use packed::number::number;
+use packed::number::number2;
+use packed::number::number4;
+use packed::writing::put;
+ghost use mathlib.Core.Path.{_≡_};
+ghost use Prim.Native.Nat.{_≤_};
+ghost use lib.ListN.{length};
+ghost use lib.Seq.{sets};
+ghost use Rattle.codes.specs.Field.{tableNumbers};
+ghost use Rattle.message.specs.Limits.{envelopeBytes};
+ghost use Rattle.message.specs.Envelope.{kindByte, lengthGood, envelopeFields, envelopeValues, readEnvelope, envelopeSaid, writtenEnvelope};
+
+pub const ENVELOPE_BYTES: usize = 12;
+
+pub const LARGEST_SERIAL: u32 = 99_999_999;
+
+// What an envelope is before.
+pub enum Kind {
+    Message,
+    Reply,
+}
+
+pub struct Envelope {
+    pub date: u32,
+    pub presenting: u16,
+    pub receiving: u16,
+    pub serial: u32,
+}
+
+pub enum ReadEnvelope {
+    Read(Envelope),
+    Wrong,
+}
+
+fn kind_byte(kind: Kind) -> u8
+    ensures { λ r. ⌜ r ≡ kindByte kind ⌝ }
+{
+    match kind {
+        Kind::Message => 0x01,
+        Kind::Reply => 0x02,
+    }
+}
+
+// Whether envelope and body have a length that the kind allows.
+fn length_good(kind: Kind, n: usize) -> bool
+    ensures { λ r. ⌜ r ≡ lengthGood kind n ⌝ }
+{
+    match kind {
+        Kind::Message => (ENVELOPE_BYTES + 1 <= n) & (n <= ENVELOPE_BYTES + LONGEST_BODY),
+        Kind::Reply => n == ENVELOPE_BYTES + REPLY_BYTES,
+    }
+}
+
+// The four numbers, whatever their digits.
+fn fields_of(bytes: &[u8]) -> Envelope
+    requires { ⌜ envelopeBytes ≤ length (now bytes) ⌝ }
+    ensures { λ r. ⌜ envelopeValues r ≡ tableNumbers 1 envelopeFields (now (bytes .entry)) ⌝ }
+{
+    Envelope {
+        date: number(bytes, 1, 3) as u32,
+        presenting: number2(bytes, 4),
+        receiving: number2(bytes, 6),
+        serial: number4(bytes, 8),
+    }
+}
+
+// The envelope of bytes that should be a message, or that should be a reply.
+pub fn read_envelope(bytes: &[u8], kind: Kind) -> ReadEnvelope
+    ensures { λ r. ⌜ envelopeSaid r ≡ readEnvelope kind (now (bytes .entry)) ⌝ }
+{
+    if length_good(kind, bytes.len()) {
+        let e = fields_of(bytes);
+        if (bytes[0] == kind_byte(kind))
+            & are_digits(bytes, 1, 11)
+            & ((1 <= e.serial) & (e.serial <= LARGEST_SERIAL))
+        {
+            return ReadEnvelope::Read(e);
+        }
+    }
+    ReadEnvelope::Wrong
+}
+
+// Writes an envelope at the start of the line buffer; every other byte keeps its value.
+pub fn write_envelope(line: &mut [u8], kind: Kind, e: Envelope)
+    requires { ⌜ envelopeBytes ≤ length (now line) ⌝ }
+    ensures { λ _. ⌜ now (line .exit) ≡ sets (now (line .entry)) 0 (writtenEnvelope kind e) ⌝ }
+{
+    line[0] = kind_byte(kind);
+    put(line, 1, 3, e.date as u64);
+    put(line, 4, 2, e.presenting as u64);
+    put(line, 6, 2, e.receiving as u64);
+    put(line, 8, 4, e.serial as u64);
+}

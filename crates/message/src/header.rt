@@ -1,0 +1,108 @@
+// The header, which opens a lot.
+use crate::content::HEADER;
+use crate::layout::shape_good;
+use crate::layout::write_head;
+use packed::digits::are_digits;
+use packed::number::number;
+use packed::number::number2;
+use packed::number::number4;
+use packed::writing::put;
+ghost use mathlib.Core.Path.{_≡_};
+ghost use Prim.Native.Nat.{_≤_};
+ghost use lib.ListN.{length};
+ghost use lib.Seq.{sets};
+ghost use Rattle.packed.specs.Part.{part};
+ghost use Rattle.packed.specs.Number.{number};
+ghost use Rattle.codes.specs.Field.{tableNumbers};
+ghost use Rattle.message.specs.Limits.{headerBytes};
+ghost use Rattle.message.specs.Layout.{readBody, writtenBody};
+ghost use Rattle.message.specs.Header.{timeOfDay, orderNumber, headerFields, header, headerNumbers, headerValues, headerSaid, sendable};
+
+pub const HEADER_BYTES: usize = 19;
+
+// The largest order number, and the largest centre.
+pub const LARGEST_NUMBER: u16 = 9999;
+
+// The time is hhmmsscc.
+pub struct Header {
+    pub time: u32,
+    pub date: u32,
+    pub presenting: u16,
+    pub receiving: u16,
+    pub centre: u16,
+    pub number: u16,
+}
+
+pub enum ReadHeader {
+    Read(Header),
+    Wrong,
+}
+
+fn time_of_day(v: u32) -> bool
+    ensures { λ r. ⌜ r ≡ timeOfDay v ⌝ }
+{
+    (v / 1_000_000 < 24) & (v / 10_000 % 100 < 60) & (v / 100 % 100 < 60)
+}
+
+fn order_number(v: u16) -> bool
+    ensures { λ r. ⌜ r ≡ orderNumber v ⌝ }
+{
+    (1 <= v) & (v <= LARGEST_NUMBER)
+}
+
+// Whether a presenter may write a header of these.
+pub fn sendable(time: u32, centre: u16, number: u16) -> bool
+    ensures { λ r. ⌜ r ≡ sendable time centre number ⌝ }
+{
+    time_of_day(time) & (centre <= LARGEST_NUMBER) & order_number(number)
+}
+
+// The six numbers, whatever their digits.
+fn fields_of(body: &[u8]) -> Header
+    requires { ⌜ headerBytes ≤ length (now body) ⌝ }
+    ensures { λ r. ⌜ headerNumbers r (number (part 18 1 (now (body .entry)))) ≡ tableNumbers 1 (headerFields 0 0 0) (now (body .entry)) ⌝ }
+{
+    Header {
+        time: number4(body, 3),
+        date: number(body, 7, 3) as u32,
+        presenting: number2(body, 10),
+        receiving: number2(body, 12),
+        centre: number2(body, 14),
+        number: number2(body, 16),
+    }
+}
+
+// A received body, in a session of this date and in the direction of these entities.
+pub fn read_header(body: &[u8], date: u32, presenting: u16, receiving: u16) -> ReadHeader
+    ensures { λ r. ⌜ headerSaid r ≡ readBody (header date presenting receiving) (now (body .entry)) ⌝ }
+{
+    if shape_good(body, HEADER_BYTES, HEADER) {
+        let h = fields_of(body);
+        if are_digits(body, 3, 16)
+            & time_of_day(h.time)
+            & (h.date == date)
+            & (h.presenting == presenting)
+            & (h.receiving == receiving)
+            & order_number(h.number)
+            & (number(body, 18, 1) == 0)
+        {
+            return ReadHeader::Read(h);
+        }
+    }
+    ReadHeader::Wrong
+}
+
+// Writes a header's body at the start of `out`; every other byte keeps its value.
+pub fn write_header(out: &mut [u8], h: Header)
+    requires { ⌜ headerBytes ≤ length (now out) ⌝ }
+    ensures { λ _. ⌜ now (out .exit) ≡ sets (now (out .entry)) 0 (writtenBody (header (h .date) (h .presenting) (h .receiving)) (headerValues h)) ⌝ }
+{
+    write_head(out, HEADER);
+    put(out, 3, 4, h.time as u64);
+    put(out, 7, 3, h.date as u64);
+    put(out, 10, 2, h.presenting as u64);
+    put(out, 12, 2, h.receiving as u64);
+    put(out, 14, 2, h.centre as u64);
+    put(out, 16, 2, h.number as u64);
+    put(out, 18, 1, 0);
+}

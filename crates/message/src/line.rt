@@ -1,0 +1,55 @@
+// Whole messages and whole replies in the lent line buffer: an envelope, and a body from byte 13 on.
+use crate::envelope::ENVELOPE_BYTES;
+use crate::envelope::Envelope;
+use crate::envelope::Kind;
+use crate::envelope::write_envelope;
+use crate::header::Header;
+use crate::header::write_header;
+use crate::reply::Reply;
+use crate::reply::write_reply_body;
+use crate::total::Total;
+use crate::total::write_lot_total;
+use crate::total::write_session_total;
+ghost use mathlib.Core.Path.{_≡_};
+ghost use Prim.Native.Nat.{_+_, _≤_};
+ghost use lib.ListN.{length};
+ghost use lib.Seq.{sets};
+ghost use Rattle.message.specs.Limits.{envelopeBytes, replyBytes};
+ghost use Rattle.message.specs.Line.{bodyBytes, message, wholeReply};
+
+// A body to be written. A detail is written from its documents by the crate `detail`.
+pub enum Body {
+    Header(Header),
+    LotTotal(Total),
+    SessionTotal(Total),
+}
+
+// Writes a body at the start of `out`; every other byte keeps its value.
+fn write_body(out: &mut [u8], body: Body)
+    requires { ⌜ length (bodyBytes body) ≤ length (now out) ⌝ }
+    ensures { λ _. ⌜ now (out .exit) ≡ sets (now (out .entry)) 0 (bodyBytes body) ⌝ }
+{
+    match body {
+        Body::Header(h) => write_header(out, h),
+        Body::LotTotal(t) => write_lot_total(out, t),
+        Body::SessionTotal(t) => write_session_total(out, t),
+    }
+}
+
+// Writes a message at the start of the line buffer; every other byte keeps its value.
+pub fn write_message(line: &mut [u8], e: Envelope, body: Body)
+    requires { ⌜ envelopeBytes + length (bodyBytes body) ≤ length (now line) ⌝ }
+    ensures { λ _. ⌜ now (line .exit) ≡ sets (now (line .entry)) 0 (message e (bodyBytes body)) ⌝ }
+{
+    write_envelope(line, Kind::Message, e);
+    write_body(&mut line[ENVELOPE_BYTES..], body);
+}
+
+// Writes a reply at the start of the line buffer; every other byte keeps its value. The envelope is that of the message.
+pub fn write_reply(line: &mut [u8], e: Envelope, r: Reply)
+    requires { ⌜ envelopeBytes + replyBytes ≤ length (now line) ⌝ }
+    ensures { λ _. ⌜ now (line .exit) ≡ sets (now (line .entry)) 0 (wholeReply e r) ⌝ }
+{
+    write_envelope(line, Kind::Reply, e);
+    write_reply_body(&mut line[ENVELOPE_BYTES..], r);
+}
