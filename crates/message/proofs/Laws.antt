@@ -5,3 +5,4 @@ pub mod Envelope
 pub mod Header
 pub mod Total
 pub mod Reply
+pub mod Line

@@ -1,7 +1,7 @@
 -- 01, 'Envelope': the 12 bytes before every body.
 use Prim.Native.Nat.{ℕ, _+_}
 use mathlib.Core.Bool.{Bool, not, _&&_}
-use mathlib.Core.List.{List, [], _∷_}
+use mathlib.Core.List.{List, [], _∷_, _++_}
 use lib.Dec.{eqb}
 use lib.ListN.{length, drop}
 use Rattle.packed.specs.Part.{byteAt}
@@ -14,6 +14,7 @@ use Rattle.message.specs.declared.envelope.Kind.{Kind}
 use Rattle.message.specs.declared.envelope.Envelope.{Envelope}
 use Rattle.message.specs.declared.envelope.ReadEnvelope.{ReadEnvelope}
 use Rattle.message.specs.Limits.{envelopeBytes, replyBytes, largestSerial}
+use Rattle.message.specs.Route.{routeValues}
 use Rattle.message.specs.Reading.{Reading, reading}
 
 abbrev pub kindByte : Kind → ℕ
@@ -43,7 +44,7 @@ readEnvelope kind bytes = reading (21 when not (envelopeGood kind bytes)) (table
 
 -- the numbers of an envelope, in the order of the table
 abbrev pub envelopeValues : Envelope → List ℕ
-envelopeValues e = e .date ∷ e .presenting ∷ e .receiving ∷ e .serial ∷ []
+envelopeValues e = routeValues (e .route) ++ e .serial ∷ []
 
 -- what the answer of a reading says
 abbrev pub envelopeSaid : ReadEnvelope → Reading

@@ -1,15 +1,17 @@
 -- 01, 'Header'.
 use Prim.Native.Nat.{ℕ, _/_, _%_}
 use mathlib.Core.Bool.{Bool, _&&_}
-use mathlib.Core.List.{List, [], _∷_}
+use mathlib.Core.List.{List, [], _∷_, _++_}
 use lib.Dec.{leb, ltb}
 use Rattle.codes.specs.Field.{Field, field, any, between, exactly}
 use Rattle.codes.specs.Reply.{codeNumber}
 use Rattle.codes.specs.declared.reply.Code.{Code}
+use Rattle.message.specs.declared.route.Route.{Route}
 use Rattle.message.specs.declared.header.Header.{Header}
 use Rattle.message.specs.declared.header.ReadHeader.{ReadHeader}
 use Rattle.message.specs.Limits.{headerBytes, largestNumber}
 use Rattle.message.specs.Reading.{Reading, reading}
+use Rattle.message.specs.Route.{routeValues}
 use Rattle.message.specs.Layout.{Layout}
 use Rattle.message.specs.Content.{headerOperation}
 
@@ -21,24 +23,24 @@ timeOfDay v = ltb (v / 1000000) 24 && ltb (v / 10000 % 100) 60 && ltb (v / 100 %
 abbrev pub orderNumber : ℕ → Bool
 orderNumber v = between 1 largestNumber v
 
--- position, bytes, rule; date and entities are the session's
-unfoldable pub headerFields : (date presenting receiving : ℕ) → List Field
-headerFields date presenting receiving =
+-- position, bytes, rule; date and entities are those of the direction
+unfoldable pub headerFields : Route → List Field
+headerFields route =
     field 4 4 timeOfDay
-    ∷ field 8 3 (exactly date)
-    ∷ field 11 2 (exactly presenting)
-    ∷ field 13 2 (exactly receiving)
+    ∷ field 8 3 (exactly (route .date))
+    ∷ field 11 2 (exactly (route .presenting))
+    ∷ field 13 2 (exactly (route .receiving))
     ∷ field 15 2 any  -- centre
     ∷ field 17 2 orderNumber
     ∷ field 19 1 (exactly 0)
     ∷ []
 
-abbrev pub header : (date presenting receiving : ℕ) → Layout
-header date presenting receiving = record { bytes = headerBytes; operation = headerOperation; fields = headerFields date presenting receiving }
+abbrev pub header : Route → Layout
+header route = record { bytes = headerBytes; operation = headerOperation; fields = headerFields route }
 
 -- the numbers of a header, in the order of the table, and the zero at its end
 abbrev pub headerNumbers : Header → (last : ℕ) → List ℕ
-headerNumbers h last = h .time ∷ h .date ∷ h .presenting ∷ h .receiving ∷ h .centre ∷ h .number ∷ last ∷ []
+headerNumbers h last = h .time ∷ routeValues (h .route) ++ h .centre ∷ h .number ∷ last ∷ []
 
 abbrev pub headerValues : Header → List ℕ
 headerValues h = headerNumbers h 0

@@ -2,6 +2,7 @@
 pub mod Limits
 pub mod Reading
 pub mod Layout
+pub mod Route
 pub mod Envelope
 pub mod Content
 pub mod Header

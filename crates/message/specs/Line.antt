@@ -5,6 +5,7 @@ use Rattle.message.specs.declared.envelope.Kind.{Kind}
 use Rattle.message.specs.declared.envelope.Envelope.{Envelope}
 use Rattle.message.specs.declared.reply.Reply.{Reply}
 use Rattle.message.specs.declared.line.Body.{Body}
+use Rattle.message.specs.Limits.{headerBytes, lotTotalBytes, sessionTotalBytes}
 use Rattle.message.specs.Layout.{writtenBody}
 use Rattle.message.specs.Envelope.{writtenEnvelope}
 use Rattle.message.specs.Header.{header, headerValues}
@@ -13,9 +14,15 @@ use Rattle.message.specs.Reply.{writtenReplyBody}
 
 -- the bytes of a body
 unfoldable pub bodyBytes : Body → List ℕ
-bodyBytes (Body.Header h) = writtenBody (header (h .date) (h .presenting) (h .receiving)) (headerValues h)
+bodyBytes (Body.Header h) = writtenBody (header (h .route)) (headerValues h)
 bodyBytes (Body.LotTotal t) = writtenBody lotTotal (totalValues t)
 bodyBytes (Body.SessionTotal t) = writtenBody sessionTotal (totalValues t)
+
+-- how many they are
+abbrev pub bodyLength : Body → ℕ
+bodyLength (Body.Header h) = headerBytes
+bodyLength (Body.LotTotal t) = lotTotalBytes
+bodyLength (Body.SessionTotal t) = sessionTotalBytes
 
 -- a body behind its envelope
 abbrev pub message : Envelope → (body : List ℕ) → List ℕ

@@ -1,9 +1,10 @@
-// The envelope before every body: kind, date, the two entities and the serial.
+// The envelope before every body: kind, route and serial.
 use crate::reply::REPLY_BYTES;
+use crate::route::Route;
+use crate::route::read_route;
+use crate::route::write_route;
 use codes::body::LONGEST_BODY;
 use packed::digits::are_digits;
-use packed::number::number;
-use packed::number::number2;
 use packed::number::number4;
 use packed::writing::put;
 ghost use mathlib.Core.Path.{_≡_};
@@ -25,9 +26,7 @@ pub enum Kind {
 }
 
 pub struct Envelope {
-    pub date: u32,
-    pub presenting: u16,
-    pub receiving: u16,
+    pub route: Route,
     pub serial: u32,
 }
 
@@ -55,15 +54,13 @@ fn length_good(kind: Kind, n: usize) -> bool
     }
 }
 
-// The four numbers, whatever their digits.
+// Route and serial, whatever their digits.
 fn fields_of(bytes: &[u8]) -> Envelope
     requires { ⌜ envelopeBytes ≤ length (now bytes) ⌝ }
     ensures { λ r. ⌜ envelopeValues r ≡ tableNumbers 1 envelopeFields (now (bytes .entry)) ⌝ }
 {
     Envelope {
-        date: number(bytes, 1, 3) as u32,
-        presenting: number2(bytes, 4),
-        receiving: number2(bytes, 6),
+        route: read_route(bytes, 1),
         serial: number4(bytes, 8),
     }
 }
@@ -89,9 +86,8 @@ pub fn write_envelope(line: &mut [u8], kind: Kind, e: Envelope)
     requires { ⌜ envelopeBytes ≤ length (now line) ⌝ }
     ensures { λ _. ⌜ now (line .exit) ≡ sets (now (line .entry)) 0 (writtenEnvelope kind e) ⌝ }
 {
+    let route = e.route;
     line[0] = kind_byte(kind);
-    put(line, 1, 3, e.date as u64);
-    put(line, 4, 2, e.presenting as u64);
-    put(line, 6, 2, e.receiving as u64);
+    write_route(line, 1, route);
     put(line, 8, 4, e.serial as u64);
 }

@@ -2,6 +2,10 @@
 use crate::content::HEADER;
 use crate::layout::shape_good;
 use crate::layout::write_head;
+use crate::route::Route;
+use crate::route::read_route;
+use crate::route::same_route;
+use crate::route::write_route;
 use packed::digits::are_digits;
 use packed::number::number;
 use packed::number::number2;
@@ -26,9 +30,7 @@ pub const LARGEST_NUMBER: u16 = 9999;
 // The time is hhmmsscc.
 pub struct Header {
     pub time: u32,
-    pub date: u32,
-    pub presenting: u16,
-    pub receiving: u16,
+    pub route: Route,
     pub centre: u16,
     pub number: u16,
 }
@@ -57,32 +59,29 @@ pub fn sendable(time: u32, centre: u16, number: u16) -> bool
     time_of_day(time) & (centre <= LARGEST_NUMBER) & order_number(number)
 }
 
-// The six numbers, whatever their digits.
+// All but the zero at the end, whatever their digits.
 fn fields_of(body: &[u8]) -> Header
     requires { ⌜ headerBytes ≤ length (now body) ⌝ }
-    ensures { λ r. ⌜ headerNumbers r (number (part 18 1 (now (body .entry)))) ≡ tableNumbers 1 (headerFields 0 0 0) (now (body .entry)) ⌝ }
+    ensures { λ r. ⌜ headerNumbers r (number (part 18 1 (now (body .entry)))) ≡ tableNumbers 1 (headerFields (r .route)) (now (body .entry)) ⌝ }
 {
     Header {
         time: number4(body, 3),
-        date: number(body, 7, 3) as u32,
-        presenting: number2(body, 10),
-        receiving: number2(body, 12),
+        route: read_route(body, 7),
         centre: number2(body, 14),
         number: number2(body, 16),
     }
 }
 
-// A received body, in a session of this date and in the direction of these entities.
-pub fn read_header(body: &[u8], date: u32, presenting: u16, receiving: u16) -> ReadHeader
-    ensures { λ r. ⌜ headerSaid r ≡ readBody (header date presenting receiving) (now (body .entry)) ⌝ }
+// A received body, in a direction of this route.
+pub fn read_header(body: &[u8], route: Route) -> ReadHeader
+    ensures { λ r. ⌜ headerSaid r ≡ readBody (header route) (now (body .entry)) ⌝ }
 {
     if shape_good(body, HEADER_BYTES, HEADER) {
         let h = fields_of(body);
+        let read = h.route;
         if are_digits(body, 3, 16)
             & time_of_day(h.time)
-            & (h.date == date)
-            & (h.presenting == presenting)
-            & (h.receiving == receiving)
+            & same_route(read, route)
             & order_number(h.number)
             & (number(body, 18, 1) == 0)
         {
@@ -95,13 +94,12 @@ pub fn read_header(body: &[u8], date: u32, presenting: u16, receiving: u16) -> R
 // Writes a header's body at the start of `out`; every other byte keeps its value.
 pub fn write_header(out: &mut [u8], h: Header)
     requires { ⌜ headerBytes ≤ length (now out) ⌝ }
-    ensures { λ _. ⌜ now (out .exit) ≡ sets (now (out .entry)) 0 (writtenBody (header (h .date) (h .presenting) (h .receiving)) (headerValues h)) ⌝ }
+    ensures { λ _. ⌜ now (out .exit) ≡ sets (now (out .entry)) 0 (writtenBody (header (h .route)) (headerValues h)) ⌝ }
 {
+    let route = h.route;
     write_head(out, HEADER);
     put(out, 3, 4, h.time as u64);
-    put(out, 7, 3, h.date as u64);
-    put(out, 10, 2, h.presenting as u64);
-    put(out, 12, 2, h.receiving as u64);
+    write_route(out, 7, route);
     put(out, 14, 2, h.centre as u64);
     put(out, 16, 2, h.number as u64);
     put(out, 18, 1, 0);

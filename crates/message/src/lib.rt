@@ -8,4 +8,5 @@ pub mod header;
 pub mod layout;
 pub mod line;
 pub mod reply;
+pub mod route;
 pub mod total;

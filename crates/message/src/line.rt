@@ -3,10 +3,13 @@ use crate::envelope::ENVELOPE_BYTES;
 use crate::envelope::Envelope;
 use crate::envelope::Kind;
 use crate::envelope::write_envelope;
+use crate::header::HEADER_BYTES;
 use crate::header::Header;
 use crate::header::write_header;
 use crate::reply::Reply;
 use crate::reply::write_reply_body;
+use crate::total::LOT_TOTAL_BYTES;
+use crate::total::SESSION_TOTAL_BYTES;
 use crate::total::Total;
 use crate::total::write_lot_total;
 use crate::total::write_session_total;
@@ -15,7 +18,7 @@ ghost use Prim.Native.Nat.{_+_, _≤_};
 ghost use lib.ListN.{length};
 ghost use lib.Seq.{sets};
 ghost use Rattle.message.specs.Limits.{envelopeBytes, replyBytes};
-ghost use Rattle.message.specs.Line.{bodyBytes, message, wholeReply};
+ghost use Rattle.message.specs.Line.{bodyBytes, bodyLength, message, wholeReply};
 
 // A body to be written. A detail is written from its documents by the crate `detail`.
 pub enum Body {
@@ -24,9 +27,20 @@ pub enum Body {
     SessionTotal(Total),
 }
 
+// How many bytes it takes.
+pub fn body_length(body: Body) -> usize
+    ensures { λ r. ⌜ r ≡ bodyLength body ⌝ }
+{
+    match body {
+        Body::Header(_) => HEADER_BYTES,
+        Body::LotTotal(_) => LOT_TOTAL_BYTES,
+        Body::SessionTotal(_) => SESSION_TOTAL_BYTES,
+    }
+}
+
 // Writes a body at the start of `out`; every other byte keeps its value.
 fn write_body(out: &mut [u8], body: Body)
-    requires { ⌜ length (bodyBytes body) ≤ length (now out) ⌝ }
+    requires { ⌜ bodyLength body ≤ length (now out) ⌝ }
     ensures { λ _. ⌜ now (out .exit) ≡ sets (now (out .entry)) 0 (bodyBytes body) ⌝ }
 {
     match body {
@@ -38,7 +52,7 @@ fn write_body(out: &mut [u8], body: Body)
 
 // Writes a message at the start of the line buffer; every other byte keeps its value.
 pub fn write_message(line: &mut [u8], e: Envelope, body: Body)
-    requires { ⌜ envelopeBytes + length (bodyBytes body) ≤ length (now line) ⌝ }
+    requires { ⌜ envelopeBytes + bodyLength body ≤ length (now line) ⌝ }
     ensures { λ _. ⌜ now (line .exit) ≡ sets (now (line .entry)) 0 (message e (bodyBytes body)) ⌝ }
 {
     write_envelope(line, Kind::Message, e);

@@ -1,5 +1,5 @@
 -- `read_header`: a body without the shape is 01; else digits and rules decide, and no field is an amount.
-use mathlib.Core.Path.{_≡_, refl, ap, sym, _∙_}
+use mathlib.Core.Path.{_≡_, ap, sym, _∙_}
 use mathlib.Core.Bool.{Bool, true, false, _&&_, and-eq-true-iff}
 use mathlib.Core.List.{List}
 use Prim.Native.Nat.{ℕ, _≤_}
@@ -8,14 +8,13 @@ use borrow.Author.Needs.{needs}
 use borrow.Author.Tests.{eqb-true}
 use lib.Dec.{lit<}
 use lib.ListN.{length}
-use Rattle.packed.specs.Every.{every}
-use Rattle.codes.specs.Field.{exactly, earning, tableGood, tableNumbers}
+use Rattle.codes.specs.Field.{exactly, tableGood, tableNumbers}
 use Rattle.message.specs.Limits.{headerBytes}
 use Rattle.message.specs.Layout.{Layout, shapeGood}
 use Rattle.message.specs.Content.{headerOperation}
 use Rattle.message.specs.Header.{headerFields, header, headerNumbers, headerValues}
 use Rattle.message.proofs.Laws.Layout.{shaped, misshapen, field-wrong, accepted, earns, holds}
-use Rattle.message.proofs.Laws.Header.{decided}
+use Rattle.message.proofs.Laws.Header.{no-amounts, decided}
 use Rattle.message.proofs.header.read_header.Statement.{statement}
 use Rattle.message.proofs.header.read_header.Tie as tie
 
@@ -33,59 +32,53 @@ fields-of-requires : tie.Need-fields-of-requires
 fields-of-requires c κs = enough c
 
 are-digits-requires : tie.Need-are-digits-requires
-are-digits-requires c κs = enough (c .before)
+are-digits-requires c κs = enough (c .before .before)
 
 time-of-day-requires : tie.Need-time-of-day-requires
 time-of-day-requires c κs = search needs
+
+same-route-requires : tie.Need-same-route-requires
+same-route-requires c κs = search needs
 
 order-number-requires : tie.Need-order-number-requires
 order-number-requires c κs = search needs
 
 number-requires : tie.Need-number-requires
-number-requires c κs = (enough (c .before .before .before .before .before .before .before), omega arith)
+number-requires c κs = (enough (c .before .before .before .before .before .before), omega arith)
 
 abbrev layout : tie.After-number → Layout
-layout t = let a = t .before .before .before .before .before .before .before .before .before .before .before .args in header (a .date) (a .presenting) (a .receiving)
+layout t = header (t .before .before .before .before .before .before .before .before .before .before .args .route)
 
 abbrev body : tie.After-number → List ℕ
-body t = t .before .before .before .before .before .before .before .before .before .before .before .args .body .now
+body t = t .before .before .before .before .before .before .before .before .before .before .args .body .now
 
--- what is tested of the fields, and then the zero at the end
-abbrev tests : tie.After-number → Bool
-tests t =
-    let a = t .before .before .before .before .before .before .before .before .before .before .before .args in
-    let h = t .before .before .before .before .before .before .before .fields-of .result in
-    t .before .before .before .before .before .before .are-digits .result && t .before .before .before .before .before .time-of-day .result && exactly (a .date) (h .date) && exactly (a .presenting) (h .presenting) && exactly (a .receiving) (h .receiving) && t .before .order-number .result
-
-numbers : (t : tie.After-number) → headerNumbers (t .before .before .before .before .before .before .before .fields-of .result) (t .number .result) ≡ tableNumbers 1 (layout t .fields) (body t)
+numbers : (t : tie.After-number) → headerNumbers (t .before .before .before .before .before .before .fields-of .result) (t .number .result) ≡ tableNumbers 1 (layout t .fields) (body t)
 unfolding headerFields
-numbers t = ap (headerNumbers (t .before .before .before .before .before .before .before .fields-of .result)) (t .number .ensures .0) ∙ t .before .before .before .before .before .before .before .fields-of .ensures
+numbers t = ap (headerNumbers (t .before .before .before .before .before .before .fields-of .result)) (t .number .ensures .0) ∙ t .before .before .before .before .before .before .fields-of .ensures
+
+-- what is tested before the zero at the end
+abbrev tests : tie.After-number → Bool
+tests t = t .before .before .before .before .are-digits .result && t .before .before .before .time-of-day .result && t .before .before .same-route .result && t .before .order-number .result
 
 tested : (t : tie.After-number) (b : Bool) → tests t && exactly 0 (t .number .result) ≡ b → tableGood 1 1 (layout t .fields) (body t) ≡ b
 tested t b e =
-    let a = t .before .before .before .before .before .before .before .before .before .before .before .args in
-    decided (a .date) (a .presenting) (a .receiving) (t .before .before .before .before .before .before .before .fields-of .result) (t .number .result) (t .before .before .before .before .before .before .are-digits .result) (t .before .before .before .before .before .time-of-day .result) (t .before .order-number .result) b (body t) (numbers t) (t .before .before .before .before .before .before .are-digits .ensures) (t .before .before .before .before .before .time-of-day .ensures) (t .before .order-number .ensures) e
-
-no-amounts : (t : tie.After-number) → tableGood 1 3 (layout t .fields) (body t) ≡ true
-unfolding headerFields earning every
-no-amounts t = refl
+    decided (t .before .before .before .before .before .before .before .before .before .before .args .route) (t .before .before .before .before .before .before .fields-of .result) (t .number .result) (t .before .before .before .before .are-digits .result) (t .before .before .before .time-of-day .result) (t .before .before .same-route .result) (t .before .order-number .result) b (body t) (numbers t) (t .before .before .before .before .are-digits .ensures) (t .before .before .before .time-of-day .ensures) (t .before .before .same-route .ensures) (t .before .order-number .ensures) e
 
 returns : tie.Need-returns
 returns c =
     let t = c .before in
     let zero : t .number .result ≡ 0 = eqb-true (t .number .result) 0 (and-eq-true-iff (tests t) (exactly 0 (t .number .result)) .0 (c .if2 .taken) .1) in
-    holds (layout t) (body t) (headerValues (t .before .before .before .before .before .before .before .fields-of .result)) (accepted (layout t) (body t) (shape (t .before .before .before .before .before .before .before .before)) (tested t true (c .if2 .taken)) (no-amounts t)) (ap (headerNumbers (t .before .before .before .before .before .before .before .fields-of .result)) (sym zero) ∙ numbers t)
+    holds (layout t) (body t) (headerValues (t .before .before .before .before .before .before .fields-of .result)) (accepted (layout t) (body t) (shape (t .before .before .before .before .before .before .before)) (tested t true (c .if2 .taken)) (no-amounts (t .before .before .before .before .before .before .before .before .before .before .args .route) (body t))) (ap (headerNumbers (t .before .before .before .before .before .before .fields-of .result)) (sym zero) ∙ numbers t)
 
 returns-2 : tie.Need-returns-2
 returns-2 c =
     let t = c .before in
-    earns (layout t) (body t) 1 (lit< tt) (field-wrong (layout t) (body t) (shape (t .before .before .before .before .before .before .before .before)) (tested t false (c .if2 .left)))
+    earns (layout t) (body t) 1 (lit< tt) (field-wrong (layout t) (body t) (shape (t .before .before .before .before .before .before .before)) (tested t false (c .if2 .left)))
 
 returns-3 : tie.Need-returns-3
 returns-3 c =
     let a = c .before .before .before .args in
-    let session = header (a .date) (a .presenting) (a .receiving) in
-    earns session (a .body .now) 1 (lit< tt) (misshapen session (a .body .now) (sym (c .before .shape-good .ensures) ∙ c .if1 .left))
+    earns (header (a .route)) (a .body .now) 1 (lit< tt) (misshapen (header (a .route)) (a .body .now) (sym (c .before .shape-good .ensures) ∙ c .if1 .left))
 
 pub read-header-spec : {M : Type 1} → statement M
 read-header-spec =
@@ -95,6 +88,7 @@ read-header-spec =
     fields-of-requires
     are-digits-requires
     time-of-day-requires
+    same-route-requires
     order-number-requires
     number-requires
     returns

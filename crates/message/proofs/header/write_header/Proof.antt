@@ -1,3 +1,13 @@
+-- `write_header`: the runs one behind the other.
+use mathlib.Core.Path.{ap, _∙_}
+use mathlib.Core.List.{List}
+use Prim.Native.Nat.{ℕ}
+use native.Mathlib.Omega.{arith}
+use lib.Seq.{sets}
+use Rattle.packed.specs.Writing.{packedBytes}
+use Rattle.codes.specs.Field.{tableWritten}
+use Rattle.message.specs.Route.{writtenRoute}
+use Rattle.message.specs.Header.{headerFields}
 use borrow.Author.Needs.{needs}
 use Rattle.message.proofs.header.write_header.Statement.{statement}
 use Rattle.message.proofs.header.write_header.Tie as tie
@@ -11,6 +21,9 @@ cast-put c = search needs
 put-requires : tie.Need-put-requires
 put-requires c κs = search needs
 
+write-route-requires : tie.Need-write-route-requires
+write-route-requires c κs = search needs
+
 cast-put-2 : tie.Need-cast-put-2
 cast-put-2 c = search needs
 
@@ -23,32 +36,35 @@ cast-put-3 c = search needs
 put-requires-3 : tie.Need-put-requires-3
 put-requires-3 c κs = search needs
 
-cast-put-4 : tie.Need-cast-put-4
-cast-put-4 c = search needs
-
 put-requires-4 : tie.Need-put-requires-4
-put-requires-4 c κs = search needs
-
-cast-put-5 : tie.Need-cast-put-5
-cast-put-5 c = search needs
-
-put-requires-5 : tie.Need-put-requires-5
-put-requires-5 c κs = ?
-
-cast-put-6 : tie.Need-cast-put-6
-cast-put-6 c = search needs
-
-put-requires-6 : tie.Need-put-requires-6
-put-requires-6 c κs = ?
-
-put-requires-7 : tie.Need-put-requires-7
-put-requires-7 c κs = ?
+put-requires-4 c κs =
+    let third = c .before .before .before in
+    let second = third .before .before .before .before .before in
+    let first = second .before .before .before .before .before in
+    let route = first .before .before .before .before in
+    let head = route .before .before .before .before .before in
+    let same = third .put3 .kept .0 ∙ second .put2 .kept .0 ∙ first .write-route .kept .0 ∙ route .put .kept .0 ∙ head .write-head .kept .0 in
+    omega (arith, same, head .before .before .before .before .pre)
 
 same-length : tie.Need-same-length
-same-length c = ?
+same-length c = search needs
 
 returns : tie.Need-returns
-returns c = ?
+unfolding packedBytes tableWritten headerFields
+returns c =
+    let fifth = c .before .before in
+    let fourth = fifth .before .before .before .before in
+    let third = fourth .before .before .before .before .before in
+    let second = third .before .before .before .before .before in
+    let first = second .before .before .before .before in
+    let head = first .before .before .before .before .before in
+    let a = head .before .before .before .before .args in
+    fifth .put4 .ensures
+    ∙ ap (λ (d : List ℕ). sets d 18 (packedBytes 1 0)) (fourth .put3 .ensures
+    ∙ ap (λ (d : List ℕ). sets d 16 (packedBytes 2 (a .h .number))) (third .put2 .ensures
+    ∙ ap (λ (d : List ℕ). sets d 14 (packedBytes 2 (a .h .centre))) (second .write-route .ensures
+    ∙ ap (λ (d : List ℕ). sets d 7 (writtenRoute (a .h .route))) (first .put .ensures
+    ∙ ap (λ (d : List ℕ). sets d 3 (packedBytes 4 (a .h .time))) (head .write-head .ensures)))))
 
 pub write-header-spec : {M : Type 1} → statement M
 write-header-spec =
@@ -57,16 +73,11 @@ write-header-spec =
     write-head-requires
     cast-put
     put-requires
+    write-route-requires
     cast-put-2
     put-requires-2
     cast-put-3
     put-requires-3
-    cast-put-4
     put-requires-4
-    cast-put-5
-    put-requires-5
-    cast-put-6
-    put-requires-6
-    put-requires-7
     same-length
     returns)

@@ -1,3 +1,10 @@
+-- `write_reply_body`: four stores.
+use mathlib.Core.Path.{ap, _∙_}
+use mathlib.Core.List.{List, [], _∷_}
+use Prim.Native.Nat.{ℕ}
+use lib.ListN.{set}
+use Rattle.codes.specs.Body.{free, mark}
+use lib.Seq.{sets}
 use borrow.Author.Needs.{needs}
 use Rattle.message.proofs.reply.write_reply_body.Statement.{statement}
 use Rattle.message.proofs.reply.write_reply_body.Tie as tie
@@ -18,7 +25,10 @@ same-length : tie.Need-same-length
 same-length c = search needs
 
 returns : tie.Need-returns
-returns c = ?
+returns c =
+    let head = c .before .before .before in
+    let a = head .before .before .before .before .args in
+    λ i. set ((head .write-head .ensures ∙ ap (λ (o : ℕ). sets (a .out .now) 0 (free ∷ mark ∷ o ∷ [])) (head .before .operation-byte .ensures)) i) 3 (c .code-byte .ensures i)
 
 pub write-reply-body-spec : {M : Type 1} → statement M
 write-reply-body-spec =

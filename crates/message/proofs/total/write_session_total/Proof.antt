@@ -1,3 +1,5 @@
+-- `write_session_total`: the printed table is that of these widths.
+use Rattle.message.specs.Total.{totalFields, sessionTotalFields}
 use borrow.Author.Needs.{needs}
 use Rattle.message.proofs.total.write_session_total.Statement.{statement}
 use Rattle.message.proofs.total.write_session_total.Tie as tie
@@ -9,7 +11,8 @@ same-length : tie.Need-same-length
 same-length c = search needs
 
 returns : tie.Need-returns
-returns c = ?
+unfolding totalFields sessionTotalFields
+returns c = c .before .before .write-total .ensures
 
 pub write-session-total-spec : {M : Type 1} → statement M
 write-session-total-spec = tie.close (tie.spec write-total-requires same-length returns)
