@@ -3,7 +3,7 @@ use Prim.Native.Nat.{ℕ, _+_}
 use mathlib.Core.Bool.{Bool, not, _&&_}
 use mathlib.Core.List.{List, [], _∷_, _++_}
 use lib.Dec.{eqb}
-use lib.ListN.{length, drop}
+use lib.ListN.{length, drop, getD}
 use Rattle.packed.specs.Part.{byteAt}
 use Rattle.codes.specs.Body.{longestBody}
 use Rattle.codes.specs.Chain.{_when_}
@@ -45,6 +45,12 @@ readEnvelope kind bytes = reading (21 when not (envelopeGood kind bytes)) (table
 -- the numbers of an envelope, in the order of the table
 abbrev pub envelopeValues : Envelope → List ℕ
 envelopeValues e = routeValues (e .route) ++ e .serial ∷ []
+
+-- and an envelope of the numbers that some bytes hold
+abbrev pub envelopeOf : List ℕ → Envelope
+envelopeOf bytes =
+    let v = getD (tableNumbers 1 envelopeFields bytes) in
+    record { route = record { date = v 0 0; presenting = v 1 0; receiving = v 2 0 }; serial = v 3 0 }
 
 -- what the answer of a reading says
 abbrev pub envelopeSaid : ReadEnvelope → Reading

@@ -3,7 +3,8 @@ use Prim.Native.Nat.{ℕ, _/_, _%_}
 use mathlib.Core.Bool.{Bool, _&&_}
 use mathlib.Core.List.{List, [], _∷_, _++_}
 use lib.Dec.{leb, ltb}
-use Rattle.codes.specs.Field.{Field, field, any, between, exactly}
+use lib.ListN.{getD}
+use Rattle.codes.specs.Field.{Field, field, any, between, exactly, tableNumbers}
 use Rattle.codes.specs.Reply.{codeNumber}
 use Rattle.codes.specs.declared.reply.Code.{Code}
 use Rattle.message.specs.declared.route.Route.{Route}
@@ -38,12 +39,15 @@ headerFields route =
 abbrev pub header : Route → Layout
 header route = record { bytes = headerBytes; operation = headerOperation; fields = headerFields route }
 
--- the numbers of a header, in the order of the table, and the zero at its end
-abbrev pub headerNumbers : Header → (last : ℕ) → List ℕ
-headerNumbers h last = h .time ∷ routeValues (h .route) ++ h .centre ∷ h .number ∷ last ∷ []
-
+-- the numbers of a header, in the order of the table
 abbrev pub headerValues : Header → List ℕ
-headerValues h = headerNumbers h 0
+headerValues h = h .time ∷ routeValues (h .route) ++ h .centre ∷ h .number ∷ 0 ∷ []
+
+-- and a header of the numbers that a body holds
+abbrev pub headerOf : Route → List ℕ → Header
+headerOf route body =
+    let v = getD (tableNumbers 1 (headerFields route) body) in
+    record { time = v 0 0; route = record { date = v 1 0; presenting = v 2 0; receiving = v 3 0 }; centre = v 4 0; number = v 5 0 }
 
 -- what the answer of a reading says
 abbrev pub headerSaid : ReadHeader → Reading

@@ -19,9 +19,9 @@ routeValues r = r .date ∷ r .presenting ∷ r .receiving ∷ []
 abbrev pub sameRoute : Route → Route → Bool
 sameRoute r s = eqb (r .date) (s .date) && eqb (r .presenting) (s .presenting) && eqb (r .receiving) (s .receiving)
 
--- the numbers from a place on, and the bytes as they are written
-abbrev pub routeAt : (at : ℕ) → List ℕ → List ℕ
-routeAt at s = number (part at 3 s) ∷ number (part (at + 3) 2 s) ∷ number (part (at + 5) 2 s) ∷ []
+-- as it is read from a place on, and as it is written
+abbrev pub routeAt : (at : ℕ) → List ℕ → Route
+routeAt at s = record { date = number (part at 3 s); presenting = number (part (at + 3) 2 s); receiving = number (part (at + 5) 2 s) }
 
 abbrev pub writtenRoute : Route → List ℕ
 writtenRoute r = packedBytes 3 (r .date) ++ packedBytes 2 (r .presenting) ++ packedBytes 2 (r .receiving)

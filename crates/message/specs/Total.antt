@@ -1,7 +1,9 @@
 -- 01, 'Lot total' and 'Session total'.
 use Prim.Native.Nat.{ℕ, _+_}
 use mathlib.Core.List.{List, [], _∷_}
-use Rattle.codes.specs.Field.{Field, field, amount, any}
+use lib.ListN.{getD}
+use Rattle.amounts.specs.Totals.{totals}
+use Rattle.codes.specs.Field.{Field, field, amount, any, tableNumbers}
 use Rattle.codes.specs.Reply.{codeNumber}
 use Rattle.message.specs.declared.total.Total.{Total}
 use Rattle.message.specs.declared.total.ReadTotal.{ReadTotal}
@@ -43,6 +45,10 @@ total operation d n c = record { bytes = 5 + d + (n + c); operation = operation;
 -- the numbers of a total, in the order of the tables
 abbrev pub totalValues : Total → List ℕ
 totalValues t = t .number ∷ t .stated .documents .0 ∷ t .stated .nominal .0 ∷ t .stated .commission .0 ∷ []
+
+-- and a total of the numbers that a body holds by such a table
+abbrev pub totalOf : List Field → List ℕ → Total
+totalOf fields body = let v = getD (tableNumbers 1 fields body) in record { number = v 0 0; stated = totals (v 1 0) (v 2 0) (v 3 0) }
 
 -- what the answer of a reading says
 abbrev pub totalSaid : ReadTotal → Reading

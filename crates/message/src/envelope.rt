@@ -11,9 +11,8 @@ ghost use mathlib.Core.Path.{_≡_};
 ghost use Prim.Native.Nat.{_≤_};
 ghost use lib.ListN.{length};
 ghost use lib.Seq.{sets};
-ghost use Rattle.codes.specs.Field.{tableNumbers};
 ghost use Rattle.message.specs.Limits.{envelopeBytes};
-ghost use Rattle.message.specs.Envelope.{kindByte, lengthGood, envelopeFields, envelopeValues, readEnvelope, envelopeSaid, writtenEnvelope};
+ghost use Rattle.message.specs.Envelope.{kindByte, lengthGood, envelopeOf, readEnvelope, envelopeSaid, writtenEnvelope};
 
 pub const ENVELOPE_BYTES: usize = 12;
 
@@ -57,7 +56,7 @@ fn length_good(kind: Kind, n: usize) -> bool
 // Route and serial, whatever their digits.
 fn fields_of(bytes: &[u8]) -> Envelope
     requires { ⌜ envelopeBytes ≤ length (now bytes) ⌝ }
-    ensures { λ r. ⌜ envelopeValues r ≡ tableNumbers 1 envelopeFields (now (bytes .entry)) ⌝ }
+    ensures { λ r. ⌜ r ≡ envelopeOf (now (bytes .entry)) ⌝ }
 {
     Envelope {
         route: read_route(bytes, 1),

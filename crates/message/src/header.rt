@@ -15,12 +15,9 @@ ghost use mathlib.Core.Path.{_≡_};
 ghost use Prim.Native.Nat.{_≤_};
 ghost use lib.ListN.{length};
 ghost use lib.Seq.{sets};
-ghost use Rattle.packed.specs.Part.{part};
-ghost use Rattle.packed.specs.Number.{number};
-ghost use Rattle.codes.specs.Field.{tableNumbers};
 ghost use Rattle.message.specs.Limits.{headerBytes};
 ghost use Rattle.message.specs.Layout.{readBody, writtenBody};
-ghost use Rattle.message.specs.Header.{timeOfDay, orderNumber, headerFields, header, headerNumbers, headerValues, headerSaid, sendable};
+ghost use Rattle.message.specs.Header.{timeOfDay, orderNumber, header, headerValues, headerOf, headerSaid, sendable};
 
 pub const HEADER_BYTES: usize = 19;
 
@@ -62,7 +59,7 @@ pub fn sendable(time: u32, centre: u16, number: u16) -> bool
 // All but the zero at the end, whatever their digits.
 fn fields_of(body: &[u8]) -> Header
     requires { ⌜ headerBytes ≤ length (now body) ⌝ }
-    ensures { λ r. ⌜ headerNumbers r (number (part 18 1 (now (body .entry)))) ≡ tableNumbers 1 (headerFields (r .route)) (now (body .entry)) ⌝ }
+    ensures { λ r. ⌜ r ≡ headerOf (r .route) (now (body .entry)) ⌝ }
 {
     Header {
         time: number4(body, 3),

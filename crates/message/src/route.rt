@@ -7,7 +7,7 @@ ghost use mathlib.Core.Path.{_≡_};
 ghost use Prim.Native.Nat.{_+_, _≤_};
 ghost use lib.ListN.{length};
 ghost use lib.Seq.{sets};
-ghost use Rattle.message.specs.Route.{routeBytes, routeValues, sameRoute, routeAt, writtenRoute};
+ghost use Rattle.message.specs.Route.{routeBytes, sameRoute, routeAt, writtenRoute};
 
 // The date is the number DDMMYY.
 pub struct Route {
@@ -26,7 +26,7 @@ pub fn same_route(r: Route, s: Route) -> bool
 // The seven bytes from `at` on, whatever their digits.
 pub fn read_route(s: &[u8], at: usize) -> Route
     requires { ⌜ at + routeBytes ≤ length (now s) ⌝ }
-    ensures { λ r. ⌜ routeValues r ≡ routeAt at (now (s .entry)) ⌝ }
+    ensures { λ r. ⌜ r ≡ routeAt at (now (s .entry)) ⌝ }
 {
     Route {
         date: number(s, at, 3) as u32,

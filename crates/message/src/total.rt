@@ -17,10 +17,9 @@ ghost use mathlib.Core.Path.{_≡_};
 ghost use Prim.Native.Nat.{_+_, _≤_};
 ghost use lib.ListN.{length};
 ghost use lib.Seq.{sets};
-ghost use Rattle.codes.specs.Field.{tableNumbers};
 ghost use Rattle.message.specs.Limits.{lotTotalBytes, sessionTotalBytes};
 ghost use Rattle.message.specs.Layout.{readBody, writtenBody};
-ghost use Rattle.message.specs.Total.{totalFields, total, lotTotal, sessionTotal, totalValues, totalSaid};
+ghost use Rattle.message.specs.Total.{totalFields, total, lotTotal, sessionTotal, totalValues, totalOf, totalSaid};
 
 pub const LOT_TOTAL_BYTES: usize = 22;
 
@@ -46,7 +45,7 @@ fn fields_of(body: &[u8], documents: usize, nominal: usize, commission: usize) -
     requires { ⌜ documents ≤ 9 ⌝ }
     requires { ⌜ nominal ≤ 9 ⌝ }
     requires { ⌜ commission ≤ 9 ⌝ }
-    ensures { λ r. ⌜ totalValues r ≡ tableNumbers 1 (totalFields documents nominal commission) (now (body .entry)) ⌝ }
+    ensures { λ r. ⌜ r ≡ totalOf (totalFields documents nominal commission) (now (body .entry)) ⌝ }
 {
     let nominal_at = DOCUMENTS + documents;
     Total {

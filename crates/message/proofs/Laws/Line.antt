@@ -34,8 +34,7 @@ both-written line first tail head body k size fits one two =
     let same : length first ≡ length line = ap length one ∙ length-sets line 0 head in
     ap (putMid k (length first - k) first) two
     ∙ tail-sets first body k (omega arith)
-    ∙ ap (λ (l : List ℕ). sets l k body) one
-    ∙ sets-behind head body line 0 k (omega arith)
+    ∙ sets-behind head body line first 0 k one (omega arith)
 
 -- each body is as long as 01 says
 pub body-length : (x : Body) → length (bodyBytes x) ≡ bodyLength x

@@ -90,8 +90,8 @@ pub sets-append : (xs ys d : List ℕ) (at : ℕ) → sets (sets d at xs) (at + 
 sets-append [] ys d at = ap (λ (k : ℕ). sets d k ys) (add-zero at)
 sets-append (x ∷ xs) ys d at = rw (add-suc, ← suc-add) (sets-append xs ys (set d at x) (suc at))
 
-pub sets-behind : (xs ys d : List ℕ) (at k : ℕ) → at + length xs ≡ k → sets (sets d at xs) k ys ≡ sets d at (xs ++ ys)
-sets-behind xs ys d at k e = ap (λ (j : ℕ). sets (sets d at xs) j ys) (sym e) ∙ sets-append xs ys d at
+pub sets-behind : (xs ys d e : List ℕ) (at k : ℕ) → e ≡ sets d at xs → at + length xs ≡ k → sets e k ys ≡ sets d at (xs ++ ys)
+sets-behind xs ys d e at k w h = ap (λ (l : List ℕ). sets l k ys) w ∙ ap (λ (j : ℕ). sets (sets d at xs) j ys) (sym h) ∙ sets-append xs ys d at
 
 -- what was written stands there
 pub part-sets : (vs d : List ℕ) (at n : ℕ) → length vs ≡ n → at + n ≤ length d → part at n (sets d at vs) ≡ vs

@@ -15,7 +15,7 @@ number4-requires c κs = search needs
 
 returns : tie.Need-returns
 unfolding envelopeFields
-returns c = λ i. c .before .read-route .ensures i ++ c .number4 .ensures i ∷ []
+returns c = λ i. record { route = c .before .read-route .ensures i; serial = c .number4 .ensures i }
 
 pub fields-of-spec : {M : Type 1} → statement M
 fields-of-spec = tie.close (tie.spec read-route-requires number4-requires returns)

@@ -6,11 +6,12 @@ use Prim.Native.Nat.{ℕ, _≤_}
 use native.Mathlib.Omega.{arith}
 use borrow.Author.Needs.{needs}
 use lib.Dec.{eqb, lit<}
-use lib.ListN.{length, getD}
+use lib.ListN.{length}
 use Rattle.packed.specs.Part.{byteAt}
 use Rattle.codes.specs.Chain.{_when_}
 use Rattle.codes.specs.Field.{between, tableNumbers}
 use Rattle.message.specs.declared.envelope.Kind.{Kind}
+use Rattle.message.specs.declared.envelope.Envelope.{Envelope}
 use Rattle.message.specs.Limits.{envelopeBytes, largestSerial}
 use Rattle.message.specs.Reading.{reading}
 use Rattle.message.specs.Envelope.{lengthGood, envelopeFields, envelopeValues, envelopeGood, readEnvelope}
@@ -54,14 +55,14 @@ tested : (t : tie.After-struct-known2) (b : Bool) → tests t ≡ b → envelope
 unfolding envelopeFields
 tested t b e =
     let a = t .before .before .before .before .before .before .before .before .before .args in
-    decided (a .kind) (a .bytes .now) (t .before .before .before .kind-byte .result) (t .before .before .before .before .before .fields-of .result .serial) (t .before .before .are-digits .result) b (passed (t .before .before .before .before .before .before)) (t .before .before .before .kind-byte .ensures) (t .before .before .are-digits .ensures) (ap (λ (vs : List ℕ). getD vs 3 0) (t .before .before .before .before .before .fields-of .ensures)) e
+    decided (a .kind) (a .bytes .now) (t .before .before .before .kind-byte .result) (t .before .before .before .before .before .fields-of .result .serial) (t .before .before .are-digits .result) b (passed (t .before .before .before .before .before .before)) (t .before .before .before .kind-byte .ensures) (t .before .before .are-digits .ensures) (ap (λ (x : Envelope). x .serial) (t .before .before .before .before .before .fields-of .ensures)) e
 
 returns : tie.Need-returns
-unfolding _when_
+unfolding envelopeFields _when_
 returns c =
     let t = c .before in
     let a = t .before .before .before .before .before .before .before .before .before .args in
-    said-values (21 when not (envelopeGood (a .kind) (a .bytes .now))) (tableNumbers 1 envelopeFields (a .bytes .now)) (envelopeValues (t .before .before .before .before .before .fields-of .result)) (ap (λ (b : Bool). 21 when not b) (tested t true (c .if2 .taken))) (t .before .before .before .before .before .fields-of .ensures)
+    said-values (21 when not (envelopeGood (a .kind) (a .bytes .now))) (tableNumbers 1 envelopeFields (a .bytes .now)) (envelopeValues (t .before .before .before .before .before .fields-of .result)) (ap (λ (b : Bool). 21 when not b) (tested t true (c .if2 .taken))) (ap envelopeValues (t .before .before .before .before .before .fields-of .ensures))
 
 -- a test that fails is 21
 refused : (kind : Kind) (bytes : List ℕ) → envelopeGood kind bytes ≡ false → reading 21 [] ≡ readEnvelope kind bytes

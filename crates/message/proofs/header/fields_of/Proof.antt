@@ -23,7 +23,7 @@ returns : tie.Need-returns
 unfolding headerFields
 returns c =
     λ i.
-    c .before .before .before .number4 .ensures i ∷ c .before .before .read-route .ensures i ++ c .before .number2 .ensures i ∷ c .number22 .ensures i ∷ number (part 18 1 (c .before .before .before .before .before .args .body .now)) ∷ []
+    record { time = c .before .before .before .number4 .ensures i; route = c .before .before .read-route .ensures i; centre = c .before .number2 .ensures i; number = c .number22 .ensures i }
 
 pub fields-of-spec : {M : Type 1} → statement M
 fields-of-spec =

@@ -8,13 +8,13 @@ use borrow.Author.Needs.{needs}
 use borrow.Author.Tests.{eqb-true}
 use lib.Dec.{lit<}
 use lib.ListN.{length}
-use Rattle.codes.specs.Field.{exactly, tableGood, tableNumbers}
+use Rattle.codes.specs.Field.{exactly, tableGood}
 use Rattle.message.specs.Limits.{headerBytes}
 use Rattle.message.specs.Layout.{Layout, shapeGood}
 use Rattle.message.specs.Content.{headerOperation}
-use Rattle.message.specs.Header.{headerFields, header, headerNumbers, headerValues}
+use Rattle.message.specs.Header.{headerFields, header, headerValues, headerOf}
 use Rattle.message.proofs.Laws.Layout.{shaped, misshapen, field-wrong, accepted, earns, holds}
-use Rattle.message.proofs.Laws.Header.{no-amounts, decided}
+use Rattle.message.proofs.Laws.Header.{no-amounts, zero-ended, decided}
 use Rattle.message.proofs.header.read_header.Statement.{statement}
 use Rattle.message.proofs.header.read_header.Tie as tie
 
@@ -52,9 +52,9 @@ layout t = header (t .before .before .before .before .before .before .before .be
 abbrev body : tie.After-number → List ℕ
 body t = t .before .before .before .before .before .before .before .before .before .before .args .body .now
 
-numbers : (t : tie.After-number) → headerNumbers (t .before .before .before .before .before .before .fields-of .result) (t .number .result) ≡ tableNumbers 1 (layout t .fields) (body t)
+read : (t : tie.After-number) → t .before .before .before .before .before .before .fields-of .result ≡ headerOf (t .before .before .before .before .before .before .before .before .before .before .args .route) (body t)
 unfolding headerFields
-numbers t = ap (headerNumbers (t .before .before .before .before .before .before .fields-of .result)) (t .number .ensures .0) ∙ t .before .before .before .before .before .before .fields-of .ensures
+read t = t .before .before .before .before .before .before .fields-of .ensures
 
 -- what is tested before the zero at the end
 abbrev tests : tie.After-number → Bool
@@ -62,13 +62,13 @@ tests t = t .before .before .before .before .are-digits .result && t .before .be
 
 tested : (t : tie.After-number) (b : Bool) → tests t && exactly 0 (t .number .result) ≡ b → tableGood 1 1 (layout t .fields) (body t) ≡ b
 tested t b e =
-    decided (t .before .before .before .before .before .before .before .before .before .before .args .route) (t .before .before .before .before .before .before .fields-of .result) (t .number .result) (t .before .before .before .before .are-digits .result) (t .before .before .before .time-of-day .result) (t .before .before .same-route .result) (t .before .order-number .result) b (body t) (numbers t) (t .before .before .before .before .are-digits .ensures) (t .before .before .before .time-of-day .ensures) (t .before .before .same-route .ensures) (t .before .order-number .ensures) e
+    decided (t .before .before .before .before .before .before .before .before .before .before .args .route) (t .before .before .before .before .before .before .fields-of .result) (t .number .result) (t .before .before .before .before .are-digits .result) (t .before .before .before .time-of-day .result) (t .before .before .same-route .result) (t .before .order-number .result) b (body t) (read t) (t .number .ensures .0) (t .before .before .before .before .are-digits .ensures) (t .before .before .before .time-of-day .ensures) (t .before .before .same-route .ensures) (t .before .order-number .ensures) e
 
 returns : tie.Need-returns
 returns c =
     let t = c .before in
     let zero : t .number .result ≡ 0 = eqb-true (t .number .result) 0 (and-eq-true-iff (tests t) (exactly 0 (t .number .result)) .0 (c .if2 .taken) .1) in
-    holds (layout t) (body t) (headerValues (t .before .before .before .before .before .before .fields-of .result)) (accepted (layout t) (body t) (shape (t .before .before .before .before .before .before .before)) (tested t true (c .if2 .taken)) (no-amounts (t .before .before .before .before .before .before .before .before .before .before .args .route) (body t))) (ap (headerNumbers (t .before .before .before .before .before .before .fields-of .result)) (sym zero) ∙ numbers t)
+    holds (layout t) (body t) (headerValues (t .before .before .before .before .before .before .fields-of .result)) (accepted (layout t) (body t) (shape (t .before .before .before .before .before .before .before)) (tested t true (c .if2 .taken)) (no-amounts (t .before .before .before .before .before .before .before .before .before .before .args .route) (body t))) (ap headerValues (read t) ∙ zero-ended (t .before .before .before .before .before .before .before .before .before .before .args .route) (body t) (sym (t .number .ensures .0) ∙ zero))
 
 returns-2 : tie.Need-returns-2
 returns-2 c =

@@ -1,10 +1,9 @@
 -- `write_route`: three runs, one behind the other.
-use mathlib.Core.Path.{ap, _∙_}
-use mathlib.Core.List.{List, _++_}
-use Prim.Native.Nat.{ℕ, _+_}
-use lib.Seq.{sets}
+use mathlib.Core.Path.{refl, _∙_}
+use mathlib.Core.List.{_++_}
+use Prim.Native.Nat.{_+_}
 use Rattle.packed.specs.Writing.{packedBytes}
-use Rattle.packed.proofs.Laws.Writing.{sets-append}
+use Rattle.packed.proofs.Laws.Writing.{sets-behind}
 use borrow.Author.Needs.{needs}
 use Rattle.message.proofs.route.write_route.Statement.{statement}
 use Rattle.message.proofs.route.write_route.Tie as tie
@@ -46,9 +45,8 @@ returns c =
     let date = packedBytes 3 (a .r .date) in
     let presenting = packedBytes 2 (a .r .presenting) in
     let receiving = packedBytes 2 (a .r .receiving) in
-    third .put3 .ensures
-    ∙ ap (λ (d : List ℕ). sets d (a .at + 5) receiving) (second .put2 .ensures ∙ ap (λ (d : List ℕ). sets d (a .at + 3) presenting) (first .put .ensures) ∙ sets-append date presenting (a .out .now) (a .at))
-    ∙ sets-append (date ++ presenting) receiving (a .out .now) (a .at)
+    let two = second .put2 .ensures ∙ sets-behind date presenting (a .out .now) (first .put .last .0) (a .at) (a .at + 3) (first .put .ensures) refl in
+    third .put3 .ensures ∙ sets-behind (date ++ presenting) receiving (a .out .now) (second .put2 .last .0) (a .at) (a .at + 5) two refl
 
 pub write-route-spec : {M : Type 1} → statement M
 write-route-spec =

@@ -1,9 +1,9 @@
 -- `fields_of` reads the rows of the table; what is printed as a position is a place one less.
 use mathlib.Core.Path.{ap, sym, _∙_}
-use mathlib.Core.List.{[], _∷_}
 use Prim.Native.Nat.{ℕ}
 use Rattle.packed.specs.Part.{part}
 use Rattle.packed.specs.Number.{number}
+use Rattle.amounts.specs.Totals.{totals}
 use Rattle.message.specs.Total.{totalFields}
 use Rattle.message.proofs.Laws.Total.{nominal-at, commission-at}
 use borrow.Author.Needs.{needs}
@@ -35,7 +35,7 @@ returns c =
     let at : ℕ → ℕ → ℕ = λ (width place : ℕ). number (part place width (a .body .now)) in
     let nominal = c .before .number3 .ensures .0 ∙ ap (at (a .nominal)) (sym (nominal-at (a .documents) (a .nominal) (a .commission))) in
     let commission = c .number4 .ensures .0 ∙ ap (at (a .commission)) (sym (commission-at (a .documents) (a .nominal) (a .commission))) in
-    λ i. c .before .before .before .number2 .ensures i ∷ c .before .before .number .ensures .0 i ∷ nominal i ∷ commission i ∷ []
+    λ i. record { number = c .before .before .before .number2 .ensures i; stated = totals (c .before .before .number .ensures .0 i) (nominal i) (commission i) }
 
 pub fields-of-spec : {M : Type 1} → statement M
 fields-of-spec =

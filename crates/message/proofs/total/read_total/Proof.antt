@@ -1,5 +1,5 @@
 -- `read_total`: shape, then the digits of the counters, then those of the amounts.
-use mathlib.Core.Path.{_≡_, sym, _∙_}
+use mathlib.Core.Path.{_≡_, ap, sym, _∙_}
 use mathlib.Core.Bool.{true}
 use mathlib.Core.List.{List}
 use Prim.Native.Nat.{ℕ}
@@ -9,7 +9,7 @@ use lib.Dec.{lit<}
 use lib.ListN.{length}
 use Rattle.codes.specs.Field.{tableGood}
 use Rattle.message.specs.Layout.{Layout, shapeGood}
-use Rattle.message.specs.Total.{total, totalValues}
+use Rattle.message.specs.Total.{totalFields, total, totalValues}
 use Rattle.message.proofs.Laws.Layout.{shaped, misshapen, field-wrong, amount-wrong, accepted, earns, holds}
 use Rattle.message.proofs.Laws.Total.{counters-split, amounts-split}
 use Rattle.message.proofs.total.read_total.Statement.{statement}
@@ -58,11 +58,12 @@ fields-of-requires : tie.Need-fields-of-requires
 fields-of-requires c κs = let p = c .before .before .before .before .before .before .before .pre in (omega (arith, size (c .before .before .before .before)), p)
 
 returns : tie.Need-returns
+unfolding totalFields
 returns c =
     let t = c .before .before .before .before .before .before in
     let a = c .before .before .before .before .before .before .before .before .args in
     let amounts = amounts-split (a .documents) (a .nominal) (a .commission) (a .body .now) ∙ sym (c .before .before .are-digits2 .ensures) ∙ c .before .if3 .taken in
-    holds (layout t) (body t) (totalValues (c .fields-of .result)) (accepted (layout t) (body t) (shape (c .before .before .before .before .before)) (counters (c .before .before .before)) amounts) (c .fields-of .ensures)
+    holds (layout t) (body t) (totalValues (c .fields-of .result)) (accepted (layout t) (body t) (shape (c .before .before .before .before .before)) (counters (c .before .before .before)) amounts) (ap totalValues (c .fields-of .ensures))
 
 returns-2 : tie.Need-returns-2
 returns-2 c =

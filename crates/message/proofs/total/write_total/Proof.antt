@@ -1,15 +1,16 @@
 -- `write_total`: head and runs, one behind the other.
-use mathlib.Core.Path.{ap, _∙_}
-use mathlib.Core.List.{List, [], _∷_}
+use mathlib.Core.Path.{_≡_, refl, ap, sym, _∙_}
+use mathlib.Core.List.{List, _∷_, _++_, append-assoc, append-nil}
 use Prim.Native.Nat.{ℕ, _+_}
+use native.Mathlib.Omega.{arith}
+use borrow.Author.Needs.{needs}
+use lib.ListN.{length, length-append}
 use lib.Seq.{sets}
 use Rattle.packed.specs.Writing.{packedBytes}
+use Rattle.packed.proofs.Laws.Writing.{packed-length, sets-behind}
 use Rattle.codes.specs.Body.{free, mark}
 use Rattle.codes.specs.Field.{tableWritten}
 use Rattle.message.specs.Total.{totalFields}
-use Rattle.message.proofs.Laws.Total.{runs}
-use Rattle.packed.proofs.Laws.Writing.{packed-length}
-use borrow.Author.Needs.{needs}
 use Rattle.message.proofs.total.write_total.Statement.{statement}
 use Rattle.message.proofs.total.write_total.Tie as tie
 
@@ -49,13 +50,19 @@ returns c =
     let first = second .before .before .before .before in
     let head = first .before .before .before .before .before in
     let a = head .before .before .before .args in
-    let n = a .t .stated in
+    let out = a .out .now in
+    let counted = free ∷ mark ∷ a .operation ∷ packedBytes 2 (a .t .number) in
+    let documents = packedBytes (a .documents) (a .t .stated .documents .0) in
+    let nominal = packedBytes (a .nominal) (a .t .stated .nominal .0) in
+    let commission = packedBytes (a .commission) (a .t .stated .commission .0) in
+    let two-long : 0 + length (counted ++ documents) ≡ 5 + a .documents = omega (arith, packed-length (a .documents) (a .t .stated .documents .0)) in
+    let three-long : 0 + length (counted ++ documents ++ nominal) ≡ 5 + a .documents + a .nominal = omega (arith, length-append (counted ++ documents) nominal, two-long, packed-length (a .nominal) (a .t .stated .nominal .0)) in
+    let one = first .put .ensures ∙ ap (λ (d : List ℕ). sets d 3 (packedBytes 2 (a .t .number))) (head .write-head .ensures) in
+    let two = second .put2 .ensures ∙ sets-behind counted documents out (first .put .last .0) 0 5 one refl in
+    let three = third .put3 .ensures ∙ sets-behind (counted ++ documents) nominal out (second .put2 .last .0) 0 (5 + a .documents) two two-long in
     fourth .put4 .ensures
-    ∙ ap (λ (d : List ℕ). sets d (5 + a .documents + a .nominal) (packedBytes (a .commission) (n .commission .0))) (third .put3 .ensures
-    ∙ ap (λ (d : List ℕ). sets d (5 + a .documents) (packedBytes (a .nominal) (n .nominal .0))) (second .put2 .ensures
-    ∙ ap (λ (d : List ℕ). sets d 5 (packedBytes (a .documents) (n .documents .0))) (first .put .ensures
-    ∙ ap (λ (d : List ℕ). sets d 3 (packedBytes 2 (a .t .number))) (head .write-head .ensures))))
-    ∙ runs (a .documents) (a .nominal) (a .commission) (a .out .now) (free ∷ mark ∷ a .operation ∷ packedBytes 2 (a .t .number)) (n .documents .0) (n .nominal .0) (n .commission .0) (ap (λ (k : ℕ). 3 + k) (packed-length 2 (a .t .number)))
+    ∙ sets-behind (counted ++ documents ++ nominal) commission out (third .put3 .last .0) 0 (5 + a .documents + a .nominal) three three-long
+    ∙ ap (sets out 0) (append-assoc (counted ++ documents) nominal commission ∙ append-assoc counted documents (nominal ++ commission) ∙ ap (λ (l : List ℕ). counted ++ (documents ++ (nominal ++ l))) (sym (append-nil commission)))
 
 pub write-total-spec : {M : Type 1} → statement M
 write-total-spec =
