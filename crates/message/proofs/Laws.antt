@@ -1,5 +1,6 @@
 -- Laws of the messages and of the reply, one file a notion.
 pub mod Reading
+pub mod Route
 pub mod Layout
 pub mod Envelope
 pub mod Header

@@ -3,8 +3,7 @@ use Prim.Native.Nat.{ℕ, _/_, _%_}
 use mathlib.Core.Bool.{Bool, _&&_}
 use mathlib.Core.List.{List, [], _∷_, _++_}
 use lib.Dec.{leb, ltb}
-use lib.ListN.{getD}
-use Rattle.codes.specs.Field.{Field, field, any, between, exactly, tableNumbers}
+use Rattle.codes.specs.Field.{Field, field, any, between, exactly, fieldNumber}
 use Rattle.codes.specs.Reply.{codeNumber}
 use Rattle.codes.specs.declared.reply.Code.{Code}
 use Rattle.message.specs.declared.route.Route.{Route}
@@ -24,15 +23,25 @@ timeOfDay v = ltb (v / 1000000) 24 && ltb (v / 10000 % 100) 60 && ltb (v / 100 %
 abbrev pub orderNumber : ℕ → Bool
 orderNumber v = between 1 largestNumber v
 
+-- the fields that are neither the session's nor fixed
+abbrev pub timeField : Field
+timeField = field 4 4 timeOfDay
+
+abbrev pub centreField : Field
+centreField = field 15 2 any
+
+abbrev pub orderField : Field
+orderField = field 17 2 orderNumber
+
 -- position, bytes, rule; date and entities are those of the direction
 unfoldable pub headerFields : Route → List Field
 headerFields route =
-    field 4 4 timeOfDay
+    timeField
     ∷ field 8 3 (exactly (route .date))
     ∷ field 11 2 (exactly (route .presenting))
     ∷ field 13 2 (exactly (route .receiving))
-    ∷ field 15 2 any  -- centre
-    ∷ field 17 2 orderNumber
+    ∷ centreField
+    ∷ orderField
     ∷ field 19 1 (exactly 0)
     ∷ []
 
@@ -40,19 +49,17 @@ abbrev pub header : Route → Layout
 header route = record { bytes = headerBytes; operation = headerOperation; fields = headerFields route }
 
 -- the numbers of a header, in the order of the table
-abbrev pub headerValues : Header → List ℕ
-headerValues h = h .time ∷ routeValues (h .route) ++ h .centre ∷ h .number ∷ 0 ∷ []
+abbrev pub headerValues : Route → Header → List ℕ
+headerValues route h = h .time ∷ routeValues route ++ h .centre ∷ h .number ∷ 0 ∷ []
 
 -- and a header of the numbers that a body holds
-abbrev pub headerOf : Route → List ℕ → Header
-headerOf route body =
-    let v = getD (tableNumbers 1 (headerFields route) body) in
-    record { time = v 0 0; route = record { date = v 1 0; presenting = v 2 0; receiving = v 3 0 }; centre = v 4 0; number = v 5 0 }
+abbrev pub headerOf : List ℕ → Header
+headerOf body = record { time = fieldNumber 1 body timeField; centre = fieldNumber 1 body centreField; number = fieldNumber 1 body orderField }
 
 -- what the answer of a reading says
-abbrev pub headerSaid : ReadHeader → Reading
-headerSaid (ReadHeader.Read h) = reading 0 (headerValues h)
-headerSaid ReadHeader.Wrong = reading (codeNumber Code.WrongField) []
+abbrev pub headerSaid : Route → ReadHeader → Reading
+headerSaid route (ReadHeader.Read h) = reading 0 (headerValues route h)
+headerSaid route ReadHeader.Wrong = reading (codeNumber Code.WrongField) []
 
 -- what a presenter may put into a header; the rest is the session's
 unfoldable pub sendable : (time centre number : ℕ) → Bool

@@ -24,10 +24,9 @@ pub const HEADER_BYTES: usize = 19;
 // The largest order number, and the largest centre.
 pub const LARGEST_NUMBER: u16 = 9999;
 
-// The time is hhmmsscc.
+// What a header says beside its route. The time is hhmmsscc.
 pub struct Header {
     pub time: u32,
-    pub route: Route,
     pub centre: u16,
     pub number: u16,
 }
@@ -56,14 +55,13 @@ pub fn sendable(time: u32, centre: u16, number: u16) -> bool
     time_of_day(time) & (centre <= LARGEST_NUMBER) & order_number(number)
 }
 
-// All but the zero at the end, whatever their digits.
+// The three numbers, whatever their digits.
 fn fields_of(body: &[u8]) -> Header
     requires { ⌜ headerBytes ≤ length (now body) ⌝ }
-    ensures { λ r. ⌜ r ≡ headerOf (r .route) (now (body .entry)) ⌝ }
+    ensures { λ r. ⌜ r ≡ headerOf (now (body .entry)) ⌝ }
 {
     Header {
         time: number4(body, 3),
-        route: read_route(body, 7),
         centre: number2(body, 14),
         number: number2(body, 16),
     }
@@ -71,14 +69,13 @@ fn fields_of(body: &[u8]) -> Header
 
 // A received body, in a direction of this route.
 pub fn read_header(body: &[u8], route: Route) -> ReadHeader
-    ensures { λ r. ⌜ headerSaid r ≡ readBody (header route) (now (body .entry)) ⌝ }
+    ensures { λ r. ⌜ headerSaid route r ≡ readBody (header route) (now (body .entry)) ⌝ }
 {
     if shape_good(body, HEADER_BYTES, HEADER) {
         let h = fields_of(body);
-        let read = h.route;
         if are_digits(body, 3, 16)
             & time_of_day(h.time)
-            & same_route(read, route)
+            & same_route(read_route(body, 7), route)
             & order_number(h.number)
             & (number(body, 18, 1) == 0)
         {
@@ -89,11 +86,10 @@ pub fn read_header(body: &[u8], route: Route) -> ReadHeader
 }
 
 // Writes a header's body at the start of `out`; every other byte keeps its value.
-pub fn write_header(out: &mut [u8], h: Header)
+pub fn write_header(out: &mut [u8], route: Route, h: Header)
     requires { ⌜ headerBytes ≤ length (now out) ⌝ }
-    ensures { λ _. ⌜ now (out .exit) ≡ sets (now (out .entry)) 0 (writtenBody (header (h .route)) (headerValues h)) ⌝ }
+    ensures { λ _. ⌜ now (out .exit) ≡ sets (now (out .entry)) 0 (writtenBody (header route) (headerValues route h)) ⌝ }
 {
-    let route = h.route;
     write_head(out, HEADER);
     put(out, 3, 4, h.time as u64);
     write_route(out, 7, route);

@@ -8,6 +8,7 @@ use crate::header::Header;
 use crate::header::write_header;
 use crate::reply::Reply;
 use crate::reply::write_reply_body;
+use crate::route::Route;
 use crate::total::LOT_TOTAL_BYTES;
 use crate::total::SESSION_TOTAL_BYTES;
 use crate::total::Total;
@@ -39,24 +40,26 @@ pub fn body_length(body: Body) -> usize
 }
 
 // Writes a body at the start of `out`; every other byte keeps its value.
-fn write_body(out: &mut [u8], body: Body)
+fn write_body(out: &mut [u8], route: Route, body: Body)
     requires { ⌜ bodyLength body ≤ length (now out) ⌝ }
-    ensures { λ _. ⌜ now (out .exit) ≡ sets (now (out .entry)) 0 (bodyBytes body) ⌝ }
+    ensures { λ _. ⌜ now (out .exit) ≡ sets (now (out .entry)) 0 (bodyBytes route body) ⌝ }
 {
     match body {
-        Body::Header(h) => write_header(out, h),
+        Body::Header(h) => write_header(out, route, h),
         Body::LotTotal(t) => write_lot_total(out, t),
         Body::SessionTotal(t) => write_session_total(out, t),
     }
 }
 
-// Writes a message at the start of the line buffer; every other byte keeps its value.
+// Writes a message at the start of the line buffer; every other byte keeps its value. A header has the route of its
+// envelope.
 pub fn write_message(line: &mut [u8], e: Envelope, body: Body)
     requires { ⌜ envelopeBytes + bodyLength body ≤ length (now line) ⌝ }
-    ensures { λ _. ⌜ now (line .exit) ≡ sets (now (line .entry)) 0 (message e (bodyBytes body)) ⌝ }
+    ensures { λ _. ⌜ now (line .exit) ≡ sets (now (line .entry)) 0 (message e (bodyBytes (e .route) body)) ⌝ }
 {
+    let route = e.route;
     write_envelope(line, Kind::Message, e);
-    write_body(&mut line[ENVELOPE_BYTES..], body);
+    write_body(&mut line[ENVELOPE_BYTES..], route, body);
 }
 
 // Writes a reply at the start of the line buffer; every other byte keeps its value. The envelope is that of the message.

@@ -11,7 +11,7 @@ use Rattle.codes.specs.Field.{exactly, earning, tableGood, tableNumbers}
 use Rattle.codes.proofs.Laws.Field.{table-split, digitRuns, total, runs-join, adjoining}
 use Rattle.message.specs.declared.route.Route.{Route}
 use Rattle.message.specs.declared.header.Header.{Header}
-use Rattle.message.specs.Route.{routeValues, sameRoute}
+use Rattle.message.specs.Route.{routeValues, routeAt, sameRoute}
 use Rattle.message.specs.Header.{timeOfDay, orderNumber, headerFields, header, headerValues, headerOf}
 use Rattle.message.proofs.Laws.Layout.{Whole}
 
@@ -28,18 +28,17 @@ module _ (route : Route) where
   unfolding headerFields earning every
   no-amounts s = refl
 
-  -- where the last byte is zero, the header read has the numbers of the table
-  pub zero-ended : (s : List ℕ) → number (part 18 1 s) ≡ 0 → headerValues (headerOf route s) ≡ tableNumbers 1 (headerFields route) s
+  -- a body of this route that ends with zero holds these numbers
+  pub numbers : (s : List ℕ) → routeAt 7 s ≡ route → number (part 18 1 s) ≡ 0 → headerValues route (headerOf s) ≡ tableNumbers 1 (headerFields route) s
   unfolding headerFields
-  zero-ended s e = let h = headerOf route s in λ i. h .time ∷ routeValues (h .route) ++ h .centre ∷ h .number ∷ sym e i ∷ []
+  numbers s r z = let h = headerOf s in λ i. h .time ∷ routeValues (sym r i) ++ h .centre ∷ h .number ∷ sym z i ∷ []
 
-  -- a reader that has the header, and has tested of it what is not the last byte
-  pub decided : (h : Header) (last : ℕ) (digits time same order t : Bool) (s : List ℕ) → h ≡ headerOf route s → last ≡ number (part 18 1 s) → digits ≡ areDigits (part 3 16 s) → time ≡ timeOfDay (h .time) → same ≡ sameRoute (h .route) route → order ≡ orderNumber (h .number) → digits && time && same && order && exactly 0 last ≡ t → tableGood 1 1 (headerFields route) s ≡ t
+  -- a reader that has the header, its route and its last byte, and has tested them
+  pub decided : (h : Header) (read : Route) (last : ℕ) (digits time same order t : Bool) (s : List ℕ) → h ≡ headerOf s → read ≡ routeAt 7 s → last ≡ number (part 18 1 s) → digits ≡ areDigits (part 3 16 s) → time ≡ timeOfDay (h .time) → same ≡ sameRoute read route → order ≡ orderNumber (h .number) → digits && time && same && order && exactly 0 last ≡ t → tableGood 1 1 (headerFields route) s ≡ t
   unfolding headerFields earning every digitRuns total
-  decided h last digits time same order t s read z d m r o e =
-      let k : headerOf route s ≡ h = sym read in
+  decided h read last digits time same order t s k r z d m p o e =
       table-split 1 1 (headerFields route) s
-      ∙ (λ i. (runs-join 3 (4 ∷ 3 ∷ 2 ∷ 2 ∷ 2 ∷ 2 ∷ 1 ∷ []) s true ∙ and-true (areDigits (part 3 16 s)) ∙ sym d) i && (timeOfDay (k i .time) && (exactly (route .date) (k i .route .date) && (exactly (route .presenting) (k i .route .presenting) && (exactly (route .receiving) (k i .route .receiving) && (orderNumber (k i .number) && (exactly 0 (sym z i) && true)))))))
-      ∙ listed digits (timeOfDay (h .time)) (exactly (route .date) (h .route .date)) (exactly (route .presenting) (h .route .presenting)) (exactly (route .receiving) (h .route .receiving)) (orderNumber (h .number)) (exactly 0 last)
-      ∙ (λ i. digits && sym m i && sym r i && sym o i && exactly 0 last)
+      ∙ (λ i. (runs-join 3 (4 ∷ 3 ∷ 2 ∷ 2 ∷ 2 ∷ 2 ∷ 1 ∷ []) s true ∙ and-true (areDigits (part 3 16 s)) ∙ sym d) i && (timeOfDay (sym k i .time) && (exactly (route .date) (sym r i .date) && (exactly (route .presenting) (sym r i .presenting) && (exactly (route .receiving) (sym r i .receiving) && (orderNumber (sym k i .number) && (exactly 0 (sym z i) && true)))))))
+      ∙ listed digits (timeOfDay (h .time)) (exactly (route .date) (read .date)) (exactly (route .presenting) (read .presenting)) (exactly (route .receiving) (read .receiving)) (orderNumber (h .number)) (exactly 0 last)
+      ∙ (λ i. digits && sym m i && sym p i && sym o i && exactly 0 last)
       ∙ e

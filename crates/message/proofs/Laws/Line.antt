@@ -11,6 +11,7 @@ use Rattle.packed.specs.Writing.{packedBytes}
 use Rattle.packed.proofs.Laws.Part.{part-tail}
 use Rattle.packed.proofs.Laws.Writing.{sets-behind}
 use Rattle.codes.specs.Field.{tableWritten}
+use Rattle.message.specs.declared.route.Route.{Route}
 use Rattle.message.specs.declared.line.Body.{Body}
 use Rattle.message.specs.Header.{headerFields}
 use Rattle.message.specs.Total.{lotTotalFields, sessionTotalFields}
@@ -37,8 +38,8 @@ both-written line first tail head body k size fits one two =
     ∙ sets-behind head body line first 0 k one (omega arith)
 
 -- each body is as long as 01 says
-pub body-length : (x : Body) → length (bodyBytes x) ≡ bodyLength x
+pub body-length : (route : Route) (x : Body) → length (bodyBytes route x) ≡ bodyLength x
 unfolding bodyBytes tableWritten packedBytes headerFields lotTotalFields sessionTotalFields
-body-length (Body.Header h) = refl
-body-length (Body.LotTotal t) = refl
-body-length (Body.SessionTotal t) = refl
+body-length route (Body.Header h) = refl
+body-length route (Body.LotTotal t) = refl
+body-length route (Body.SessionTotal t) = refl

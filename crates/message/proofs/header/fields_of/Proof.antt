@@ -1,17 +1,10 @@
--- `fields_of` reads the rows of the table, but for the zero at its end.
-use mathlib.Core.List.{[], _∷_, _++_}
-use Rattle.packed.specs.Part.{part}
-use Rattle.packed.specs.Number.{number}
-use Rattle.message.specs.Header.{headerFields}
+-- `fields_of` reads three rows of the table.
 use borrow.Author.Needs.{needs}
 use Rattle.message.proofs.header.fields_of.Statement.{statement}
 use Rattle.message.proofs.header.fields_of.Tie as tie
 
 number4-requires : tie.Need-number4-requires
 number4-requires c κs = search needs
-
-read-route-requires : tie.Need-read-route-requires
-read-route-requires c κs = search needs
 
 number2-requires : tie.Need-number2-requires
 number2-requires c κs = search needs
@@ -20,12 +13,7 @@ number2-requires-2 : tie.Need-number2-requires-2
 number2-requires-2 c κs = search needs
 
 returns : tie.Need-returns
-unfolding headerFields
-returns c =
-    λ i.
-    record { time = c .before .before .before .number4 .ensures i; route = c .before .before .read-route .ensures i; centre = c .before .number2 .ensures i; number = c .number22 .ensures i }
+returns c = λ i. record { time = c .before .before .number4 .ensures i; centre = c .before .number2 .ensures i; number = c .number22 .ensures i }
 
 pub fields-of-spec : {M : Type 1} → statement M
-fields-of-spec =
-    tie.close
-    (tie.spec number4-requires read-route-requires number2-requires number2-requires-2 returns)
+fields-of-spec = tie.close (tie.spec number4-requires number2-requires number2-requires-2 returns)

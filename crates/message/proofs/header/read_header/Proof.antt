@@ -10,11 +10,13 @@ use lib.Dec.{lit<}
 use lib.ListN.{length}
 use Rattle.codes.specs.Field.{exactly, tableGood}
 use Rattle.message.specs.Limits.{headerBytes}
-use Rattle.message.specs.Layout.{Layout, shapeGood}
+use Rattle.message.specs.declared.route.Route.{Route}
+use Rattle.message.specs.Layout.{shapeGood}
 use Rattle.message.specs.Content.{headerOperation}
-use Rattle.message.specs.Header.{headerFields, header, headerValues, headerOf}
+use Rattle.message.specs.Header.{headerFields, header, headerValues}
+use Rattle.message.proofs.Laws.Route.{same}
 use Rattle.message.proofs.Laws.Layout.{shaped, misshapen, field-wrong, accepted, earns, holds}
-use Rattle.message.proofs.Laws.Header.{no-amounts, zero-ended, decided}
+use Rattle.message.proofs.Laws.Header.{no-amounts, numbers, decided}
 use Rattle.message.proofs.header.read_header.Statement.{statement}
 use Rattle.message.proofs.header.read_header.Tie as tie
 
@@ -32,10 +34,13 @@ fields-of-requires : tie.Need-fields-of-requires
 fields-of-requires c κs = enough c
 
 are-digits-requires : tie.Need-are-digits-requires
-are-digits-requires c κs = enough (c .before .before)
+are-digits-requires c κs = enough (c .before)
 
 time-of-day-requires : tie.Need-time-of-day-requires
 time-of-day-requires c κs = search needs
+
+read-route-requires : tie.Need-read-route-requires
+read-route-requires c κs = omega (arith, enough (c .before .before .before))
 
 same-route-requires : tie.Need-same-route-requires
 same-route-requires c κs = search needs
@@ -46,34 +51,37 @@ order-number-requires c κs = search needs
 number-requires : tie.Need-number-requires
 number-requires c κs = (enough (c .before .before .before .before .before .before), omega arith)
 
-abbrev layout : tie.After-number → Layout
-layout t = header (t .before .before .before .before .before .before .before .before .before .before .args .route)
+abbrev route : tie.After-number → Route
+route t = t .before .before .before .before .before .before .before .before .before .before .args .route
 
 abbrev body : tie.After-number → List ℕ
 body t = t .before .before .before .before .before .before .before .before .before .before .args .body .now
 
-read : (t : tie.After-number) → t .before .before .before .before .before .before .fields-of .result ≡ headerOf (t .before .before .before .before .before .before .before .before .before .before .args .route) (body t)
-unfolding headerFields
-read t = t .before .before .before .before .before .before .fields-of .ensures
+-- what is tested: digits and time, the route, the order number, and at last the zero
+abbrev first : tie.After-number → Bool
+first t = t .before .before .before .before .before .are-digits .result && t .before .before .before .before .time-of-day .result
 
--- what is tested before the zero at the end
 abbrev tests : tie.After-number → Bool
-tests t = t .before .before .before .before .are-digits .result && t .before .before .before .time-of-day .result && t .before .before .same-route .result && t .before .order-number .result
+tests t = first t && t .before .before .same-route .result && t .before .order-number .result && exactly 0 (t .number .result)
 
-tested : (t : tie.After-number) (b : Bool) → tests t && exactly 0 (t .number .result) ≡ b → tableGood 1 1 (layout t .fields) (body t) ≡ b
+tested : (t : tie.After-number) (b : Bool) → tests t ≡ b → tableGood 1 1 (headerFields (route t)) (body t) ≡ b
 tested t b e =
-    decided (t .before .before .before .before .before .before .before .before .before .before .args .route) (t .before .before .before .before .before .before .fields-of .result) (t .number .result) (t .before .before .before .before .are-digits .result) (t .before .before .before .time-of-day .result) (t .before .before .same-route .result) (t .before .order-number .result) b (body t) (read t) (t .number .ensures .0) (t .before .before .before .before .are-digits .ensures) (t .before .before .before .time-of-day .ensures) (t .before .before .same-route .ensures) (t .before .order-number .ensures) e
+    decided (route t) (t .before .before .before .before .before .before .fields-of .result) (t .before .before .before .read-route .result) (t .number .result) (t .before .before .before .before .before .are-digits .result) (t .before .before .before .before .time-of-day .result) (t .before .before .same-route .result) (t .before .order-number .result) b (body t) (t .before .before .before .before .before .before .fields-of .ensures) (t .before .before .before .read-route .ensures) (t .number .ensures .0) (t .before .before .before .before .before .are-digits .ensures) (t .before .before .before .before .time-of-day .ensures) (t .before .before .same-route .ensures) (t .before .order-number .ensures) e
 
 returns : tie.Need-returns
 returns c =
     let t = c .before in
-    let zero : t .number .result ≡ 0 = eqb-true (t .number .result) 0 (and-eq-true-iff (tests t) (exactly 0 (t .number .result)) .0 (c .if2 .taken) .1) in
-    holds (layout t) (body t) (headerValues (t .before .before .before .before .before .before .fields-of .result)) (accepted (layout t) (body t) (shape (t .before .before .before .before .before .before .before)) (tested t true (c .if2 .taken)) (no-amounts (t .before .before .before .before .before .before .before .before .before .before .args .route) (body t))) (ap headerValues (read t) ∙ zero-ended (t .before .before .before .before .before .before .before .before .before .before .args .route) (body t) (sym (t .number .ensures .0) ∙ zero))
+    let told = t .before .before .same-route .result in
+    let last = and-eq-true-iff (first t && told && t .before .order-number .result) (exactly 0 (t .number .result)) .0 (c .if2 .taken) in
+    let middle = and-eq-true-iff (first t && told) (t .before .order-number .result) .0 (last .0) in
+    let one = same (t .before .before .before .read-route .result) (route t) (sym (t .before .before .same-route .ensures) ∙ and-eq-true-iff (first t) told .0 (middle .0) .1) in
+    let zero = eqb-true (t .number .result) 0 (last .1) in
+    holds (header (route t)) (body t) (headerValues (route t) (t .before .before .before .before .before .before .fields-of .result)) (accepted (header (route t)) (body t) (shape (t .before .before .before .before .before .before .before)) (tested t true (c .if2 .taken)) (no-amounts (route t) (body t))) (ap (headerValues (route t)) (t .before .before .before .before .before .before .fields-of .ensures) ∙ numbers (route t) (body t) (sym (t .before .before .before .read-route .ensures) ∙ one) (sym (t .number .ensures .0) ∙ zero))
 
 returns-2 : tie.Need-returns-2
 returns-2 c =
     let t = c .before in
-    earns (layout t) (body t) 1 (lit< tt) (field-wrong (layout t) (body t) (shape (t .before .before .before .before .before .before .before)) (tested t false (c .if2 .left)))
+    earns (header (route t)) (body t) 1 (lit< tt) (field-wrong (header (route t)) (body t) (shape (t .before .before .before .before .before .before .before)) (tested t false (c .if2 .left)))
 
 returns-3 : tie.Need-returns-3
 returns-3 c =
@@ -88,6 +96,7 @@ read-header-spec =
     fields-of-requires
     are-digits-requires
     time-of-day-requires
+    read-route-requires
     same-route-requires
     order-number-requires
     number-requires

@@ -1,8 +1,7 @@
--- `write_header`: the runs one behind the other.
+-- `write_header`: head and runs, one behind the other.
 use mathlib.Core.Path.{ap, _∙_}
 use mathlib.Core.List.{List}
 use Prim.Native.Nat.{ℕ}
-use native.Mathlib.Omega.{arith}
 use lib.Seq.{sets}
 use Rattle.packed.specs.Writing.{packedBytes}
 use Rattle.codes.specs.Field.{tableWritten}
@@ -37,14 +36,7 @@ put-requires-3 : tie.Need-put-requires-3
 put-requires-3 c κs = search needs
 
 put-requires-4 : tie.Need-put-requires-4
-put-requires-4 c κs =
-    let third = c .before .before .before in
-    let second = third .before .before .before .before .before in
-    let first = second .before .before .before .before .before in
-    let route = first .before .before .before .before in
-    let head = route .before .before .before .before .before in
-    let same = third .put3 .kept .0 ∙ second .put2 .kept .0 ∙ first .write-route .kept .0 ∙ route .put .kept .0 ∙ head .write-head .kept .0 in
-    omega (arith, same, head .before .before .before .before .pre)
+put-requires-4 c κs = search needs
 
 same-length : tie.Need-same-length
 same-length c = search needs
@@ -58,12 +50,12 @@ returns c =
     let second = third .before .before .before .before .before in
     let first = second .before .before .before .before in
     let head = first .before .before .before .before .before in
-    let a = head .before .before .before .before .args in
+    let a = head .before .before .before .args in
     fifth .put4 .ensures
     ∙ ap (λ (d : List ℕ). sets d 18 (packedBytes 1 0)) (fourth .put3 .ensures
     ∙ ap (λ (d : List ℕ). sets d 16 (packedBytes 2 (a .h .number))) (third .put2 .ensures
     ∙ ap (λ (d : List ℕ). sets d 14 (packedBytes 2 (a .h .centre))) (second .write-route .ensures
-    ∙ ap (λ (d : List ℕ). sets d 7 (writtenRoute (a .h .route))) (first .put .ensures
+    ∙ ap (λ (d : List ℕ). sets d 7 (writtenRoute (a .route))) (first .put .ensures
     ∙ ap (λ (d : List ℕ). sets d 3 (packedBytes 4 (a .h .time))) (head .write-head .ensures)))))
 
 pub write-header-spec : {M : Type 1} → statement M

@@ -35,21 +35,21 @@ same-length c = search needs
 
 returns : tie.Need-returns
 unfolding bodyBytes
-returns c = c .before .before .write-header .ensures ∙ ap (λ (x : Body). sets (c .before .before .before .before .before .before .before .before .args .out .now) 0 (bodyBytes x)) (sym (c .before .before .before .before .before .body .given .1))
+returns c = let a = c .before .before .before .before .before .before .before .before .args in c .before .before .write-header .ensures ∙ ap (λ (x : Body). sets (a .out .now) 0 (bodyBytes (a .route) x)) (sym (c .before .before .before .before .before .body .given .1))
 
 same-length-2 : tie.Need-same-length-2
 same-length-2 c = search needs
 
 returns-2 : tie.Need-returns-2
 unfolding bodyBytes
-returns-2 c = c .before .before .write-lot-total .ensures ∙ ap (λ (x : Body). sets (c .before .before .before .before .before .before .before .before .args .out .now) 0 (bodyBytes x)) (sym (c .before .before .before .before .before .body2 .given .1))
+returns-2 c = let a = c .before .before .before .before .before .before .before .before .args in c .before .before .write-lot-total .ensures ∙ ap (λ (x : Body). sets (a .out .now) 0 (bodyBytes (a .route) x)) (sym (c .before .before .before .before .before .body2 .given .1))
 
 same-length-3 : tie.Need-same-length-3
 same-length-3 c = search needs
 
 returns-3 : tie.Need-returns-3
 unfolding bodyBytes
-returns-3 c = c .before .before .write-session-total .ensures ∙ ap (λ (x : Body). sets (c .before .before .before .before .before .before .before .before .args .out .now) 0 (bodyBytes x)) (sym (c .before .before .before .before .before .body3 .given .1))
+returns-3 c = let a = c .before .before .before .before .before .before .before .before .args in c .before .before .write-session-total .ensures ∙ ap (λ (x : Body). sets (a .out .now) 0 (bodyBytes (a .route) x)) (sym (c .before .before .before .before .before .body3 .given .1))
 
 pub write-body-spec : {M : Type 1} → statement M
 write-body-spec =

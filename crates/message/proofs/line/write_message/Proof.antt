@@ -1,8 +1,7 @@
 -- `write_message` lends the tail behind the envelope.
-use mathlib.Core.Path.{_≡_, refl}
-use native.Mathlib.Omega.{arith}
-use Rattle.codes.specs.Field.{tableWritten}
+use mathlib.Core.Path.{refl}
 use Rattle.packed.specs.Writing.{packedBytes}
+use Rattle.codes.specs.Field.{tableWritten}
 use Rattle.message.specs.declared.envelope.Kind.{Kind}
 use Rattle.message.specs.Limits.{envelopeBytes}
 use Rattle.message.specs.Envelope.{envelopeFields, writtenEnvelope}
@@ -35,8 +34,8 @@ unfolding tableWritten envelopeFields packedBytes
 returns c =
     let tail = c .before .before in
     let first = tail .before .before .before .before in
-    let a = first .before .before .before .args in
-    both-written (a .line .now) (first .write-envelope .last .0) (tail .write-body .last .0) (writtenEnvelope Kind.Message (a .e)) (bodyBytes (a .body)) envelopeBytes refl (rw (body-length (a .body)) (first .before .before .before .pre)) (first .write-envelope .ensures) (tail .write-body .ensures)
+    let a = first .before .before .before .before .args in
+    both-written (a .line .now) (first .write-envelope .last .0) (tail .write-body .last .0) (writtenEnvelope Kind.Message (a .e)) (bodyBytes (a .e .route) (a .body)) envelopeBytes refl (rw (body-length (a .e .route) (a .body)) (first .before .before .before .before .pre)) (first .write-envelope .ensures) (tail .write-body .ensures)
 
 pub write-message-spec : {M : Type 1} → statement M
 write-message-spec =

@@ -1,8 +1,7 @@
 -- `write_reply` lends the tail behind the envelope.
-use mathlib.Core.Path.{_≡_, refl}
-use native.Mathlib.Omega.{arith}
-use Rattle.codes.specs.Field.{tableWritten}
+use mathlib.Core.Path.{refl}
 use Rattle.packed.specs.Writing.{packedBytes}
+use Rattle.codes.specs.Field.{tableWritten}
 use Rattle.message.specs.declared.envelope.Kind.{Kind}
 use Rattle.message.specs.Limits.{envelopeBytes}
 use Rattle.message.specs.Envelope.{envelopeFields, writtenEnvelope}
