@@ -4,6 +4,7 @@ use mathlib.Core.List.{List, _++_}
 use Rattle.message.specs.declared.route.Route.{Route}
 use Rattle.message.specs.declared.envelope.Kind.{Kind}
 use Rattle.message.specs.declared.envelope.Envelope.{Envelope}
+use Rattle.message.specs.declared.content.Content.{Content}
 use Rattle.message.specs.declared.reply.Reply.{Reply}
 use Rattle.message.specs.declared.line.Body.{Body}
 use Rattle.message.specs.Limits.{headerBytes, lotTotalBytes, sessionTotalBytes}
@@ -27,7 +28,13 @@ valuesOf route (Body.SessionTotal t) = totalValues t
 unfoldable pub bodyBytes : Route → Body → List ℕ
 bodyBytes route x = writtenBody (layoutOf route x) (valuesOf route x)
 
--- how many bytes that are
+-- what it is
+abbrev pub whatIs : Body → Content
+whatIs (Body.Header h) = Content.Header
+whatIs (Body.LotTotal t) = Content.LotTotal
+whatIs (Body.SessionTotal t) = Content.SessionTotal
+
+-- how many bytes it takes
 abbrev pub bodyLength : Body → ℕ
 bodyLength (Body.Header h) = headerBytes
 bodyLength (Body.LotTotal t) = lotTotalBytes

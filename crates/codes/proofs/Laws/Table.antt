@@ -16,7 +16,7 @@ use Rattle.packed.specs.Writing.{packedBytes}
 use Rattle.packed.proofs.Laws.Part.{part-split}
 use Rattle.packed.proofs.Laws.Every.{every-cons}
 use Rattle.packed.proofs.Laws.Writing.{packed-length, packed-digits, written-then-read as packed-then-read, read-then-put}
-use Rattle.codes.specs.Field.{Field, fieldDigits, fieldGood, earning, tableNumbers, tableTakes, tableWritten}
+use Rattle.codes.specs.Field.{Field, fieldDigits, fieldValue, fieldGood, earning, tableNumbers, tableTakes, tableWritten}
 use Rattle.codes.proofs.Laws.Field.{adjoining}
 
 -- rows that begin at a position and end before another, without a gap
@@ -79,8 +79,8 @@ module _ (first : ℕ) where
         (λ i. (ap areDigits here ∙ packed-digits (f .width) v) i && (ap (f .rule) value ∙ takes .1) i && after .1 i),
       )
 
-  -- rows of digits within a layout, written again, are its bytes
-  pub read-then-written : (from to : ℕ) (fields : List Field) (s : List ℕ) → first ≤ from → Adjoin from to fields → to ≤ first + length s → every (fieldDigits first s) fields ≡ true → tableWritten fields (tableNumbers first fields s) ≡ part (from - first) (to - from) s
+  -- good rows within a layout, written again, are its bytes
+  pub read-then-written : (from to : ℕ) (fields : List Field) (s : List ℕ) → first ≤ from → Adjoin from to fields → to ≤ first + length s → every (fieldGood first s) fields ≡ true → tableWritten fields (tableNumbers first fields s) ≡ part (from - first) (to - from) s
   unfolding tableWritten every adjoining
   read-then-written from to [] s o h l e =
       let same : from ≡ to = ap (λ (p : Bool × ℕ). p .1) h in
@@ -89,10 +89,11 @@ module _ (first : ℕ) where
   read-then-written from to (f ∷ fs) s o h l e =
       let row = first-row from to f fs h in
       let ends = forward (from + f .width) to fs (row .1) in
-      let both = and-eq-true-iff (fieldDigits first s f) (every (fieldDigits first s) fs) .0 e in
+      let both = every-cons (fieldGood first s) f fs e in
+      let digits = and-eq-true-iff (fieldDigits first s f) (fieldValue first s f) .0 (both .0) .0 in
       let at = from - first in
       let here : part (f .position - first) (f .width) s ≡ part at (f .width) s = ap (λ (p : ℕ). part (p - first) (f .width) s) (row .0) in
-      let head : packedBytes (f .width) (number (part at (f .width) s)) ≡ part at (f .width) s = read-then-put s at (f .width) (omega arith) (ap areDigits (sym here) ∙ both .0) in
+      let head : packedBytes (f .width) (number (part at (f .width) s)) ≡ part at (f .width) s = read-then-put s at (f .width) (omega arith) (ap areDigits (sym here) ∙ digits) in
       let tail = read-then-written (from + f .width) to fs s (omega arith) (row .1) l (both .1) in
       let next : from + f .width - first ≡ at + f .width = omega arith in
       let whole : to - from ≡ f .width + (to - (from + f .width)) = omega arith in

@@ -10,15 +10,14 @@ use borrow.Author.Tests.{eqb-true, eq-eqb, not-false}
 use Rattle.packed.specs.Part.{byteAt, part}
 use Rattle.packed.specs.Every.{every}
 use Rattle.packed.proofs.Laws.Part.{part-tail}
-use Rattle.packed.proofs.Laws.Every.{every-then}
 use Rattle.codes.specs.Body.{free, mark, operationOf, cleared}
 use Rattle.codes.specs.Chain.{_when_, _orelse_}
-use Rattle.codes.specs.Field.{Field, fieldGood, fieldDigits, fieldValue, tableGood, tableNumbers, tableTakes, tableWritten}
+use Rattle.codes.specs.Field.{Field, fieldGood, tableGood, tableNumbers, tableTakes, tableWritten}
 use Rattle.codes.proofs.Laws.Chain.{applies, passes, none-test, none-both, last}
 use Rattle.codes.proofs.Laws.Table.{Adjoin, forward, written-length, written-then-read as table-written, read-then-written as table-read, rows-of, rows-all}
 use Rattle.message.specs.Reading.{reading}
 use Rattle.message.specs.Layout.{Layout, firstPosition, firstField, shapeGood, bodyCode, readBody, writtenBody}
-use Rattle.message.proofs.Laws.Reading.{said-values, said-number}
+use Rattle.message.proofs.Laws.Reading.{said-values, said-number, told}
 
 -- what a good shape tells
 pub record Shaped (bytes operation : ℕ) (body : List ℕ) : Type 0 where
@@ -100,14 +99,14 @@ module _ (layout : Layout) (whole : Whole layout) where
       let good : (code : ℕ) → tableGood firstPosition code (layout .fields) body ≡ true = λ (code : ℕ). rows-of (fieldGood firstPosition body) code (layout .fields) (read .1) in
       sym (holds layout body vs (accepted layout body shape (good 1) (good 3)) (sym (read .0)))
 
-  pub read-then-written : (body : List ℕ) → bodyCode layout body ≡ 0 → writtenBody layout (tableNumbers firstPosition (layout .fields) body) ≡ cleared body
-  read-then-written body e =
-      let told = accepted-told layout body e in
-      let known = shaped (layout .bytes) (layout .operation) body (told .0) in
+  pub read-then-written : (body values : List ℕ) → reading 0 values ≡ readBody layout body → writtenBody layout values ≡ cleared body
+  read-then-written body values e =
+      let read = told (bodyCode layout body) (tableNumbers firstPosition (layout .fields) body) values e in
+      let found = accepted-told layout body (read .0) in
+      let known = shaped (layout .bytes) (layout .operation) body (found .0) in
       let ends = forward firstField (layout .bytes + 1) (layout .fields) (whole .covers) in
-      let good = rows-all (fieldGood firstPosition body) 1 3 (layout .fields) (whole .faults) (told .1) (told .2) in
-      let digits = every-then (fieldGood firstPosition body) (fieldDigits firstPosition body) (λ (f : Field) (g : fieldGood firstPosition body f ≡ true). and-eq-true-iff (fieldDigits firstPosition body f) (fieldValue firstPosition body f) .0 g .0) (layout .fields) good in
-      let table = table-read firstPosition firstField (layout .bytes + 1) (layout .fields) body (omega arith) (whole .covers) (omega arith) digits in
+      let good = rows-all (fieldGood firstPosition body) 1 3 (layout .fields) (whole .faults) (found .1) (found .2) in
+      let table = ap (tableWritten (layout .fields)) (sym (read .1)) ∙ table-read firstPosition firstField (layout .bytes + 1) (layout .fields) body (omega arith) (whole .covers) (omega arith) good in
       let left : layout .bytes + 1 - firstField ≡ length body - 3 = omega arith in
       let rest = table ∙ ap (λ (k : ℕ). part 3 k body) left ∙ part-tail 3 body in
       (λ i. free ∷ sym (known .marked) i ∷ sym (known .said) i ∷ rest i) ∙ ap (λ (l : List ℕ). free ∷ l) (sym (behind-free body (omega arith)))
