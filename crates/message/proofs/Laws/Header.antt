@@ -1,18 +1,22 @@
 -- Laws of the header: its tests in short.
 use mathlib.Core.Path.{_≡_, refl, ap, sym, _∙_}
-use mathlib.Core.Bool.{Bool, true, _&&_, and-assoc, and-true}
+use mathlib.Core.Bool.{Bool, true, _&&_, and-assoc, and-true, and-eq-true-iff}
 use mathlib.Core.List.{List, [], _∷_, _++_}
-use Prim.Native.Nat.{ℕ}
+use Prim.Native.Nat.{ℕ, _^_, _/_, _%_, _<_}
+use native.Mathlib.Omega.{arith}
+use lib.Dec.{leb, ltb}
+use borrow.Author.Tests.{lt-ltb, ltb-true, leb-true, eq-eqb}
 use Rattle.packed.specs.Part.{part}
 use Rattle.packed.specs.Every.{every}
 use Rattle.packed.specs.Digits.{areDigits}
 use Rattle.packed.specs.Number.{number}
-use Rattle.codes.specs.Field.{exactly, earning, tableGood, tableNumbers}
+use Rattle.codes.specs.Field.{exactly, earning, tableGood, tableNumbers, tableTakes}
 use Rattle.codes.proofs.Laws.Field.{table-split, digitRuns, total, runs-join, adjoining}
 use Rattle.message.specs.declared.route.Route.{Route}
 use Rattle.message.specs.declared.header.Header.{Header}
+use Rattle.message.specs.Limits.{largestNumber}
 use Rattle.message.specs.Route.{routeValues, routeAt, sameRoute}
-use Rattle.message.specs.Header.{timeOfDay, orderNumber, headerFields, header, headerValues, headerOf}
+use Rattle.message.specs.Header.{timeOfDay, orderNumber, headerFields, header, headerValues, headerOf, sendable}
 use Rattle.message.proofs.Laws.Layout.{Whole}
 
 listed : (d a b c e f g : Bool) → d && (a && (b && (c && (e && (f && (g && true)))))) ≡ d && a && (b && c && e) && f && g
@@ -42,3 +46,19 @@ module _ (route : Route) where
       ∙ listed digits (timeOfDay (h .time)) (exactly (route .date) (read .date)) (exactly (route .presenting) (read .presenting)) (exactly (route .receiving) (read .receiving)) (orderNumber (h .number)) (exactly 0 last)
       ∙ (λ i. digits && sym m i && sym p i && sym o i && exactly 0 last)
       ∙ e
+
+  -- numbers that a header can carry
+  pub in-range : (h : Header) → route .date < 100 ^ 3 → route .presenting < 100 ^ 2 → route .receiving < 100 ^ 2 → sendable (h .time) (h .centre) (h .number) ≡ true → tableTakes (headerFields route) (headerValues route h) ≡ true
+  unfolding sendable headerFields tableTakes
+  in-range h d p r e =
+      let last = and-eq-true-iff (timeOfDay (h .time) && leb (h .centre) largestNumber) (orderNumber (h .number)) .0 e in
+      let first = and-eq-true-iff (timeOfDay (h .time)) (leb (h .centre) largestNumber) .0 (last .0) in
+      let hour = ltb-true (h .time / 1000000) 24 (and-eq-true-iff (ltb (h .time / 1000000) 24) (ltb (h .time / 10000 % 100) 60) .0 (and-eq-true-iff (ltb (h .time / 1000000) 24 && ltb (h .time / 10000 % 100) 60) (ltb (h .time / 100 % 100) 60) .0 (first .0) .0) .0) in
+      let centre = leb-true (h .centre) largestNumber (first .1) in
+      let number = leb-true (h .number) largestNumber (and-eq-true-iff (leb 1 (h .number)) (leb (h .number) largestNumber) .0 (last .1) .1) in
+      λ i.
+      lt-ltb (h .time) (100 ^ 4) (omega arith) i && first .0 i
+      && (lt-ltb (route .date) (100 ^ 3) d i && eq-eqb (route .date) (route .date) refl i
+      && (lt-ltb (route .presenting) (100 ^ 2) p i && eq-eqb (route .presenting) (route .presenting) refl i
+      && (lt-ltb (route .receiving) (100 ^ 2) r i && eq-eqb (route .receiving) (route .receiving) refl i
+      && (lt-ltb (h .centre) (100 ^ 2) (omega arith) i && true && (lt-ltb (h .number) (100 ^ 2) (omega arith) i && last .1 i && true)))))

@@ -1,29 +1,42 @@
 -- Laws of the line buffer: a body written into the lent tail stands behind the envelope.
 use mathlib.Core.Path.{_≡_, refl, ap, sym, _∙_}
 use mathlib.Core.Bool.{true}
-use mathlib.Core.List.{List, [], _++_, append-nil, append-assoc}
+use mathlib.Core.List.{List, [], _∷_, _++_, append-nil, append-assoc}
 use Prim.Native.Nat.{ℕ, _+_, _-_, _≤_}
 use native.Mathlib.Nat.{zero-add}
 use native.Mathlib.Omega.{arith}
 use lib.ListN.{length, take, drop, length-drop}
 use lib.Seq.{sets, sets-eq, length-sets, drop-length, drop-drop}
 use borrow.Rule.Slice.PartMut.{midOf, putMid}
-use Rattle.packed.specs.Writing.{packedBytes}
+use Rattle.packed.specs.Writing.{packedByte, packedBytes}
 use Rattle.packed.proofs.Laws.Part.{part-tail}
 use Rattle.packed.proofs.Laws.Writing.{sets-behind}
+use Rattle.codes.specs.declared.reply.Code.{Code}
+use Rattle.codes.specs.Reply.{codeByte}
 use Rattle.codes.specs.Body.{cleared}
 use Rattle.codes.specs.Field.{tableTakes, tableWritten}
 use Rattle.message.specs.declared.route.Route.{Route}
+use Rattle.message.specs.declared.envelope.Kind.{Kind}
+use Rattle.message.specs.declared.envelope.Envelope.{Envelope}
+use Rattle.message.specs.declared.envelope.ReadEnvelope.{ReadEnvelope}
+use Rattle.message.specs.declared.reply.Operation.{Operation}
+use Rattle.message.specs.declared.reply.Reply.{Reply}
+use Rattle.message.specs.declared.reply.ReadReply.{ReadReply}
 use Rattle.message.specs.declared.line.Body.{Body}
+use Rattle.message.specs.Limits.{envelopeBytes}
 use Rattle.message.specs.Reading.{reading}
 use Rattle.message.specs.Layout.{readBody}
+use Rattle.message.specs.Envelope.{lengthGood, envelopeFields, readEnvelope, envelopeValues, envelopeSaid, bodyOf}
 use Rattle.message.specs.Content.{byOperation, contentOf}
 use Rattle.message.specs.Header.{headerFields}
 use Rattle.message.specs.Total.{lotTotalFields, sessionTotalFields}
+use Rattle.message.specs.Reply.{operationByte, readReply, replySaid, writtenReplyBody}
 use Rattle.message.specs.Line.{layoutOf, valuesOf, bodyBytes, whatIs, bodyLength, message, wholeReply}
 use Rattle.message.proofs.Laws.Layout.{Whole, written-then-read as layout-written, read-then-written as layout-read}
+use Rattle.message.proofs.Laws.Envelope.{body-told, written-then-read as envelope-written, read-then-written as envelope-again}
 use Rattle.message.proofs.Laws.Header.{whole as header-whole}
 use Rattle.message.proofs.Laws.Total.{lot-whole, session-whole}
+use Rattle.message.proofs.Laws.Reply.{written-then-read as reply-written, read-then-written as reply-body-again}
 
 -- a run at the start of a lent tail is a run of the whole
 tail-sets : (xs vs : List ℕ) (a : ℕ) → a + length vs ≤ length xs → putMid a (length xs - a) xs (sets (midOf a (length xs - a) xs) 0 vs) ≡ sets xs a vs
@@ -52,6 +65,12 @@ body-length route (Body.Header h) = refl
 body-length route (Body.LotTotal t) = refl
 body-length route (Body.SessionTotal t) = refl
 
+-- and no longer than a message may be
+short : (x : Body) → lengthGood Kind.Message (envelopeBytes + bodyLength x) ≡ true
+short (Body.Header h) = refl
+short (Body.LotTotal t) = refl
+short (Body.SessionTotal t) = refl
+
 -- every row of a body is covered and earns 01 or 03
 pub whole : (route : Route) (x : Body) → Whole (layoutOf route x)
 whole route (Body.Header h) = header-whole route
@@ -75,3 +94,31 @@ unfolding bodyBytes byOperation
 content-told route (Body.Header h) = refl
 content-told route (Body.LotTotal t) = refl
 content-told route (Body.SessionTotal t) = refl
+
+-- so for whole messages and whole replies
+pub message-read : (e : Envelope) (x : Body) → tableTakes envelopeFields (envelopeValues e) ≡ true → tableTakes (layoutOf (e .route) x .fields) (valuesOf (e .route) x) ≡ true → let bytes = message e (bodyBytes (e .route) x) in (readEnvelope Kind.Message bytes ≡ envelopeSaid (ReadEnvelope.Read e)) × (readBody (layoutOf (e .route) x) (bodyOf bytes) ≡ reading 0 (valuesOf (e .route) x))
+message-read e x fe fx =
+    let body = bodyBytes (e .route) x in
+    let fits = ap (λ (n : ℕ). lengthGood Kind.Message (envelopeBytes + n)) (body-length (e .route) x) ∙ short x in
+    (envelope-written Kind.Message e body fe fits, ap (readBody (layoutOf (e .route) x)) (body-told Kind.Message e body) ∙ written-then-read (e .route) x fx)
+
+pub message-again : (e : Envelope) (x : Body) (bytes : List ℕ) → envelopeSaid (ReadEnvelope.Read e) ≡ readEnvelope Kind.Message bytes → reading 0 (valuesOf (e .route) x) ≡ readBody (layoutOf (e .route) x) (bodyOf bytes) → message e (bodyBytes (e .route) x) ≡ take envelopeBytes bytes ++ cleared (bodyOf bytes)
+message-again e x bytes he hx = λ i. envelope-again Kind.Message bytes e he i ++ read-then-written (e .route) x (bodyOf bytes) hx i
+
+pub reply-read : (e : Envelope) (r : Reply) → tableTakes envelopeFields (envelopeValues e) ≡ true → (readEnvelope Kind.Reply (wholeReply e r) ≡ envelopeSaid (ReadEnvelope.Read e)) × (readReply (bodyOf (wholeReply e r)) ≡ replySaid (ReadReply.Read r))
+reply-read e r fits = (envelope-written Kind.Reply e (writtenReplyBody r) fits refl, ap readReply (body-told Kind.Reply e (writtenReplyBody r)) ∙ reply-written r)
+
+pub reply-again : (e : Envelope) (r : Reply) (bytes : List ℕ) → envelopeSaid (ReadEnvelope.Read e) ≡ readEnvelope Kind.Reply bytes → replySaid (ReadReply.Read r) ≡ readReply (bodyOf bytes) → wholeReply e r ≡ take envelopeBytes bytes ++ cleared (bodyOf bytes)
+reply-again e r bytes he hr = λ i. envelope-again Kind.Reply bytes e he i ++ reply-body-again r (bodyOf bytes) hr i
+
+-- a header of 00:23:59.59 with number 7, from entity 81 to entity 72 on 14 March 2028, and the reply that accepts it
+example-envelope : Envelope
+example-envelope = record { route = record { date = 140328; presenting = 81; receiving = 72 }; serial = 1 }
+
+example-message : message example-envelope (bodyBytes (example-envelope .route) (Body.Header (record { time = 235959; centre = 1; number = 7 }))) ≡ 0x01 ∷ 0x14 ∷ 0x03 ∷ 0x28 ∷ 0x00 ∷ 0x81 ∷ 0x00 ∷ 0x72 ∷ 0x00 ∷ 0x00 ∷ 0x00 ∷ 0x01 ∷ 0x00 ∷ 0x51 ∷ 0x01 ∷ 0x00 ∷ 0x23 ∷ 0x59 ∷ 0x59 ∷ 0x14 ∷ 0x03 ∷ 0x28 ∷ 0x00 ∷ 0x81 ∷ 0x00 ∷ 0x72 ∷ 0x00 ∷ 0x01 ∷ 0x00 ∷ 0x07 ∷ 0x00 ∷ []
+unfolding example-envelope bodyBytes envelopeFields headerFields tableWritten packedBytes packedByte
+example-message = refl
+
+example-reply : wholeReply example-envelope (record { operation = Operation.Other; code = Code.Accepted }) ≡ 0x02 ∷ 0x14 ∷ 0x03 ∷ 0x28 ∷ 0x00 ∷ 0x81 ∷ 0x00 ∷ 0x72 ∷ 0x00 ∷ 0x00 ∷ 0x00 ∷ 0x01 ∷ 0x00 ∷ 0x51 ∷ 0x86 ∷ 0x00 ∷ []
+unfolding example-envelope envelopeFields tableWritten packedBytes packedByte operationByte codeByte
+example-reply = refl

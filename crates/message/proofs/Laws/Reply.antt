@@ -1,25 +1,29 @@
 -- Laws of the reply's body: a known operation byte has its number, and the round trips.
-use mathlib.Core.Path.{_≡_, refl, ap, sym, _∙_}
-use mathlib.Core.Bool.{Bool, true, false, not, _&&_, and-true, and-false}
+use mathlib.Core.Path.{_≡_, refl, ap, sym, _∙_, subst}
+use mathlib.Core.Bool.{Bool, true, false, not, _&&_, _||_, and-true, and-false, and-eq-true-iff, false≢true}
 use mathlib.Core.List.{List, [], _∷_}
 use Prim.Native.Nat.{ℕ}
-use lib.Dec.{lit<}
-use lib.ListN.{length}
-use borrow.Author.Tests.{eq-eqb}
+use native.Mathlib.Omega.{arith}
+use lib.Dec.{eqb, lit<}
+use lib.ListN.{length, getD}
+use borrow.Author.Tests.{eq-eqb, eqb-true, not-false}
 use Rattle.packed.specs.Part.{byteAt}
 use Rattle.packed.specs.Number.{byteValue}
 use Rattle.packed.specs.Writing.{packedByte}
-use Rattle.codes.specs.Body.{mark, operationOf}
+use Rattle.codes.specs.Body.{free, mark, operationOf, cleared}
 use Rattle.codes.specs.Chain.{_when_}
 use Rattle.codes.specs.declared.reply.Code.{Code}
 use Rattle.codes.specs.declared.reply.ReadCode.{ReadCode}
-use Rattle.codes.specs.Reply.{codeNumber, readCode, isKnown, knownCode}
-use Rattle.codes.proofs.Laws.Reply.{code-value, read-then-written as code-read}
+use Rattle.codes.specs.Reply.{codeNumber, codeByte, readCode, isKnown, knownCode}
+use Rattle.codes.proofs.Laws.Chain.{none-test}
+use Rattle.codes.proofs.Laws.Reply.{code-value, written-then-read as code-written, read-then-written as code-read}
 use Rattle.message.specs.declared.reply.Operation.{Operation}
+use Rattle.message.specs.declared.reply.Reply.{Reply}
+use Rattle.message.specs.declared.reply.ReadReply.{ReadReply}
 use Rattle.message.specs.Limits.{replyBytes}
 use Rattle.message.specs.Reading.{reading}
-use Rattle.message.specs.Reply.{operationNumber, operationByte, knownOperation, replyGood, readReply}
-use Rattle.message.proofs.Laws.Reading.{said-number}
+use Rattle.message.specs.Reply.{operationNumber, operationByte, knownOperation, replyGood, readReply, replySaid, writtenReplyBody}
+use Rattle.message.proofs.Laws.Reading.{said-number, told}
 
 -- the byte of an operation is known, and holds its number
 operation-known : (o : Operation) → knownOperation (operationByte o) ≡ true
@@ -59,3 +63,69 @@ module _ (body : List ℕ) where
         let good : knownOperation (operationOf body) ≡ replyGood body = sym (decided ∙ ap (λ (r : ReadCode). knownOperation (operationOf body) && isKnown r) e ∙ and-true (knownOperation (operationOf body))) in
         let value : codeNumber c ≡ byteValue (byteAt 4 body) = sym (ap byteValue (code-read (byteAt 4 body) c e) ∙ code-value c) in
         λ i. reading (22 when not (good i)) (byteValue (operationOf body) ∷ value i ∷ [])
+
+-- a written reply is read again
+pub written-then-read : (r : Reply) → readReply (writtenReplyBody r) ≡ replySaid (ReadReply.Read r)
+unfolding replyGood knownCode
+written-then-read r =
+    let code = code-written (r .code) in
+    sym (answers (r .operation) (operationByte (r .operation)) (codeNumber (r .code)) refl ∙ code-known (writtenReplyBody r) refl refl (r .code) code)
+
+-- a known byte holds the number that it is written from
+one-of : (P : ℕ → Type 0) (b x y z : ℕ) → P x → P y → P z → eqb b x || eqb b y || eqb b z ≡ true → P b
+one-of P b x y z px py pz = go (eqb b x) (eqb b y) (eqb b z) refl refl refl
+  where
+    go : (t u v : Bool) → eqb b x ≡ t → eqb b y ≡ u → eqb b z ≡ v → t || u || v ≡ true → P b
+    go true u v ex ey ez e = subst P (sym (eqb-true b x ex)) px
+    go false true v ex ey ez e = subst P (sym (eqb-true b y ey)) py
+    go false false true ex ey ez e = subst P (sym (eqb-true b z ez)) pz
+    go false false false ex ey ez e = absurd (false≢true e)
+
+operation-again : (b : ℕ) → knownOperation b ≡ true → b ≡ packedByte (byteValue b)
+unfolding operationByte packedByte byteValue
+operation-again b e = one-of (λ (n : ℕ). n ≡ packedByte (byteValue n)) b (operationByte Operation.Other) (operationByte Operation.LotTotal) (operationByte Operation.SessionTotal) refl refl refl e
+
+code-again : (b : ℕ) → knownCode b ≡ true → b ≡ packedByte (byteValue b)
+unfolding knownCode codeByte
+code-again b e = go (readCode b) refl e
+  where
+    go : (r : ReadCode) → readCode b ≡ r → isKnown r ≡ true → b ≡ packedByte (byteValue b)
+    go (ReadCode.Known c) k h = let byte = code-read b c k in byte ∙ ap packedByte (sym (ap byteValue byte ∙ code-value c))
+    go ReadCode.Unknown k h = absurd (false≢true h)
+
+-- what a good reply tells
+record Known (body : List ℕ) : Type 0 where
+  pub size : length body ≡ replyBytes
+  pub marked : byteAt 2 body ≡ mark
+  pub operation : knownOperation (operationOf body) ≡ true
+  pub code : knownCode (byteAt 4 body) ≡ true
+
+known : (body : List ℕ) → replyGood body ≡ true → Known body
+unfolding replyGood
+known body e =
+    let size = eqb (length body) replyBytes in
+    let marked = eqb (byteAt 2 body) mark in
+    let operation = knownOperation (operationOf body) in
+    let last = and-eq-true-iff (size && marked && operation) (knownCode (byteAt 4 body)) .0 e in
+    let middle = and-eq-true-iff (size && marked) operation .0 (last .0) in
+    let first = and-eq-true-iff size marked .0 (middle .0) in
+    record { size = eqb-true (length body) replyBytes (first .0); marked = eqb-true (byteAt 2 body) mark (first .1); operation = middle .1; code = last .1 }
+
+four : (body : List ℕ) → length body ≡ replyBytes → cleared body ≡ free ∷ byteAt 2 body ∷ operationOf body ∷ byteAt 4 body ∷ []
+four [] h = absurd (omega arith)
+four (x ∷ []) h = absurd (omega arith)
+four (x ∷ m ∷ []) h = absurd (omega arith)
+four (x ∷ m ∷ o ∷ []) h = absurd (omega arith)
+four (x ∷ m ∷ o ∷ k ∷ []) h = refl
+four (x ∷ m ∷ o ∷ k ∷ y ∷ rest) h = absurd (omega arith)
+
+-- a known reply is written again
+pub read-then-written : (r : Reply) (body : List ℕ) → replySaid (ReadReply.Read r) ≡ readReply body → writtenReplyBody r ≡ cleared body
+unfolding operationByte codeByte
+read-then-written r body e =
+    let operation = operationOf body in
+    let code = byteAt 4 body in
+    let read = told (22 when not (replyGood body)) (byteValue operation ∷ byteValue code ∷ []) (operationNumber (r .operation) ∷ codeNumber (r .code) ∷ []) e in
+    let k = known body (not-false (replyGood body) (none-test 22 (not (replyGood body)) (lit< tt) (read .0))) in
+    let value : (n : ℕ) → getD (operationNumber (r .operation) ∷ codeNumber (r .code) ∷ []) n 0 ≡ getD (byteValue operation ∷ byteValue code ∷ []) n 0 = λ (n : ℕ). ap (λ (vs : List ℕ). getD vs n 0) (sym (read .1)) in
+    (λ i. free ∷ sym (k .marked) i ∷ (ap packedByte (value 0) ∙ sym (operation-again operation (k .operation))) i ∷ (ap packedByte (value 1) ∙ sym (code-again code (k .code))) i ∷ []) ∙ sym (four body (k .size))

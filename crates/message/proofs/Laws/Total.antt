@@ -2,16 +2,18 @@
 use mathlib.Core.Path.{_≡_, refl, sym, _∙_}
 use mathlib.Core.Bool.{Bool, true, _&&_, and-true}
 use mathlib.Core.List.{List, [], _∷_}
-use Prim.Native.Nat.{ℕ, _+_, _-_}
+use Prim.Native.Nat.{ℕ, _+_, _-_, _^_, _<_}
 use native.Mathlib.Omega.{arith}
+use borrow.Author.Tests.{lt-ltb}
 use Rattle.packed.specs.Part.{part}
 use Rattle.packed.specs.Every.{every}
 use Rattle.packed.specs.Digits.{areDigits}
 use Rattle.packed.proofs.Laws.Digits.{digits-split}
-use Rattle.codes.specs.Field.{earning, tableGood}
+use Rattle.codes.specs.Field.{earning, tableGood, tableTakes}
 use Rattle.codes.proofs.Laws.Field.{adjoining}
+use Rattle.message.specs.declared.total.Total.{Total}
 use Rattle.message.specs.Layout.{firstPosition, firstField}
-use Rattle.message.specs.Total.{lotTotal, lotTotalFields, sessionTotal, sessionTotalFields, totalFields}
+use Rattle.message.specs.Total.{lotTotal, lotTotalFields, sessionTotal, sessionTotalFields, totalFields, totalValues}
 use Rattle.message.proofs.Laws.Layout.{Whole}
 
 pub lot-whole : Whole lotTotal
@@ -44,3 +46,17 @@ module _ (d n c : ℕ) where
       any-two (areDigits (part (6 + d - 1) n s)) (areDigits (part (6 + d + n - 1) c s))
       ∙ (λ i. areDigits (part (nominal-at i) n s) && areDigits (part (commission-at i) c s))
       ∙ sym (digits-split (5 + d) n c s)
+
+-- numbers that a total can carry, in any widths
+pub in-range : (d n c : ℕ) (t : Total) → t .number < 100 ^ 2 → t .stated .documents .0 < 100 ^ d → t .stated .nominal .0 < 100 ^ n → t .stated .commission .0 < 100 ^ c → tableTakes (totalFields d n c) (totalValues t) ≡ true
+unfolding totalFields tableTakes
+in-range d n c t a b e f = rw (lt-ltb (t .number) (100 ^ 2) a, lt-ltb (t .stated .documents .0) (100 ^ d) b, lt-ltb (t .stated .nominal .0) (100 ^ n) e, lt-ltb (t .stated .commission .0) (100 ^ c) f)
+
+-- the printed tables are that one
+pub lot-widths : totalFields 3 8 6 ≡ lotTotalFields
+unfolding totalFields lotTotalFields
+lot-widths = refl
+
+pub session-widths : totalFields 4 9 7 ≡ sessionTotalFields
+unfolding totalFields sessionTotalFields
+session-widths = refl
