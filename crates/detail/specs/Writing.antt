@@ -1,7 +1,7 @@
 -- 01, 'Trays' and 'Detail': a detail as it is written, from an operation byte and the bytes of whole documents.
 use Prim.Native.Nat.{ℕ, _/_}
 use mathlib.Core.List.{List, _∷_, flatMap}
-use lib.ListN.{length, drop}
+use lib.ListN.{length}
 use Rattle.packed.specs.Pieces.{pieces}
 use Rattle.codes.specs.Body.{free, mark, cleared}
 use Rattle.document.specs.Limits.{documentBytes}

@@ -13,7 +13,7 @@ use Rattle.codes.specs.declared.refusal.Refusal.{Refusal}
 use Rattle.message.specs.declared.envelope.Kind.{Kind}
 use Rattle.message.specs.declared.envelope.Envelope.{Envelope}
 use Rattle.message.specs.declared.envelope.ReadEnvelope.{ReadEnvelope}
-use Rattle.message.specs.Limits.{envelopeBytes, replyBytes, largestSerial}
+use Rattle.message.specs.Limits.{firstPosition, envelopeBytes, replyBytes, largestSerial}
 use Rattle.message.specs.Route.{routeValues}
 use Rattle.message.specs.Reading.{Reading, reading}
 
@@ -21,7 +21,7 @@ abbrev pub kindByte : Kind → ℕ
 kindByte Kind.Message = 0x01
 kindByte Kind.Reply = 0x02
 
--- what may follow an envelope of a kind: a body, or a reply's body
+-- how long envelope and body may be together
 abbrev pub lengthGood : Kind → ℕ → Bool
 lengthGood Kind.Message n = between (envelopeBytes + 1) (envelopeBytes + longestBody) n
 lengthGood Kind.Reply n = eqb n (envelopeBytes + replyBytes)
@@ -36,11 +36,11 @@ envelopeFields =
     ∷ []
 
 unfoldable pub envelopeGood : Kind → List ℕ → Bool
-envelopeGood kind bytes = lengthGood kind (length bytes) && eqb (byteAt 1 bytes) (kindByte kind) && tableGood 1 21 envelopeFields bytes
+envelopeGood kind bytes = lengthGood kind (length bytes) && eqb (byteAt 1 bytes) (kindByte kind) && tableGood firstPosition 21 envelopeFields bytes
 
 -- 21, or the four numbers
 abbrev pub readEnvelope : Kind → List ℕ → Reading
-readEnvelope kind bytes = reading (21 when not (envelopeGood kind bytes)) (tableNumbers 1 envelopeFields bytes)
+readEnvelope kind bytes = reading (21 when not (envelopeGood kind bytes)) (tableNumbers firstPosition envelopeFields bytes)
 
 -- the numbers of an envelope, in the order of the table
 abbrev pub envelopeValues : Envelope → List ℕ
@@ -49,7 +49,7 @@ envelopeValues e = routeValues (e .route) ++ e .serial ∷ []
 -- and an envelope of the numbers that some bytes hold
 abbrev pub envelopeOf : List ℕ → Envelope
 envelopeOf bytes =
-    let v = getD (tableNumbers 1 envelopeFields bytes) in
+    let v = getD (tableNumbers firstPosition envelopeFields bytes) in
     record { route = record { date = v 0 0; presenting = v 1 0; receiving = v 2 0 }; serial = v 3 0 }
 
 -- what the answer of a reading says

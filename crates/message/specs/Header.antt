@@ -1,4 +1,4 @@
--- 01, 'Header'.
+-- 01, 'Header': what opens a lot.
 use Prim.Native.Nat.{ℕ, _/_, _%_}
 use mathlib.Core.Bool.{Bool, _&&_}
 use mathlib.Core.List.{List, [], _∷_, _++_}
@@ -9,7 +9,7 @@ use Rattle.codes.specs.declared.reply.Code.{Code}
 use Rattle.message.specs.declared.route.Route.{Route}
 use Rattle.message.specs.declared.header.Header.{Header}
 use Rattle.message.specs.declared.header.ReadHeader.{ReadHeader}
-use Rattle.message.specs.Limits.{headerBytes, largestNumber}
+use Rattle.message.specs.Limits.{firstPosition, headerBytes, largestNumber}
 use Rattle.message.specs.Reading.{Reading, reading}
 use Rattle.message.specs.Route.{routeValues}
 use Rattle.message.specs.Layout.{Layout}
@@ -36,12 +36,12 @@ orderField = field 17 2 orderNumber
 -- position, bytes, rule; date and entities are those of the direction
 unfoldable pub headerFields : Route → List Field
 headerFields route =
-    timeField
+    timeField  -- 4-7
     ∷ field 8 3 (exactly (route .date))
     ∷ field 11 2 (exactly (route .presenting))
     ∷ field 13 2 (exactly (route .receiving))
-    ∷ centreField
-    ∷ orderField
+    ∷ centreField  -- 15-16
+    ∷ orderField  -- 17-18
     ∷ field 19 1 (exactly 0)
     ∷ []
 
@@ -54,7 +54,7 @@ headerValues route h = h .time ∷ routeValues route ++ h .centre ∷ h .number 
 
 -- and a header of the numbers that a body holds
 abbrev pub headerOf : List ℕ → Header
-headerOf body = record { time = fieldNumber 1 body timeField; centre = fieldNumber 1 body centreField; number = fieldNumber 1 body orderField }
+headerOf body = record { time = fieldNumber firstPosition body timeField; centre = fieldNumber firstPosition body centreField; number = fieldNumber firstPosition body orderField }
 
 -- what the answer of a reading says
 abbrev pub headerSaid : Route → ReadHeader → Reading

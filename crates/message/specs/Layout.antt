@@ -8,6 +8,7 @@ use Rattle.packed.specs.Part.{byteAt}
 use Rattle.codes.specs.Body.{free, mark, operationOf}
 use Rattle.codes.specs.Chain.{_when_, _orelse_}
 use Rattle.codes.specs.Field.{Field, tableGood, tableNumbers, tableWritten}
+use Rattle.message.specs.Limits.{firstPosition}
 use Rattle.message.specs.Reading.{Reading, reading}
 
 pub record Layout : Type 0 where
@@ -15,10 +16,7 @@ pub record Layout : Type 0 where
   pub operation : ℕ
   pub fields : List Field
 
--- the printed position of a body's first byte, and of its first field
-abbrev pub firstPosition : ℕ
-firstPosition = 1
-
+-- the position of a body's first field
 abbrev pub firstField : ℕ
 firstField = 4
 

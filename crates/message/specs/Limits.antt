@@ -1,6 +1,10 @@
 -- 01, 'Layouts': lengths in bytes, and the largest numbers that more than one definition names.
 use Prim.Native.Nat.{ℕ}
 
+-- the position of a first byte
+abbrev pub firstPosition : ℕ
+firstPosition = 1
+
 abbrev pub envelopeBytes : ℕ
 envelopeBytes = 12
 

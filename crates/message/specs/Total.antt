@@ -1,4 +1,4 @@
--- 01, 'Lot total' and 'Session total'.
+-- 01, 'Lot total' and 'Session total': what ends a lot, and what ends a direction.
 use Prim.Native.Nat.{ℕ, _+_}
 use mathlib.Core.List.{List, [], _∷_}
 use lib.ListN.{getD}
@@ -7,7 +7,7 @@ use Rattle.codes.specs.Field.{Field, field, amount, any, tableNumbers}
 use Rattle.codes.specs.Reply.{codeNumber}
 use Rattle.message.specs.declared.total.Total.{Total}
 use Rattle.message.specs.declared.total.ReadTotal.{ReadTotal}
-use Rattle.message.specs.Limits.{lotTotalBytes, sessionTotalBytes}
+use Rattle.message.specs.Limits.{firstPosition, lotTotalBytes, sessionTotalBytes}
 use Rattle.message.specs.Reading.{Reading, reading}
 use Rattle.message.specs.Layout.{Layout}
 use Rattle.message.specs.Content.{lotTotalOperation, sessionTotalOperation}
@@ -48,7 +48,7 @@ totalValues t = t .number ∷ t .stated .documents .0 ∷ t .stated .nominal .0 
 
 -- and a total of the numbers that a body holds by such a table
 abbrev pub totalOf : List Field → List ℕ → Total
-totalOf fields body = let v = getD (tableNumbers 1 fields body) in record { number = v 0 0; stated = totals (v 1 0) (v 2 0) (v 3 0) }
+totalOf fields body = let v = getD (tableNumbers firstPosition fields body) in record { number = v 0 0; stated = totals (v 1 0) (v 2 0) (v 3 0) }
 
 -- what the answer of a reading says
 abbrev pub totalSaid : ReadTotal → Reading

@@ -1,7 +1,7 @@
 -- Laws of a body of one length: which code each outcome of the tests earns, and the round trips.
 use mathlib.Core.Path.{_≡_, refl, ap, sym, _∙_}
 use mathlib.Core.Bool.{Bool, true, false, not, _&&_, _||_, and-eq-true-iff}
-use mathlib.Core.List.{List, [], _∷_, _++_, append-nil}
+use mathlib.Core.List.{List, [], _∷_, append-nil}
 use Prim.Native.Nat.{ℕ, _+_, _-_, _≤_, _<_}
 use native.Mathlib.Omega.{arith}
 use lib.Dec.{eqb, lit<}
@@ -13,10 +13,11 @@ use Rattle.packed.proofs.Laws.Part.{part-tail}
 use Rattle.codes.specs.Body.{free, mark, operationOf, cleared}
 use Rattle.codes.specs.Chain.{_when_, _orelse_}
 use Rattle.codes.specs.Field.{Field, fieldGood, tableGood, tableNumbers, tableTakes, tableWritten}
-use Rattle.codes.proofs.Laws.Chain.{applies, passes, none-test, none-both, last}
+use Rattle.codes.proofs.Laws.Chain.{applies, passes, none-test, none-both}
 use Rattle.codes.proofs.Laws.Table.{Adjoin, forward, written-length, written-then-read as table-written, read-then-written as table-read, rows-of, rows-all}
+use Rattle.message.specs.Limits.{firstPosition}
 use Rattle.message.specs.Reading.{reading}
-use Rattle.message.specs.Layout.{Layout, firstPosition, firstField, shapeGood, bodyCode, readBody, writtenBody}
+use Rattle.message.specs.Layout.{Layout, firstField, shapeGood, bodyCode, readBody, writtenBody}
 use Rattle.message.proofs.Laws.Reading.{said-values, said-number, told}
 
 -- what a good shape tells

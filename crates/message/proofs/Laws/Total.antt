@@ -1,7 +1,7 @@
 -- Laws of the totals: their tests in short.
 use mathlib.Core.Path.{_≡_, refl, sym, _∙_}
 use mathlib.Core.Bool.{Bool, true, _&&_, and-true}
-use mathlib.Core.List.{List, [], _∷_}
+use mathlib.Core.List.{List}
 use Prim.Native.Nat.{ℕ, _+_, _-_, _^_, _<_}
 use native.Mathlib.Omega.{arith}
 use borrow.Author.Tests.{lt-ltb}
@@ -12,7 +12,6 @@ use Rattle.packed.proofs.Laws.Digits.{digits-split}
 use Rattle.codes.specs.Field.{earning, tableGood, tableTakes}
 use Rattle.codes.proofs.Laws.Field.{adjoining}
 use Rattle.message.specs.declared.total.Total.{Total}
-use Rattle.message.specs.Layout.{firstPosition, firstField}
 use Rattle.message.specs.Total.{lotTotal, lotTotalFields, sessionTotal, sessionTotalFields, totalFields, totalValues}
 use Rattle.message.proofs.Laws.Layout.{Whole}
 

@@ -1,7 +1,7 @@
 -- `content_of`: what the operation byte says.
 use mathlib.Core.Path.{ap, _∙_}
-use Rattle.message.specs.Content.{byOperation}
 use borrow.Author.Needs.{needs}
+use Rattle.message.specs.Content.{byOperation}
 use Rattle.message.proofs.content.content_of.Statement.{statement}
 use Rattle.message.proofs.content.content_of.Tie as tie
 

@@ -1,9 +1,6 @@
 -- `fields_of` reads the rows of the table.
-use mathlib.Core.Path.{ap}
-use mathlib.Core.List.{List, [], _∷_, _++_}
-use Prim.Native.Nat.{ℕ}
-use Rattle.message.specs.Envelope.{envelopeFields}
 use borrow.Author.Needs.{needs}
+use Rattle.message.specs.Envelope.{envelopeFields}
 use Rattle.message.proofs.envelope.fields_of.Statement.{statement}
 use Rattle.message.proofs.envelope.fields_of.Tie as tie
 

@@ -1,9 +1,8 @@
 -- `length_good`: each kind has its own lengths.
 use mathlib.Core.Path.{ap, sym}
-use Rattle.message.specs.Envelope.{lengthGood}
-use Rattle.message.specs.declared.envelope.Kind.{Kind}
-use Prim.Native.Nat.{ℕ}
 use borrow.Author.Needs.{needs}
+use Rattle.message.specs.declared.envelope.Kind.{Kind}
+use Rattle.message.specs.Envelope.{lengthGood}
 use Rattle.message.proofs.envelope.length_good.Statement.{statement}
 use Rattle.message.proofs.envelope.length_good.Tie as tie
 

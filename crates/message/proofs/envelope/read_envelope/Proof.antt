@@ -10,9 +10,9 @@ use lib.ListN.{length}
 use Rattle.packed.specs.Part.{byteAt}
 use Rattle.codes.specs.Chain.{_when_}
 use Rattle.codes.specs.Field.{between, tableNumbers}
+use Rattle.message.specs.Limits.{envelopeBytes, largestSerial}
 use Rattle.message.specs.declared.envelope.Kind.{Kind}
 use Rattle.message.specs.declared.envelope.Envelope.{Envelope}
-use Rattle.message.specs.Limits.{envelopeBytes, largestSerial}
 use Rattle.message.specs.Reading.{reading}
 use Rattle.message.specs.Envelope.{lengthGood, envelopeFields, envelopeValues, envelopeGood, readEnvelope}
 use Rattle.message.proofs.Laws.Reading.{said-values, said-number}

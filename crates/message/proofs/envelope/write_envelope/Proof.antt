@@ -1,15 +1,15 @@
 -- `write_envelope`: a store and two runs, one behind the other.
 use mathlib.Core.Path.{ap, _∙_}
-use mathlib.Core.List.{List, _∷_}
+use mathlib.Core.List.{List}
 use Prim.Native.Nat.{ℕ}
 use native.Mathlib.Omega.{arith}
+use borrow.Author.Needs.{needs}
 use lib.ListN.{set, length-set}
 use lib.Seq.{sets}
 use Rattle.packed.specs.Writing.{packedBytes}
 use Rattle.codes.specs.Field.{tableWritten}
 use Rattle.message.specs.Route.{writtenRoute}
 use Rattle.message.specs.Envelope.{envelopeFields}
-use borrow.Author.Needs.{needs}
 use Rattle.message.proofs.envelope.write_envelope.Statement.{statement}
 use Rattle.message.proofs.envelope.write_envelope.Tie as tie
 

@@ -1,9 +1,9 @@
 -- `sendable` tests time, centre and number.
-use lib.Dec.{leb}
 use mathlib.Core.Bool.{_&&_}
+use borrow.Author.Needs.{needs}
+use lib.Dec.{leb}
 use Rattle.message.specs.Limits.{largestNumber}
 use Rattle.message.specs.Header.{sendable}
-use borrow.Author.Needs.{needs}
 use Rattle.message.proofs.header.sendable.Statement.{statement}
 use Rattle.message.proofs.header.sendable.Tie as tie
 

@@ -2,12 +2,12 @@
 use mathlib.Core.Path.{ap, _∙_}
 use mathlib.Core.List.{List}
 use Prim.Native.Nat.{ℕ}
+use borrow.Author.Needs.{needs}
 use lib.Seq.{sets}
 use Rattle.packed.specs.Writing.{packedBytes}
 use Rattle.codes.specs.Field.{tableWritten}
 use Rattle.message.specs.Route.{writtenRoute}
 use Rattle.message.specs.Header.{headerFields}
-use borrow.Author.Needs.{needs}
 use Rattle.message.proofs.header.write_header.Statement.{statement}
 use Rattle.message.proofs.header.write_header.Tie as tie
 

@@ -1,9 +1,8 @@
 -- `shape_good`: another length has no shape; else two bytes decide.
-use mathlib.Core.Bool.{_&&_}
 use borrow.Author.Tests.{eq-eqb, ne-eqb}
+use borrow.Author.Needs.{needs}
 use lib.ListN.{length}
 use Rattle.message.specs.Layout.{shapeGood}
-use borrow.Author.Needs.{needs}
 use Rattle.message.proofs.layout.shape_good.Statement.{statement}
 use Rattle.message.proofs.layout.shape_good.Tie as tie
 

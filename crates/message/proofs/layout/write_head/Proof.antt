@@ -1,7 +1,7 @@
 -- `write_head`: three stores from the start on.
-use lib.ListN.{length-set}
 use native.Mathlib.Omega.{arith}
 use borrow.Author.Needs.{needs}
+use lib.ListN.{length-set}
 use Rattle.message.proofs.layout.write_head.Statement.{statement}
 use Rattle.message.proofs.layout.write_head.Tie as tie
 

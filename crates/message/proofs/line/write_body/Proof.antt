@@ -1,10 +1,10 @@
 -- `write_body`: each body has its writer.
 use mathlib.Core.Path.{_≡_, ap, sym, _∙_}
 use Prim.Native.Nat.{ℕ, _≤_}
+use borrow.Author.Needs.{needs}
 use lib.Seq.{sets}
 use Rattle.message.specs.declared.line.Body.{Body}
 use Rattle.message.specs.Line.{bodyBytes, bodyLength}
-use borrow.Author.Needs.{needs}
 use Rattle.message.proofs.line.write_body.Statement.{statement}
 use Rattle.message.proofs.line.write_body.Tie as tie
 

@@ -1,13 +1,13 @@
 -- `write_reply` lends the tail behind the envelope.
 use mathlib.Core.Path.{refl}
+use borrow.Author.Needs.{needs}
 use Rattle.packed.specs.Writing.{packedBytes}
 use Rattle.codes.specs.Field.{tableWritten}
-use Rattle.message.specs.declared.envelope.Kind.{Kind}
 use Rattle.message.specs.Limits.{envelopeBytes}
+use Rattle.message.specs.declared.envelope.Kind.{Kind}
 use Rattle.message.specs.Envelope.{envelopeFields, writtenEnvelope}
 use Rattle.message.specs.Reply.{writtenReplyBody}
 use Rattle.message.proofs.Laws.Line.{both-written}
-use borrow.Author.Needs.{needs}
 use Rattle.message.proofs.line.write_reply.Statement.{statement}
 use Rattle.message.proofs.line.write_reply.Tie as tie
 

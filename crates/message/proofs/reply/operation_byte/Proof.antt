@@ -1,8 +1,8 @@
 -- `operation_byte`: the number, packed.
 use mathlib.Core.Path.{ap, _∙_}
+use borrow.Author.Needs.{needs}
 use Rattle.packed.specs.Writing.{packedByte}
 use Rattle.message.specs.Reply.{operationByte}
-use borrow.Author.Needs.{needs}
 use Rattle.message.proofs.reply.operation_byte.Statement.{statement}
 use Rattle.message.proofs.reply.operation_byte.Tie as tie
 

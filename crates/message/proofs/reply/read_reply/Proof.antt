@@ -1,13 +1,13 @@
 -- `read_reply`: length, mark, code, and at last the operation.
 use mathlib.Core.Path.{sym, _∙_}
-use lib.ListN.{length}
 use borrow.Author.Tests.{eq-eqb, ne-eqb}
+use borrow.Author.Needs.{needs}
+use lib.ListN.{length}
 use Rattle.packed.specs.Part.{byteAt}
 use Rattle.codes.specs.Body.{mark}
 use Rattle.message.specs.Limits.{replyBytes}
 use Rattle.message.specs.Reply.{replyGood}
 use Rattle.message.proofs.Laws.Reply.{refused, code-unknown, code-known}
-use borrow.Author.Needs.{needs}
 use Rattle.message.proofs.reply.read_reply.Statement.{statement}
 use Rattle.message.proofs.reply.read_reply.Tie as tie
 

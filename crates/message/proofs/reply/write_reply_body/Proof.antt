@@ -1,11 +1,11 @@
 -- `write_reply_body`: four stores.
 use mathlib.Core.Path.{ap, _∙_}
-use mathlib.Core.List.{List, [], _∷_}
+use mathlib.Core.List.{[], _∷_}
 use Prim.Native.Nat.{ℕ}
-use lib.ListN.{set}
-use Rattle.codes.specs.Body.{free, mark}
-use lib.Seq.{sets}
 use borrow.Author.Needs.{needs}
+use lib.ListN.{set}
+use lib.Seq.{sets}
+use Rattle.codes.specs.Body.{free, mark}
 use Rattle.message.proofs.reply.write_reply_body.Statement.{statement}
 use Rattle.message.proofs.reply.write_reply_body.Tie as tie
 

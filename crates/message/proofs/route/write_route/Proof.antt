@@ -2,9 +2,9 @@
 use mathlib.Core.Path.{refl, _∙_}
 use mathlib.Core.List.{_++_}
 use Prim.Native.Nat.{_+_}
+use borrow.Author.Needs.{needs}
 use Rattle.packed.specs.Writing.{packedBytes}
 use Rattle.packed.proofs.Laws.Writing.{sets-behind}
-use borrow.Author.Needs.{needs}
 use Rattle.message.proofs.route.write_route.Statement.{statement}
 use Rattle.message.proofs.route.write_route.Tie as tie
 

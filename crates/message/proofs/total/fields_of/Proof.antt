@@ -1,12 +1,12 @@
 -- `fields_of` reads the rows of the table; what is printed as a position is a place one less.
 use mathlib.Core.Path.{ap, sym, _∙_}
 use Prim.Native.Nat.{ℕ}
+use borrow.Author.Needs.{needs}
 use Rattle.packed.specs.Part.{part}
 use Rattle.packed.specs.Number.{number}
 use Rattle.amounts.specs.Totals.{totals}
 use Rattle.message.specs.Total.{totalFields}
 use Rattle.message.proofs.Laws.Total.{nominal-at, commission-at}
-use borrow.Author.Needs.{needs}
 use Rattle.message.proofs.total.fields_of.Statement.{statement}
 use Rattle.message.proofs.total.fields_of.Tie as tie
 

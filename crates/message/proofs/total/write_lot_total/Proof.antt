@@ -1,6 +1,6 @@
 -- `write_lot_total`: the printed table is that of these widths.
-use Rattle.message.specs.Total.{totalFields, lotTotalFields}
 use borrow.Author.Needs.{needs}
+use Rattle.message.specs.Total.{totalFields, lotTotalFields}
 use Rattle.message.proofs.total.write_lot_total.Statement.{statement}
 use Rattle.message.proofs.total.write_lot_total.Tie as tie
 
