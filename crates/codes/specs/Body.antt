@@ -12,7 +12,7 @@ free = 0x00
 abbrev pub mark : ℕ
 mark = 0x51
 
--- byte 3, which alone says what a body is
+-- byte 3, of a body and of a group; 0 where there is none
 abbrev pub operationOf : List ℕ → ℕ
 operationOf body = byteAt 3 body
 

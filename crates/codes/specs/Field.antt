@@ -86,7 +86,7 @@ tableTakes [] (v ∷ vs) = false
 tableTakes (f ∷ fs) [] = false
 tableTakes (f ∷ fs) (v ∷ vs) = ltb v (100 ^ f .width) && f .rule v && tableTakes fs vs
 
--- numbers as they are written, one behind the other in the widths of the rows
+-- numbers as they are written, one after the other in the widths of the rows, which is their place where the rows adjoin
 unfoldable pub tableWritten : List Field → List ℕ → List ℕ
 tableWritten [] vs = []
 tableWritten (f ∷ fs) [] = []

@@ -1,4 +1,4 @@
--- The paper's numbers, its way of choosing among them, and its tables of fields with the code of a fault in each.
+-- The paper's numbers, its way of choosing among them, what every body begins with, and tables of fields with the code of a fault in each.
 pub mod Numbered
 pub mod Reply
 pub mod Refusal

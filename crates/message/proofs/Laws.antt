@@ -3,7 +3,9 @@ pub mod Reading
 pub mod Route
 pub mod Layout
 pub mod Envelope
+pub mod Content
 pub mod Header
 pub mod Total
 pub mod Reply
+pub mod Buffer
 pub mod Line

@@ -1,4 +1,4 @@
--- 01, 'Layouts': byte 3 alone says what a body is.
+-- 01, 'Layouts': what a body is, which nothing but its operation byte decides.
 use Prim.Native.Nat.{ℕ}
 use mathlib.Core.Bool.{cond}
 use mathlib.Core.List.{List}
@@ -7,7 +7,7 @@ use Rattle.codes.specs.Body.{operationOf}
 use Rattle.document.specs.Operation.{isOperation}
 use Rattle.message.specs.declared.content.Content.{Content}
 
--- the operation bytes of the bodies of one length
+-- the operation bytes of the bodies of a fixed length
 abbrev pub headerOperation : ℕ
 headerOperation = 0x01
 

@@ -3,18 +3,18 @@ use Prim.Native.Nat.{ℕ, _+_}
 use mathlib.Core.Bool.{Bool, not, _&&_}
 use mathlib.Core.List.{List, [], _∷_, _++_}
 use lib.Dec.{eqb}
-use lib.ListN.{length, drop, getD}
+use lib.ListN.{length, drop}
 use Rattle.packed.specs.Part.{byteAt}
 use Rattle.codes.specs.Body.{longestBody}
 use Rattle.codes.specs.Chain.{_when_}
-use Rattle.codes.specs.Field.{Field, row, any, between, tableGood, tableNumbers, tableWritten}
+use Rattle.codes.specs.Field.{Field, row, any, between, fieldNumber, tableGood, tableNumbers, tableWritten}
 use Rattle.codes.specs.Refusal.{refusalNumber}
 use Rattle.codes.specs.declared.refusal.Refusal.{Refusal}
 use Rattle.message.specs.declared.envelope.Kind.{Kind}
 use Rattle.message.specs.declared.envelope.Envelope.{Envelope}
 use Rattle.message.specs.declared.envelope.ReadEnvelope.{ReadEnvelope}
 use Rattle.message.specs.Limits.{firstPosition, envelopeBytes, replyBytes, largestSerial}
-use Rattle.message.specs.Route.{routeValues}
+use Rattle.message.specs.Route.{routeValues, routeAt}
 use Rattle.message.specs.Reading.{Reading, reading}
 
 abbrev pub kindByte : Kind → ℕ
@@ -26,17 +26,24 @@ abbrev pub lengthGood : Kind → ℕ → Bool
 lengthGood Kind.Message n = between (envelopeBytes + 1) (envelopeBytes + longestBody) n
 lengthGood Kind.Reply n = eqb n (envelopeBytes + replyBytes)
 
--- behind the kind: position, bytes, rule; a fault in any is 21
+-- a field whose fault is 21
+abbrev pub envelopeField : (position width : ℕ) → (ℕ → Bool) → Field
+envelopeField p w rule = row (refusalNumber Refusal.WrongEnvelope) p w rule
+
+abbrev pub serialField : Field
+serialField = envelopeField 9 4 (between 1 largestSerial)
+
+-- after the kind: position, bytes, rule
 unfoldable pub envelopeFields : List Field
 envelopeFields =
-    row 21 2 3 any  -- date
-    ∷ row 21 5 2 any  -- presenting entity
-    ∷ row 21 7 2 any  -- receiving entity
-    ∷ row 21 9 4 (between 1 largestSerial)
+    envelopeField 2 3 any  -- date
+    ∷ envelopeField 5 2 any  -- presenting entity
+    ∷ envelopeField 7 2 any  -- receiving entity
+    ∷ serialField  -- 9-12
     ∷ []
 
 unfoldable pub envelopeGood : Kind → List ℕ → Bool
-envelopeGood kind bytes = lengthGood kind (length bytes) && eqb (byteAt 1 bytes) (kindByte kind) && tableGood firstPosition 21 envelopeFields bytes
+envelopeGood kind bytes = lengthGood kind (length bytes) && eqb (byteAt 1 bytes) (kindByte kind) && tableGood firstPosition (refusalNumber Refusal.WrongEnvelope) envelopeFields bytes
 
 -- 21, or the four numbers
 abbrev pub readEnvelope : Kind → List ℕ → Reading
@@ -46,11 +53,9 @@ readEnvelope kind bytes = reading (21 when not (envelopeGood kind bytes)) (table
 abbrev pub envelopeValues : Envelope → List ℕ
 envelopeValues e = routeValues (e .route) ++ e .serial ∷ []
 
--- and an envelope of the numbers that some bytes hold
+-- and an envelope of the numbers that some bytes hold, the route from byte 2 on
 abbrev pub envelopeOf : List ℕ → Envelope
-envelopeOf bytes =
-    let v = getD (tableNumbers firstPosition envelopeFields bytes) in
-    record { route = record { date = v 0 0; presenting = v 1 0; receiving = v 2 0 }; serial = v 3 0 }
+envelopeOf bytes = record { route = routeAt 1 bytes; serial = fieldNumber firstPosition bytes serialField }
 
 -- what the answer of a reading says
 abbrev pub envelopeSaid : ReadEnvelope → Reading
@@ -60,6 +65,6 @@ envelopeSaid ReadEnvelope.Wrong = reading (refusalNumber Refusal.WrongEnvelope) 
 abbrev pub writtenEnvelope : Kind → Envelope → List ℕ
 writtenEnvelope kind e = kindByte kind ∷ tableWritten envelopeFields (envelopeValues e)
 
--- what stands behind an envelope
+-- what follows an envelope
 abbrev pub bodyOf : List ℕ → List ℕ
 bodyOf bytes = drop envelopeBytes bytes

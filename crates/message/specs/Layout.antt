@@ -1,4 +1,4 @@
--- 01, 'Layouts': a body of one length and one operation, with its fields from position 4 on.
+-- 01, 'Layouts': a body of a fixed length and one operation, with its fields from position 4 on.
 use Prim.Native.Nat.{ℕ}
 use mathlib.Core.Bool.{Bool, not, _&&_}
 use mathlib.Core.List.{List, _∷_}
@@ -8,6 +8,8 @@ use Rattle.packed.specs.Part.{byteAt}
 use Rattle.codes.specs.Body.{free, mark, operationOf}
 use Rattle.codes.specs.Chain.{_when_, _orelse_}
 use Rattle.codes.specs.Field.{Field, tableGood, tableNumbers, tableWritten}
+use Rattle.codes.specs.Reply.{codeNumber}
+use Rattle.codes.specs.declared.reply.Code.{Code}
 use Rattle.message.specs.Limits.{firstPosition}
 use Rattle.message.specs.Reading.{Reading, reading}
 
@@ -15,10 +17,6 @@ pub record Layout : Type 0 where
   pub bytes : ℕ
   pub operation : ℕ
   pub fields : List Field
-
--- the position of a body's first field
-abbrev pub firstField : ℕ
-firstField = 4
 
 -- length, mark and operation
 unfoldable pub shapeGood : (bytes operation : ℕ) → List ℕ → Bool
@@ -28,8 +26,8 @@ shapeGood bytes operation body = eqb (length body) bytes && eqb (byteAt 2 body) 
 unfoldable pub bodyCode : Layout → List ℕ → ℕ
 bodyCode layout body =
     1 when not (shapeGood (layout .bytes) (layout .operation) body)
-    orelse 1 when not (tableGood firstPosition 1 (layout .fields) body)
-    orelse 3 when not (tableGood firstPosition 3 (layout .fields) body)
+    orelse 1 when not (tableGood firstPosition (codeNumber Code.WrongField) (layout .fields) body)
+    orelse 3 when not (tableGood firstPosition (codeNumber Code.WrongAmount) (layout .fields) body)
 
 -- the code, and where it accepts the numbers of the fields
 abbrev pub readBody : Layout → List ℕ → Reading

@@ -29,10 +29,10 @@ unfoldable pub bodyBytes : Route → Body → List ℕ
 bodyBytes route x = writtenBody (layoutOf route x) (valuesOf route x)
 
 -- what it is
-abbrev pub whatIs : Body → Content
-whatIs (Body.Header h) = Content.Header
-whatIs (Body.LotTotal t) = Content.LotTotal
-whatIs (Body.SessionTotal t) = Content.SessionTotal
+abbrev pub bodyContent : Body → Content
+bodyContent (Body.Header h) = Content.Header
+bodyContent (Body.LotTotal t) = Content.LotTotal
+bodyContent (Body.SessionTotal t) = Content.SessionTotal
 
 -- how many bytes it takes
 abbrev pub bodyLength : Body → ℕ
@@ -40,7 +40,7 @@ bodyLength (Body.Header h) = headerBytes
 bodyLength (Body.LotTotal t) = lotTotalBytes
 bodyLength (Body.SessionTotal t) = sessionTotalBytes
 
--- a body behind its envelope
+-- an envelope, and a body after it
 abbrev pub message : Envelope → (body : List ℕ) → List ℕ
 message e body = writtenEnvelope Kind.Message e ++ body
 

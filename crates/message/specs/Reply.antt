@@ -28,7 +28,7 @@ operationNumber Operation.SessionTotal = 97
 unfoldable pub operationByte : Operation → ℕ
 operationByte o = packedByte (operationNumber o)
 
--- the operation of the reply to a body
+-- the operation of the reply to a body, by what the body is
 abbrev pub replyOperation : Content → Operation
 replyOperation Content.Header = Operation.Other
 replyOperation Content.Detail = Operation.Other
@@ -39,6 +39,7 @@ replyOperation Content.Unknown = Operation.Other
 abbrev pub knownOperation : ℕ → Bool
 knownOperation b = eqb b (operationByte Operation.Other) || eqb b (operationByte Operation.LotTotal) || eqb b (operationByte Operation.SessionTotal)
 
+-- no other length can follow a good envelope of a reply
 unfoldable pub replyGood : List ℕ → Bool
 replyGood body =
     eqb (length body) replyBytes && eqb (byteAt 2 body) mark && knownOperation (operationOf body) && knownCode (byteAt 4 body)

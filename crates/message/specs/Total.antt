@@ -35,7 +35,7 @@ lotTotal = record { bytes = lotTotalBytes; operation = lotTotalOperation; fields
 abbrev pub sessionTotal : Layout
 sessionTotal = record { bytes = sessionTotalBytes; operation = sessionTotalOperation; fields = sessionTotalFields }
 
--- both are this one, in widths of their own for documents, nominal and commission
+-- both are this one, in widths of their own for documents, nominal and commission: what the functions that serve both are held to
 unfoldable pub totalFields : (documents nominal commission : ℕ) → List Field
 totalFields d n c = field 4 2 any ∷ field 6 d any ∷ amount (6 + d) n ∷ amount (6 + d + n) c ∷ []
 

@@ -5,12 +5,14 @@ use document::RETURNED;
 ghost use mathlib.Core.Path.{_≡_};
 ghost use Rattle.message.specs.Content.{byOperation, contentOf};
 
+// The operation bytes of the bodies of a fixed length.
 pub const HEADER: u8 = 0x01;
 
 pub const LOT_TOTAL: u8 = 0x80;
 
 pub const SESSION_TOTAL: u8 = 0x90;
 
+// What a body is. Unknown bodies earn 01.
 pub enum Content {
     Header,
     Detail,

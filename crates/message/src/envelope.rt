@@ -18,7 +18,15 @@ pub const ENVELOPE_BYTES: usize = 12;
 
 pub const LARGEST_SERIAL: u32 = 99_999_999;
 
-// What an envelope is before.
+// Where route and serial stand.
+const ROUTE: usize = 1;
+
+const SERIAL: usize = 8;
+
+// All bytes but the kind.
+const DIGITS: usize = ENVELOPE_BYTES - ROUTE;
+
+// What follows an envelope.
 pub enum Kind {
     Message,
     Reply,
@@ -29,6 +37,7 @@ pub struct Envelope {
     pub serial: u32,
 }
 
+// An envelope, or 21.
 pub enum ReadEnvelope {
     Read(Envelope),
     Wrong,
@@ -59,8 +68,8 @@ fn fields_of(bytes: &[u8]) -> Envelope
     ensures { λ r. ⌜ r ≡ envelopeOf (now (bytes .entry)) ⌝ }
 {
     Envelope {
-        route: read_route(bytes, 1),
-        serial: number4(bytes, 8),
+        route: read_route(bytes, ROUTE),
+        serial: number4(bytes, SERIAL),
     }
 }
 
@@ -71,7 +80,7 @@ pub fn read_envelope(bytes: &[u8], kind: Kind) -> ReadEnvelope
     if length_good(kind, bytes.len()) {
         let e = fields_of(bytes);
         if (bytes[0] == kind_byte(kind))
-            & are_digits(bytes, 1, 11)
+            & are_digits(bytes, ROUTE, DIGITS)
             & ((1 <= e.serial) & (e.serial <= LARGEST_SERIAL))
         {
             return ReadEnvelope::Read(e);
@@ -87,6 +96,6 @@ pub fn write_envelope(line: &mut [u8], kind: Kind, e: Envelope)
 {
     let route = e.route;
     line[0] = kind_byte(kind);
-    write_route(line, 1, route);
-    put(line, 8, 4, e.serial as u64);
+    write_route(line, ROUTE, route);
+    put(line, SERIAL, 4, e.serial as u64);
 }

@@ -1,5 +1,6 @@
 // The header, which opens a lot.
 use crate::content::HEADER;
+use crate::layout::FIELDS;
 use crate::layout::shape_good;
 use crate::layout::write_head;
 use crate::route::Route;
@@ -21,6 +22,18 @@ ghost use Rattle.message.specs.Header.{timeOfDay, orderNumber, header, h
 
 pub const HEADER_BYTES: usize = 19;
 
+// Where the fields stand after the time, which is the first.
+const ROUTE: usize = 7;
+
+const CENTRE: usize = 14;
+
+const NUMBER: usize = 16;
+
+const ZERO: usize = 18;
+
+// The bytes of all fields.
+const DIGITS: usize = HEADER_BYTES - FIELDS;
+
 // The largest order number, and the largest centre.
 pub const LARGEST_NUMBER: u16 = 9999;
 
@@ -31,6 +44,7 @@ pub struct Header {
     pub number: u16,
 }
 
+// A header, or 01.
 pub enum ReadHeader {
     Read(Header),
     Wrong,
@@ -61,9 +75,9 @@ fn fields_of(body: &[u8]) -> Header
     ensures { λ r. ⌜ r ≡ headerOf (now (body .entry)) ⌝ }
 {
     Header {
-        time: number4(body, 3),
-        centre: number2(body, 14),
-        number: number2(body, 16),
+        time: number4(body, FIELDS),
+        centre: number2(body, CENTRE),
+        number: number2(body, NUMBER),
     }
 }
 
@@ -73,11 +87,11 @@ pub fn read_header(body: &[u8], route: Route) -> ReadHeader
 {
     if shape_good(body, HEADER_BYTES, HEADER) {
         let h = fields_of(body);
-        if are_digits(body, 3, 16)
+        if are_digits(body, FIELDS, DIGITS)
             & time_of_day(h.time)
-            & same_route(read_route(body, 7), route)
+            & same_route(read_route(body, ROUTE), route)
             & order_number(h.number)
-            & (number(body, 18, 1) == 0)
+            & (number(body, ZERO, 1) == 0)
         {
             return ReadHeader::Read(h);
         }
@@ -91,9 +105,9 @@ pub fn write_header(out: &mut [u8], route: Route, h: Header)
     ensures { λ _. ⌜ now (out .exit) ≡ sets (now (out .entry)) 0 (writtenBody (header route) (headerValues route h)) ⌝ }
 {
     write_head(out, HEADER);
-    put(out, 3, 4, h.time as u64);
-    write_route(out, 7, route);
-    put(out, 14, 2, h.centre as u64);
-    put(out, 16, 2, h.number as u64);
-    put(out, 18, 1, 0);
+    put(out, FIELDS, 4, h.time as u64);
+    write_route(out, ROUTE, route);
+    put(out, CENTRE, 2, h.centre as u64);
+    put(out, NUMBER, 2, h.number as u64);
+    put(out, ZERO, 1, 0);
 }

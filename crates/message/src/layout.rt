@@ -1,4 +1,4 @@
-// What the bodies of one length have in common: a length, the mark and an operation, before the fields.
+// What the bodies of a fixed length have in common: that length, the mark and an operation, before the fields.
 use codes::body::MARK;
 ghost use mathlib.Core.Path.{_≡_};
 ghost use mathlib.Core.List.{_∷_, []};

@@ -34,6 +34,7 @@ pub struct Reply {
     pub code: Code,
 }
 
+// A reply, or 22.
 pub enum ReadReply {
     Read(Reply),
     Unknown,

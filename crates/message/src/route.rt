@@ -16,7 +16,7 @@ pub struct Route {
     pub receiving: u16,
 }
 
-// Whether two are one.
+// Whether two routes are the same.
 pub fn same_route(r: Route, s: Route) -> bool
     ensures { λ b. ⌜ b ≡ sameRoute r s ⌝ }
 {

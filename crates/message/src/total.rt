@@ -28,12 +28,27 @@ pub const SESSION_TOTAL_BYTES: usize = 25;
 // Where the documents stand.
 const DOCUMENTS: usize = 5;
 
+// The bytes of documents, nominal and commission in a lot total.
+const LOT_DOCUMENTS: usize = 3;
+
+const LOT_NOMINAL: usize = 8;
+
+const LOT_COMMISSION: usize = 6;
+
+// And in a session total.
+const SESSION_DOCUMENTS: usize = 4;
+
+const SESSION_NOMINAL: usize = 9;
+
+const SESSION_COMMISSION: usize = 7;
+
 // What a total states. The number is a lot's order number, or how many lots a session total counts.
 pub struct Total {
     pub number: u16,
     pub stated: Totals,
 }
 
+// A total, or its code, 01 or 03.
 pub enum ReadTotal {
     Read(Total),
     Wrong(Code),
@@ -87,13 +102,19 @@ fn read_total(
 pub fn read_lot_total(body: &[u8]) -> ReadTotal
     ensures { λ r. ⌜ totalSaid r ≡ readBody lotTotal (now (body .entry)) ⌝ }
 {
-    read_total(body, LOT_TOTAL, 3, 8, 6)
+    read_total(body, LOT_TOTAL, LOT_DOCUMENTS, LOT_NOMINAL, LOT_COMMISSION)
 }
 
 pub fn read_session_total(body: &[u8]) -> ReadTotal
     ensures { λ r. ⌜ totalSaid r ≡ readBody sessionTotal (now (body .entry)) ⌝ }
 {
-    read_total(body, SESSION_TOTAL, 4, 9, 7)
+    read_total(
+        body,
+        SESSION_TOTAL,
+        SESSION_DOCUMENTS,
+        SESSION_NOMINAL,
+        SESSION_COMMISSION,
+    )
 }
 
 // Writes a total's body at the start of `out`; every other byte keeps its value.
@@ -121,12 +142,26 @@ pub fn write_lot_total(out: &mut [u8], t: Total)
     requires { ⌜ lotTotalBytes ≤ length (now out) ⌝ }
     ensures { λ _. ⌜ now (out .exit) ≡ sets (now (out .entry)) 0 (writtenBody lotTotal (totalValues t)) ⌝ }
 {
-    write_total(out, LOT_TOTAL, 3, 8, 6, t);
+    write_total(
+        out,
+        LOT_TOTAL,
+        LOT_DOCUMENTS,
+        LOT_NOMINAL,
+        LOT_COMMISSION,
+        t,
+    );
 }
 
 pub fn write_session_total(out: &mut [u8], t: Total)
     requires { ⌜ sessionTotalBytes ≤ length (now out) ⌝ }
     ensures { λ _. ⌜ now (out .exit) ≡ sets (now (out .entry)) 0 (writtenBody sessionTotal (totalValues t)) ⌝ }
 {
-    write_total(out, SESSION_TOTAL, 4, 9, 7, t);
+    write_total(
+        out,
+        SESSION_TOTAL,
+        SESSION_DOCUMENTS,
+        SESSION_NOMINAL,
+        SESSION_COMMISSION,
+        t,
+    );
 }

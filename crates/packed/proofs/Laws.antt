@@ -2,6 +2,7 @@
 pub mod Part
 pub mod Pieces
 pub mod FlatMap
+pub mod Told
 pub mod Every
 pub mod Digits
 pub mod Number

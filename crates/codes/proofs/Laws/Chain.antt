@@ -29,6 +29,11 @@ unfolding _when_
 none-test n true h e = absurd (omega arith)
 none-test n false h e = refl
 
+pub given-test : (n : ℕ) (test : Bool) → 0 < n → (n when test) ≡ n → test ≡ true
+unfolding _when_
+given-test n true h e = refl
+given-test n false h e = absurd (omega arith)
+
 pub none-both : (a rest : ℕ) → (a orelse rest) ≡ 0 → (a ≡ 0) × (rest ≡ 0)
 unfolding _orelse_
 none-both zero rest e = (refl, e)

@@ -14,6 +14,7 @@ use Rattle.packed.specs.Digits.{areDigits}
 use Rattle.packed.specs.Number.{number}
 use Rattle.packed.specs.Writing.{packedBytes}
 use Rattle.packed.proofs.Laws.Part.{part-split}
+use Rattle.packed.proofs.Laws.Told.{three}
 use Rattle.packed.proofs.Laws.Every.{every-cons}
 use Rattle.packed.proofs.Laws.Writing.{packed-length, packed-digits, written-then-read as packed-then-read, read-then-put}
 use Rattle.codes.specs.Field.{Field, fieldDigits, fieldValue, fieldGood, earning, tableNumbers, tableTakes, tableWritten}
@@ -42,10 +43,8 @@ forward from to (f ∷ fs) h = omega (arith, forward (from + f .width) to fs (fi
 taken : (f : Field) (fs : List Field) (v : ℕ) (vs : List ℕ) → tableTakes (f ∷ fs) (v ∷ vs) ≡ true → (v < 100 ^ f .width) × (f .rule v ≡ true) × (tableTakes fs vs ≡ true)
 unfolding tableTakes
 taken f fs v vs e =
-    let short = ltb v (100 ^ f .width) in
-    let all = and-eq-true-iff (short && f .rule v) (tableTakes fs vs) .0 e in
-    let both = and-eq-true-iff short (f .rule v) .0 (all .0) in
-    (ltb-true v (100 ^ f .width) (both .0), both .1, all .1)
+    let all = three (ltb v (100 ^ f .width)) (f .rule v) (tableTakes fs vs) e in
+    (ltb-true v (100 ^ f .width) (all .0), all .1, all .2)
 
 -- they are as many bytes as there are positions
 pub written-length : (from to : ℕ) (fields : List Field) (vs : List ℕ) → Adjoin from to fields → tableTakes fields vs ≡ true → length (tableWritten fields vs) ≡ to - from

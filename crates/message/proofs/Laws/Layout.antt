@@ -1,6 +1,6 @@
--- Laws of a body of one length: which code each outcome of the tests earns, and the round trips.
+-- Laws of a body of a fixed length: which code each outcome of the tests earns, and the round trips.
 use mathlib.Core.Path.{_≡_, refl, ap, sym, _∙_}
-use mathlib.Core.Bool.{Bool, true, false, not, _&&_, _||_, and-eq-true-iff}
+use mathlib.Core.Bool.{Bool, true, false, not, _||_}
 use mathlib.Core.List.{List, [], _∷_, append-nil}
 use Prim.Native.Nat.{ℕ, _+_, _-_, _≤_, _<_}
 use native.Mathlib.Omega.{arith}
@@ -9,6 +9,7 @@ use lib.ListN.{length, drop}
 use borrow.Author.Tests.{eqb-true, eq-eqb, not-false}
 use Rattle.packed.specs.Part.{byteAt, part}
 use Rattle.packed.specs.Every.{every}
+use Rattle.packed.proofs.Laws.Told.{three}
 use Rattle.packed.proofs.Laws.Part.{part-tail}
 use Rattle.codes.specs.Body.{free, mark, operationOf, cleared}
 use Rattle.codes.specs.Chain.{_when_, _orelse_}
@@ -17,7 +18,7 @@ use Rattle.codes.proofs.Laws.Chain.{applies, passes, none-test, none-both}
 use Rattle.codes.proofs.Laws.Table.{Adjoin, forward, written-length, written-then-read as table-written, read-then-written as table-read, rows-of, rows-all}
 use Rattle.message.specs.Limits.{firstPosition}
 use Rattle.message.specs.Reading.{reading}
-use Rattle.message.specs.Layout.{Layout, firstField, shapeGood, bodyCode, readBody, writtenBody}
+use Rattle.message.specs.Layout.{Layout, shapeGood, bodyCode, readBody, writtenBody}
 use Rattle.message.proofs.Laws.Reading.{said-values, said-number, told}
 
 -- what a good shape tells
@@ -29,11 +30,8 @@ pub record Shaped (bytes operation : ℕ) (body : List ℕ) : Type 0 where
 pub shaped : (bytes operation : ℕ) (body : List ℕ) → shapeGood bytes operation body ≡ true → Shaped bytes operation body
 unfolding shapeGood
 shaped bytes operation body e =
-    let size = eqb (length body) bytes in
-    let marked = eqb (byteAt 2 body) mark in
-    let all = and-eq-true-iff (size && marked) (eqb (operationOf body) operation) .0 e in
-    let both = and-eq-true-iff size marked .0 (all .0) in
-    record { size = eqb-true (length body) bytes (both .0); marked = eqb-true (byteAt 2 body) mark (both .1); said = eqb-true (operationOf body) operation (all .1) }
+    let all = three (eqb (length body) bytes) (eqb (byteAt 2 body) mark) (eqb (operationOf body) operation) e in
+    record { size = eqb-true (length body) bytes (all .0); marked = eqb-true (byteAt 2 body) mark (all .1); said = eqb-true (operationOf body) operation (all .2) }
 
 module _ (layout : Layout) (body : List ℕ) where
   abbrev shape : Bool
@@ -69,11 +67,15 @@ module _ (layout : Layout) (body : List ℕ) where
       (not-false shape (none-test 1 (not shape) (lit< tt) (first .0)), not-false fields (none-test 1 (not fields) (lit< tt) (rest .0)), not-false amounts (none-test 3 (not amounts) (lit< tt) (rest .1)))
 
   -- and so what the answer is
-  pub earns : (m : ℕ) → 0 < m → bodyCode layout body ≡ m → reading m [] ≡ readBody layout body
-  earns m h e = said-number (bodyCode layout body) m (tableNumbers firstPosition (layout .fields) body) h e
+  pub said-code : (m : ℕ) → 0 < m → bodyCode layout body ≡ m → reading m [] ≡ readBody layout body
+  said-code m h e = said-number (bodyCode layout body) m (tableNumbers firstPosition (layout .fields) body) h e
 
-  pub holds : (values : List ℕ) → bodyCode layout body ≡ 0 → values ≡ tableNumbers firstPosition (layout .fields) body → reading 0 values ≡ readBody layout body
-  holds values e h = said-values (bodyCode layout body) (tableNumbers firstPosition (layout .fields) body) values e h
+  pub said-fields : (values : List ℕ) → bodyCode layout body ≡ 0 → values ≡ tableNumbers firstPosition (layout .fields) body → reading 0 values ≡ readBody layout body
+  said-fields values e h = said-values (bodyCode layout body) (tableNumbers firstPosition (layout .fields) body) values e h
+
+-- the position of a body's first field
+abbrev firstField : ℕ
+firstField = 4
 
 -- a layout whose rows fill the body from its first field on, and whose faults earn 01 or 03
 pub record Whole (layout : Layout) : Type 0 where
@@ -98,7 +100,7 @@ module _ (layout : Layout) (whole : Whole layout) where
       let read = table-written firstPosition firstField (layout .bytes + 1) (layout .fields) vs [] body (omega arith) (whole .covers) e (sym (append-nil (tableWritten (layout .fields) vs))) in
       let shape : shapeGood (layout .bytes) (layout .operation) body ≡ true = rw (eq-eqb (length body) (layout .bytes) (length-written vs e), eq-eqb (layout .operation) (layout .operation) refl) in
       let good : (code : ℕ) → tableGood firstPosition code (layout .fields) body ≡ true = λ (code : ℕ). rows-of (fieldGood firstPosition body) code (layout .fields) (read .1) in
-      sym (holds layout body vs (accepted layout body shape (good 1) (good 3)) (sym (read .0)))
+      sym (said-fields layout body vs (accepted layout body shape (good 1) (good 3)) (sym (read .0)))
 
   pub read-then-written : (body values : List ℕ) → reading 0 values ≡ readBody layout body → writtenBody layout values ≡ cleared body
   read-then-written body values e =

@@ -12,7 +12,10 @@ said-values n values read e h = rw (e, h)
 pub said-number : (n m : ℕ) (values : List ℕ) → 0 < m → n ≡ m → reading m [] ≡ reading n values
 said-number n m values h e = rw (e, ne-eqb m 0 (λ (z : m ≡ 0). omega arith))
 
--- and what an answer with values tells of the reading
+-- and what an answer tells of the reading
+pub number-told : (n m : ℕ) (values : List ℕ) → reading m [] ≡ reading n values → n ≡ m
+number-told n m values e = sym (ap (λ (r : Reading). r .number) e)
+
 pub told : (n : ℕ) (values read : List ℕ) → reading 0 read ≡ reading n values → (n ≡ 0) × (values ≡ read)
 told n values read e =
     let none : n ≡ 0 = sym (ap (λ (r : Reading). r .number) e) in

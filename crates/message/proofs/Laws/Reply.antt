@@ -1,21 +1,24 @@
--- Laws of the reply's body: a known operation byte has its number, and the round trips.
+-- Laws of the reply's body: a known operation byte has its number, what each outcome of the tests answers, the round trips, and what an
+-- answer tells of the bytes.
 use mathlib.Core.Path.{_≡_, refl, ap, sym, _∙_, subst}
-use mathlib.Core.Bool.{Bool, true, false, not, _&&_, _||_, and-true, and-false, and-eq-true-iff, false≢true}
+use mathlib.Core.Bool.{Bool, true, false, not, _&&_, _||_, and-true, and-false, false≢true}
 use mathlib.Core.List.{List, [], _∷_}
 use Prim.Native.Nat.{ℕ}
 use native.Mathlib.Omega.{arith}
 use lib.Dec.{eqb, lit<}
 use lib.ListN.{length, getD}
-use borrow.Author.Tests.{eq-eqb, eqb-true, not-false}
+use borrow.Author.Tests.{eq-eqb, eqb-true, not-true, not-false}
 use Rattle.packed.specs.Part.{byteAt}
 use Rattle.packed.specs.Number.{byteValue}
 use Rattle.packed.specs.Writing.{packedByte}
+use Rattle.packed.proofs.Laws.Told.{both, three}
 use Rattle.codes.specs.Body.{free, mark, operationOf, cleared}
+use Rattle.codes.specs.Numbered.{numbered}
 use Rattle.codes.specs.Chain.{_when_}
 use Rattle.codes.specs.declared.reply.Code.{Code}
 use Rattle.codes.specs.declared.reply.ReadCode.{ReadCode}
 use Rattle.codes.specs.Reply.{codeNumber, codeByte, readCode, isKnown, knownCode}
-use Rattle.codes.proofs.Laws.Chain.{none-test}
+use Rattle.codes.proofs.Laws.Chain.{none-test, given-test}
 use Rattle.codes.proofs.Laws.Reply.{code-value, written-then-read as code-written, read-then-written as code-read}
 use Rattle.message.specs.declared.reply.Operation.{Operation}
 use Rattle.message.specs.declared.reply.Reply.{Reply}
@@ -23,7 +26,7 @@ use Rattle.message.specs.declared.reply.ReadReply.{ReadReply}
 use Rattle.message.specs.Limits.{replyBytes}
 use Rattle.message.specs.Reading.{reading}
 use Rattle.message.specs.Reply.{operationNumber, operationByte, knownOperation, replyGood, readReply, replySaid, writtenReplyBody}
-use Rattle.message.proofs.Laws.Reading.{said-number, told}
+use Rattle.message.proofs.Laws.Reading.{said-number, number-told, told}
 
 -- the byte of an operation is known, and holds its number
 operation-known : (o : Operation) → knownOperation (operationByte o) ≡ true
@@ -38,9 +41,9 @@ operation-value Operation.Other = refl
 operation-value Operation.LotTotal = refl
 operation-value Operation.SessionTotal = refl
 
-pub answers : (o : Operation) (byte code : ℕ) → byte ≡ operationByte o → reading 0 (operationNumber o ∷ code ∷ []) ≡ reading (22 when not (knownOperation byte)) (byteValue byte ∷ code ∷ [])
+pub said-operation : (o : Operation) (byte code : ℕ) → byte ≡ operationByte o → reading 0 (operationNumber o ∷ code ∷ []) ≡ reading (22 when not (knownOperation byte)) (byteValue byte ∷ code ∷ [])
 unfolding _when_
-answers o byte code e = rw (e, operation-known o, operation-value o)
+said-operation o byte code e = rw (e, operation-known o, operation-value o)
 
 -- what each outcome of the tests answers
 module _ (body : List ℕ) where
@@ -49,18 +52,18 @@ module _ (body : List ℕ) where
   refused e = said-number (22 when not (replyGood body)) 22 (byteValue (operationOf body) ∷ byteValue (byteAt 4 body) ∷ []) (lit< tt) (ap (λ (t : Bool). 22 when not t) e)
 
   module _ (size : length body ≡ replyBytes) (marked : byteAt 2 body ≡ mark) where
-    decided : replyGood body ≡ knownOperation (operationOf body) && knownCode (byteAt 4 body)
+    tests-decide : replyGood body ≡ knownOperation (operationOf body) && knownCode (byteAt 4 body)
     unfolding replyGood
-    decided = rw (eq-eqb (length body) replyBytes size, eq-eqb (byteAt 2 body) mark marked)
+    tests-decide = rw (eq-eqb (length body) replyBytes size, eq-eqb (byteAt 2 body) mark marked)
 
     pub code-unknown : readCode (byteAt 4 body) ≡ ReadCode.Unknown → replyGood body ≡ false
     unfolding knownCode
-    code-unknown e = decided ∙ ap (λ (r : ReadCode). knownOperation (operationOf body) && isKnown r) e ∙ and-false (knownOperation (operationOf body))
+    code-unknown e = tests-decide ∙ ap (λ (r : ReadCode). knownOperation (operationOf body) && isKnown r) e ∙ and-false (knownOperation (operationOf body))
 
     pub code-known : (c : Code) → readCode (byteAt 4 body) ≡ ReadCode.Known c → reading (22 when not (knownOperation (operationOf body))) (byteValue (operationOf body) ∷ codeNumber c ∷ []) ≡ readReply body
     unfolding knownCode
     code-known c e =
-        let good : knownOperation (operationOf body) ≡ replyGood body = sym (decided ∙ ap (λ (r : ReadCode). knownOperation (operationOf body) && isKnown r) e ∙ and-true (knownOperation (operationOf body))) in
+        let good : knownOperation (operationOf body) ≡ replyGood body = sym (tests-decide ∙ ap (λ (r : ReadCode). knownOperation (operationOf body) && isKnown r) e ∙ and-true (knownOperation (operationOf body))) in
         let value : codeNumber c ≡ byteValue (byteAt 4 body) = sym (ap byteValue (code-read (byteAt 4 body) c e) ∙ code-value c) in
         λ i. reading (22 when not (good i)) (byteValue (operationOf body) ∷ value i ∷ [])
 
@@ -69,7 +72,7 @@ pub written-then-read : (r : Reply) → readReply (writtenReplyBody r) ≡ reply
 unfolding replyGood knownCode
 written-then-read r =
     let code = code-written (r .code) in
-    sym (answers (r .operation) (operationByte (r .operation)) (codeNumber (r .code)) refl ∙ code-known (writtenReplyBody r) refl refl (r .code) code)
+    sym (said-operation (r .operation) (operationByte (r .operation)) (codeNumber (r .code)) refl ∙ code-known (writtenReplyBody r) refl refl (r .code) code)
 
 -- a known byte holds the number that it is written from
 one-of : (P : ℕ → Type 0) (b x y z : ℕ) → P x → P y → P z → eqb b x || eqb b y || eqb b z ≡ true → P b
@@ -103,13 +106,25 @@ record Known (body : List ℕ) : Type 0 where
 known : (body : List ℕ) → replyGood body ≡ true → Known body
 unfolding replyGood
 known body e =
-    let size = eqb (length body) replyBytes in
-    let marked = eqb (byteAt 2 body) mark in
-    let operation = knownOperation (operationOf body) in
-    let last = and-eq-true-iff (size && marked && operation) (knownCode (byteAt 4 body)) .0 e in
-    let middle = and-eq-true-iff (size && marked) operation .0 (last .0) in
-    let first = and-eq-true-iff size marked .0 (middle .0) in
-    record { size = eqb-true (length body) replyBytes (first .0); marked = eqb-true (byteAt 2 body) mark (first .1); operation = middle .1; code = last .1 }
+    let all = three (eqb (length body) replyBytes && eqb (byteAt 2 body) mark) (knownOperation (operationOf body)) (knownCode (byteAt 4 body)) e in
+    let first = both (eqb (length body) replyBytes) (eqb (byteAt 2 body) mark) (all .0) in
+    record { size = eqb-true (length body) replyBytes (first .0); marked = eqb-true (byteAt 2 body) mark (first .1); operation = all .1; code = all .2 }
+
+-- what an answer tells of the bytes
+pub read-told : (r : Reply) (body : List ℕ) → replySaid (ReadReply.Read r) ≡ readReply body → (length body ≡ replyBytes) × (byteAt 2 body ≡ mark) × (operationOf body ≡ operationByte (r .operation)) × (byteAt 4 body ≡ codeByte (r .code))
+unfolding operationByte codeByte
+read-told r body e =
+    let operation = operationOf body in
+    let code = byteAt 4 body in
+    let read = told (22 when not (replyGood body)) (byteValue operation ∷ byteValue code ∷ []) (operationNumber (r .operation) ∷ codeNumber (r .code) ∷ []) e in
+    let k = known body (not-false (replyGood body) (none-test 22 (not (replyGood body)) (lit< tt) (read .0))) in
+    let value : (n : ℕ) → getD (byteValue operation ∷ byteValue code ∷ []) n 0 ≡ getD (operationNumber (r .operation) ∷ codeNumber (r .code) ∷ []) n 0 = λ (n : ℕ). ap (λ (vs : List ℕ). getD vs n 0) (read .1) in
+    (k .size, k .marked, operation-again operation (k .operation) ∙ ap packedByte (value 0), code-again code (k .code) ∙ ap packedByte (value 1))
+
+pub unknown-told : (body : List ℕ) → replySaid ReadReply.Unknown ≡ readReply body → replyGood body ≡ false
+unknown-told body e =
+    let good = replyGood body in
+    not-true good (given-test 22 (not good) (lit< tt) (number-told (22 when not good) 22 (byteValue (operationOf body) ∷ byteValue (byteAt 4 body) ∷ []) e))
 
 four : (body : List ℕ) → length body ≡ replyBytes → cleared body ≡ free ∷ byteAt 2 body ∷ operationOf body ∷ byteAt 4 body ∷ []
 four [] h = absurd (omega arith)
@@ -121,11 +136,19 @@ four (x ∷ m ∷ o ∷ k ∷ y ∷ rest) h = absurd (omega arith)
 
 -- a known reply is written again
 pub read-then-written : (r : Reply) (body : List ℕ) → replySaid (ReadReply.Read r) ≡ readReply body → writtenReplyBody r ≡ cleared body
-unfolding operationByte codeByte
 read-then-written r body e =
-    let operation = operationOf body in
-    let code = byteAt 4 body in
-    let read = told (22 when not (replyGood body)) (byteValue operation ∷ byteValue code ∷ []) (operationNumber (r .operation) ∷ codeNumber (r .code) ∷ []) e in
-    let k = known body (not-false (replyGood body) (none-test 22 (not (replyGood body)) (lit< tt) (read .0))) in
-    let value : (n : ℕ) → getD (operationNumber (r .operation) ∷ codeNumber (r .code) ∷ []) n 0 ≡ getD (byteValue operation ∷ byteValue code ∷ []) n 0 = λ (n : ℕ). ap (λ (vs : List ℕ). getD vs n 0) (sym (read .1)) in
-    (λ i. free ∷ sym (k .marked) i ∷ (ap packedByte (value 0) ∙ sym (operation-again operation (k .operation))) i ∷ (ap packedByte (value 1) ∙ sym (code-again code (k .code))) i ∷ []) ∙ sym (four body (k .size))
+    let k = read-told r body e in
+    (λ i. free ∷ sym (k .1) i ∷ sym (k .2) i ∷ sym (k .3) i ∷ []) ∙ sym (four body (k .0))
+
+-- an operation's byte tells the operation
+operationFrom : ℕ → Operation
+operationFrom b = numbered operationByte (λ o. o) Operation.Other (Operation.LotTotal ∷ Operation.SessionTotal ∷ []) b
+
+from-byte : (o : Operation) → operationFrom (operationByte o) ≡ o
+unfolding operationFrom numbered operationByte packedByte
+from-byte Operation.Other = refl
+from-byte Operation.LotTotal = refl
+from-byte Operation.SessionTotal = refl
+
+pub same-operation : (o p : Operation) → operationByte o ≡ operationByte p → o ≡ p
+same-operation o p e = sym (from-byte o) ∙ ap operationFrom e ∙ from-byte p

@@ -16,7 +16,7 @@ use Rattle.message.specs.declared.envelope.Envelope.{Envelope}
 use Rattle.message.specs.Reading.{reading}
 use Rattle.message.specs.Envelope.{lengthGood, envelopeFields, envelopeValues, envelopeGood, readEnvelope}
 use Rattle.message.proofs.Laws.Reading.{said-values, said-number}
-use Rattle.message.proofs.Laws.Envelope.{long, decided}
+use Rattle.message.proofs.Laws.Envelope.{long, tests-decide}
 use Rattle.message.proofs.envelope.read_envelope.Statement.{statement}
 use Rattle.message.proofs.envelope.read_envelope.Tie as tie
 
@@ -55,7 +55,7 @@ tested : (t : tie.After-struct-known2) (b : Bool) → tests t ≡ b → envelope
 unfolding envelopeFields
 tested t b e =
     let a = t .before .before .before .before .before .before .before .before .before .args in
-    decided (a .kind) (a .bytes .now) (t .before .before .before .kind-byte .result) (t .before .before .before .before .before .fields-of .result .serial) (t .before .before .are-digits .result) b (passed (t .before .before .before .before .before .before)) (t .before .before .before .kind-byte .ensures) (t .before .before .are-digits .ensures) (ap (λ (x : Envelope). x .serial) (t .before .before .before .before .before .fields-of .ensures)) e
+    tests-decide (a .kind) (a .bytes .now) (t .before .before .before .kind-byte .result) (t .before .before .before .before .before .fields-of .result .serial) (t .before .before .are-digits .result) b (passed (t .before .before .before .before .before .before)) (t .before .before .before .kind-byte .ensures) (t .before .before .are-digits .ensures) (ap (λ (x : Envelope). x .serial) (t .before .before .before .before .before .fields-of .ensures)) e
 
 returns : tie.Need-returns
 unfolding envelopeFields _when_

@@ -15,8 +15,8 @@ use Rattle.message.specs.Layout.{shapeGood}
 use Rattle.message.specs.Content.{headerOperation}
 use Rattle.message.specs.Header.{headerFields, header, headerValues}
 use Rattle.message.proofs.Laws.Route.{same}
-use Rattle.message.proofs.Laws.Layout.{shaped, misshapen, field-wrong, accepted, earns, holds}
-use Rattle.message.proofs.Laws.Header.{no-amounts, numbers, decided}
+use Rattle.message.proofs.Laws.Layout.{shaped, misshapen, field-wrong, accepted, said-code, said-fields}
+use Rattle.message.proofs.Laws.Header.{no-amounts, read-numbers, tests-decide}
 use Rattle.message.proofs.header.read_header.Statement.{statement}
 use Rattle.message.proofs.header.read_header.Tie as tie
 
@@ -66,7 +66,7 @@ tests t = first t && t .before .before .same-route .result && t .before .order-n
 
 tested : (t : tie.After-number) (b : Bool) → tests t ≡ b → tableGood 1 1 (headerFields (route t)) (body t) ≡ b
 tested t b e =
-    decided (route t) (t .before .before .before .before .before .before .fields-of .result) (t .before .before .before .read-route .result) (t .number .result) (t .before .before .before .before .before .are-digits .result) (t .before .before .before .before .time-of-day .result) (t .before .before .same-route .result) (t .before .order-number .result) b (body t) (t .before .before .before .before .before .before .fields-of .ensures) (t .before .before .before .read-route .ensures) (t .number .ensures .0) (t .before .before .before .before .before .are-digits .ensures) (t .before .before .before .before .time-of-day .ensures) (t .before .before .same-route .ensures) (t .before .order-number .ensures) e
+    tests-decide (route t) (t .before .before .before .before .before .before .fields-of .result) (t .before .before .before .read-route .result) (t .number .result) (t .before .before .before .before .before .are-digits .result) (t .before .before .before .before .time-of-day .result) (t .before .before .same-route .result) (t .before .order-number .result) b (body t) (t .before .before .before .before .before .before .fields-of .ensures) (t .before .before .before .read-route .ensures) (t .number .ensures .0) (t .before .before .before .before .before .are-digits .ensures) (t .before .before .before .before .time-of-day .ensures) (t .before .before .same-route .ensures) (t .before .order-number .ensures) e
 
 returns : tie.Need-returns
 returns c =
@@ -76,17 +76,17 @@ returns c =
     let middle = and-eq-true-iff (first t && told) (t .before .order-number .result) .0 (last .0) in
     let one = same (t .before .before .before .read-route .result) (route t) (sym (t .before .before .same-route .ensures) ∙ and-eq-true-iff (first t) told .0 (middle .0) .1) in
     let zero = eqb-true (t .number .result) 0 (last .1) in
-    holds (header (route t)) (body t) (headerValues (route t) (t .before .before .before .before .before .before .fields-of .result)) (accepted (header (route t)) (body t) (shape (t .before .before .before .before .before .before .before)) (tested t true (c .if2 .taken)) (no-amounts (route t) (body t))) (ap (headerValues (route t)) (t .before .before .before .before .before .before .fields-of .ensures) ∙ numbers (route t) (body t) (sym (t .before .before .before .read-route .ensures) ∙ one) (sym (t .number .ensures .0) ∙ zero))
+    said-fields (header (route t)) (body t) (headerValues (route t) (t .before .before .before .before .before .before .fields-of .result)) (accepted (header (route t)) (body t) (shape (t .before .before .before .before .before .before .before)) (tested t true (c .if2 .taken)) (no-amounts (route t) (body t))) (ap (headerValues (route t)) (t .before .before .before .before .before .before .fields-of .ensures) ∙ read-numbers (route t) (body t) (sym (t .before .before .before .read-route .ensures) ∙ one) (sym (t .number .ensures .0) ∙ zero))
 
 returns-2 : tie.Need-returns-2
 returns-2 c =
     let t = c .before in
-    earns (header (route t)) (body t) 1 (lit< tt) (field-wrong (header (route t)) (body t) (shape (t .before .before .before .before .before .before .before)) (tested t false (c .if2 .left)))
+    said-code (header (route t)) (body t) 1 (lit< tt) (field-wrong (header (route t)) (body t) (shape (t .before .before .before .before .before .before .before)) (tested t false (c .if2 .left)))
 
 returns-3 : tie.Need-returns-3
 returns-3 c =
     let a = c .before .before .before .args in
-    earns (header (a .route)) (a .body .now) 1 (lit< tt) (misshapen (header (a .route)) (a .body .now) (sym (c .before .shape-good .ensures) ∙ c .if1 .left))
+    said-code (header (a .route)) (a .body .now) 1 (lit< tt) (misshapen (header (a .route)) (a .body .now) (sym (c .before .shape-good .ensures) ∙ c .if1 .left))
 
 pub read-header-spec : {M : Type 1} → statement M
 read-header-spec =

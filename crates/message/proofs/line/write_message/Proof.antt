@@ -7,7 +7,8 @@ use Rattle.message.specs.Limits.{envelopeBytes}
 use Rattle.message.specs.declared.envelope.Kind.{Kind}
 use Rattle.message.specs.Envelope.{envelopeFields, writtenEnvelope}
 use Rattle.message.specs.Line.{bodyBytes}
-use Rattle.message.proofs.Laws.Line.{body-length, both-written}
+use Rattle.message.proofs.Laws.Buffer.{both-written}
+use Rattle.message.proofs.Laws.Line.{body-length}
 use Rattle.message.proofs.line.write_message.Statement.{statement}
 use Rattle.message.proofs.line.write_message.Tie as tie
 

@@ -9,7 +9,7 @@ use Rattle.codes.specs.Chain.{_when_}
 use Rattle.codes.specs.Reply.{codeNumber}
 use Rattle.message.specs.declared.reply.Operation.{Operation}
 use Rattle.message.specs.Reply.{operationByte}
-use Rattle.message.proofs.Laws.Reply.{answers}
+use Rattle.message.proofs.Laws.Reply.{said-operation}
 use Rattle.message.proofs.reply.answered.Statement.{statement}
 use Rattle.message.proofs.reply.answered.Tie as tie
 
@@ -17,19 +17,19 @@ operation-byte-requires : tie.Need-operation-byte-requires
 operation-byte-requires c κs = search needs
 
 returns : tie.Need-returns
-returns c = let a = c .before .before .args in answers Operation.Other (a .operation) (codeNumber (a .code)) (c .if1 .taken ∙ c .before .operation-byte .ensures)
+returns c = let a = c .before .before .args in said-operation Operation.Other (a .operation) (codeNumber (a .code)) (c .if1 .taken ∙ c .before .operation-byte .ensures)
 
 operation-byte-requires-2 : tie.Need-operation-byte-requires-2
 operation-byte-requires-2 c κs = search needs
 
 returns-2 : tie.Need-returns-2
-returns-2 c = let a = c .before .before .before .before .args in answers Operation.LotTotal (a .operation) (codeNumber (a .code)) (c .if2 .taken ∙ c .before .operation-byte2 .ensures)
+returns-2 c = let a = c .before .before .before .before .args in said-operation Operation.LotTotal (a .operation) (codeNumber (a .code)) (c .if2 .taken ∙ c .before .operation-byte2 .ensures)
 
 operation-byte-requires-3 : tie.Need-operation-byte-requires-3
 operation-byte-requires-3 c κs = search needs
 
 returns-3 : tie.Need-returns-3
-returns-3 c = let a = c .before .before .before .before .before .before .args in answers Operation.SessionTotal (a .operation) (codeNumber (a .code)) (c .if3 .taken ∙ c .before .operation-byte3 .ensures)
+returns-3 c = let a = c .before .before .before .before .before .before .args in said-operation Operation.SessionTotal (a .operation) (codeNumber (a .code)) (c .if3 .taken ∙ c .before .operation-byte3 .ensures)
 
 -- a byte that a test told from an operation's
 other : (o : Operation) (byte told : ℕ) → told ≡ operationByte o → (byte ≡ told → ⊥) → eqb byte (operationByte o) ≡ false

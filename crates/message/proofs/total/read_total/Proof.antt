@@ -10,7 +10,7 @@ use lib.ListN.{length}
 use Rattle.codes.specs.Field.{tableGood}
 use Rattle.message.specs.Layout.{Layout, shapeGood}
 use Rattle.message.specs.Total.{totalFields, total, totalValues}
-use Rattle.message.proofs.Laws.Layout.{shaped, misshapen, field-wrong, amount-wrong, accepted, earns, holds}
+use Rattle.message.proofs.Laws.Layout.{shaped, misshapen, field-wrong, amount-wrong, accepted, said-code, said-fields}
 use Rattle.message.proofs.Laws.Total.{counters-split, amounts-split}
 use Rattle.message.proofs.total.read_total.Statement.{statement}
 use Rattle.message.proofs.total.read_total.Tie as tie
@@ -63,24 +63,24 @@ returns c =
     let t = c .before .before .before .before .before .before in
     let a = c .before .before .before .before .before .before .before .before .args in
     let amounts = amounts-split (a .documents) (a .nominal) (a .commission) (a .body .now) ∙ sym (c .before .before .are-digits2 .ensures) ∙ c .before .if3 .taken in
-    holds (layout t) (body t) (totalValues (c .fields-of .result)) (accepted (layout t) (body t) (shape (c .before .before .before .before .before)) (counters (c .before .before .before)) amounts) (ap totalValues (c .fields-of .ensures))
+    said-fields (layout t) (body t) (totalValues (c .fields-of .result)) (accepted (layout t) (body t) (shape (c .before .before .before .before .before)) (counters (c .before .before .before)) amounts) (ap totalValues (c .fields-of .ensures))
 
 returns-2 : tie.Need-returns-2
 returns-2 c =
     let t = c .before .before .before .before .before in
     let a = c .before .before .before .before .before .before .before .args in
     let amounts = amounts-split (a .documents) (a .nominal) (a .commission) (a .body .now) ∙ sym (c .before .are-digits2 .ensures) ∙ c .if3 .left in
-    earns (layout t) (body t) 3 (lit< tt) (amount-wrong (layout t) (body t) (shape (c .before .before .before .before)) (counters (c .before .before)) amounts)
+    said-code (layout t) (body t) 3 (lit< tt) (amount-wrong (layout t) (body t) (shape (c .before .before .before .before)) (counters (c .before .before)) amounts)
 
 returns-3 : tie.Need-returns-3
 returns-3 c =
     let t = c .before .before .before in
     let a = c .before .before .before .before .before .args in
     let counters = counters-split (a .documents) (a .nominal) (a .commission) (a .body .now) ∙ sym (c .before .are-digits .ensures) ∙ c .if2 .left in
-    earns (layout t) (body t) 1 (lit< tt) (field-wrong (layout t) (body t) (shape (c .before .before)) counters)
+    said-code (layout t) (body t) 1 (lit< tt) (field-wrong (layout t) (body t) (shape (c .before .before)) counters)
 
 returns-4 : tie.Need-returns-4
-returns-4 c = let t = c .before in earns (layout t) (body t) 1 (lit< tt) (misshapen (layout t) (body t) (sym (t .shape-good .ensures) ∙ c .if1 .left))
+returns-4 c = let t = c .before in said-code (layout t) (body t) 1 (lit< tt) (misshapen (layout t) (body t) (sym (t .shape-good .ensures) ∙ c .if1 .left))
 
 pub read-total-spec : {M : Type 1} → statement M
 read-total-spec =
