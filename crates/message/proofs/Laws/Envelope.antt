@@ -1,6 +1,6 @@
 -- Laws of the envelope: its tests in short, which numbers it carries, what is read of a written one, and what an answer tells of the bytes.
 use mathlib.Core.Path.{_≡_, refl, ap, sym, _∙_}
-use mathlib.Core.Bool.{Bool, true, false, not, _&&_, _||_, and-true, and-assoc, and-eq-true-iff}
+use mathlib.Core.Bool.{Bool, true, false, not, _&&_, _||_, and-true, and-assoc}
 use mathlib.Core.List.{List, [], _∷_, _++_}
 use Prim.Native.Nat.{ℕ, _+_, _^_, _≤_, _<_}
 use native.Mathlib.Omega.{arith}
@@ -12,7 +12,7 @@ use Rattle.packed.specs.Every.{every}
 use Rattle.packed.specs.Digits.{areDigits}
 use Rattle.packed.specs.Number.{number}
 use Rattle.packed.specs.Writing.{packedBytes}
-use Rattle.packed.proofs.Laws.Told.{three}
+use Rattle.packed.proofs.Laws.Told.{both, three}
 use Rattle.codes.specs.Chain.{_when_}
 use Rattle.codes.specs.Field.{Field, between, earning, fieldGood, tableGood, tableNumbers, tableTakes, tableWritten}
 use Rattle.codes.proofs.Laws.Chain.{none-test, given-test}
@@ -26,14 +26,14 @@ use Rattle.message.specs.Envelope.{kindByte, lengthGood, envelopeFields,
 use Rattle.message.proofs.Laws.Reading.{said-values, number-told, told}
 
 -- eleven digits, and a serial
-pub fields-split : (s : List ℕ) → tableGood 1 21 envelopeFields s ≡ areDigits (part 1 11 s) && between 1 largestSerial (number (part 8 4 s))
+fields-split : (s : List ℕ) → tableGood 1 21 envelopeFields s ≡ areDigits (part 1 11 s) && between 1 largestSerial (number (part 8 4 s))
 unfolding envelopeFields earning every digitRuns total
 fields-split s =
     table-split 1 21 envelopeFields s
     ∙ λ i. (runs-join 1 (3 ∷ 2 ∷ 2 ∷ 4 ∷ []) s true ∙ and-true (areDigits (part 1 11 s))) i && and-true (between 1 largestSerial (number (part 8 4 s))) i
 
 pub long : (kind : Kind) (n : ℕ) → lengthGood kind n ≡ true → envelopeBytes ≤ n
-long Kind.Message n e = omega (arith, leb-true 13 n (and-eq-true-iff (leb 13 n) (leb n 10412) .0 e .0))
+long Kind.Message n e = omega (arith, leb-true 13 n (both (leb 13 n) (leb n 10412) e .0))
 long Kind.Reply n e = omega (arith, eqb-true n 16 e)
 
 -- where the length is good, the kind, the digits and the serial decide
@@ -45,7 +45,7 @@ tests-decide kind bytes byte serial digits t l k d s e =
     ∙ (λ i. eqb (byteAt 1 bytes) byte && sym d i && between 1 largestSerial (sym s i))
     ∙ e
 
--- the rows fill the bytes behind the kind
+-- the rows fill the bytes after the kind
 covers : Adjoin 2 (envelopeBytes + 1) envelopeFields
 unfolding envelopeFields adjoining
 covers = refl
@@ -79,6 +79,13 @@ kind-told Kind.Reply Kind.Reply e body h = refl
 kind-told Kind.Message Kind.Reply e body h = let one : _≡_ {A = ℕ} 1 2 = good-told Kind.Reply (writtenEnvelope Kind.Message e ++ body) h .1 in absurd (omega arith)
 kind-told Kind.Reply Kind.Message e body h = let two : _≡_ {A = ℕ} 2 1 = good-told Kind.Message (writtenEnvelope Kind.Reply e ++ body) h .1 in absurd (omega arith)
 
+-- the numbers of the table are those of an envelope
+from-values : (bytes : List ℕ) (e : Envelope) → tableNumbers 1 envelopeFields bytes ≡ envelopeValues e → envelopeOf bytes ≡ e
+unfolding envelopeFields
+from-values bytes e h =
+    let at : (k : ℕ) → getD (tableNumbers 1 envelopeFields bytes) k 0 ≡ getD (envelopeValues e) k 0 = λ (k : ℕ). ap (λ (vs : List ℕ). getD vs k 0) h in
+    λ i. record { route = record { date = at 0 i; presenting = at 1 i; receiving = at 2 i }; serial = at 3 i }
+
 module _ (kind : Kind) (e : Envelope) (body : List ℕ) (fits : tableTakes envelopeFields (envelopeValues e) ≡ true) where
   abbrev bytes : List ℕ
   bytes = writtenEnvelope kind e ++ body
@@ -86,12 +93,9 @@ module _ (kind : Kind) (e : Envelope) (body : List ℕ) (fits : tableTakes envel
   rows : (tableNumbers 1 envelopeFields bytes ≡ envelopeValues e) × (every (fieldGood 1 bytes) envelopeFields ≡ true)
   rows = table-written 1 2 (envelopeBytes + 1) envelopeFields (envelopeValues e) body bytes (omega arith) covers fits refl
 
-  -- date, entities and serial are told, whatever stands behind
+  -- date, entities and serial are told, whatever follows
   pub envelope-told : envelopeOf bytes ≡ e
-  unfolding envelopeFields
-  envelope-told =
-      let at : (k : ℕ) → getD (tableNumbers 1 envelopeFields bytes) k 0 ≡ getD (envelopeValues e) k 0 = λ (k : ℕ). ap (λ (vs : List ℕ). getD vs k 0) (rows .0) in
-      λ i. record { route = record { date = at 0 i; presenting = at 1 i; receiving = at 2 i }; serial = at 3 i }
+  envelope-told = from-values bytes e (rows .0)
 
   pub written-good : lengthGood kind (envelopeBytes + length body) ≡ true → envelopeGood kind bytes ≡ true
   unfolding envelopeGood
@@ -105,11 +109,9 @@ module _ (kind : Kind) (e : Envelope) (body : List ℕ) (fits : tableTakes envel
 
 -- what an answer tells of the bytes
 pub read-told : (kind : Kind) (bytes : List ℕ) (e : Envelope) → envelopeSaid (ReadEnvelope.Read e) ≡ readEnvelope kind bytes → (envelopeGood kind bytes ≡ true) × (e ≡ envelopeOf bytes)
-unfolding envelopeFields
 read-told kind bytes e h =
     let read = told (21 when not (envelopeGood kind bytes)) (tableNumbers 1 envelopeFields bytes) (envelopeValues e) h in
-    let at : (k : ℕ) → getD (envelopeValues e) k 0 ≡ getD (tableNumbers 1 envelopeFields bytes) k 0 = λ (k : ℕ). ap (λ (vs : List ℕ). getD vs k 0) (sym (read .1)) in
-    (not-false (envelopeGood kind bytes) (none-test 21 (not (envelopeGood kind bytes)) (lit< tt) (read .0)), λ i. record { route = record { date = at 0 i; presenting = at 1 i; receiving = at 2 i }; serial = at 3 i })
+    (not-false (envelopeGood kind bytes) (none-test 21 (not (envelopeGood kind bytes)) (lit< tt) (read .0)), sym (from-values bytes e (read .1)))
 
 pub wrong-told : (kind : Kind) (bytes : List ℕ) → envelopeSaid ReadEnvelope.Wrong ≡ readEnvelope kind bytes → envelopeGood kind bytes ≡ false
 wrong-told kind bytes h =

@@ -1,10 +1,11 @@
--- Laws of whole messages and whole replies: their lengths, both round trips, what a body is, and two examples to the byte.
+-- Laws of whole messages and whole replies: their lengths, both round trips, what a body is, and examples to the byte.
 use mathlib.Core.Path.{_≡_, refl, ap, _∙_}
 use mathlib.Core.Bool.{true}
 use mathlib.Core.List.{List, [], _∷_, _++_}
 use Prim.Native.Nat.{ℕ, _+_, _-_}
 use lib.ListN.{length, take}
 use Rattle.packed.specs.Writing.{packedByte, packedBytes}
+use Rattle.amounts.specs.Totals.{totals}
 use Rattle.codes.specs.declared.reply.Code.{Code}
 use Rattle.codes.specs.Reply.{codeByte}
 use Rattle.codes.specs.Body.{cleared}
@@ -85,13 +86,21 @@ reply-read e r fits = (envelope-written Kind.Reply e (writtenReplyBody r) fits r
 pub reply-again : (e : Envelope) (r : Reply) (bytes : List ℕ) → envelopeSaid (ReadEnvelope.Read e) ≡ readEnvelope Kind.Reply bytes → replySaid (ReadReply.Read r) ≡ readReply (bodyOf bytes) → wholeReply e r ≡ take envelopeBytes bytes ++ cleared (bodyOf bytes)
 reply-again e r bytes he hr = λ i. envelope-again Kind.Reply bytes e he i ++ reply-body-again r (bodyOf bytes) hr i
 
--- a header of 00:23:59.59 with number 7, from entity 81 to entity 72 on 14 March 2028, and the reply that accepts it
+-- a header of 00:23:59.59 with number 7, from entity 81 to entity 72 on 14 March 2028; totals of one document; and a reply that accepts
 example-envelope : Envelope
 example-envelope = record { route = record { date = 140328; presenting = 81; receiving = 72 }; serial = 1 }
 
 example-message : message example-envelope (bodyBytes (example-envelope .route) (Body.Header (record { time = 235959; centre = 1; number = 7 }))) ≡ 0x01 ∷ 0x14 ∷ 0x03 ∷ 0x28 ∷ 0x00 ∷ 0x81 ∷ 0x00 ∷ 0x72 ∷ 0x00 ∷ 0x00 ∷ 0x00 ∷ 0x01 ∷ 0x00 ∷ 0x51 ∷ 0x01 ∷ 0x00 ∷ 0x23 ∷ 0x59 ∷ 0x59 ∷ 0x14 ∷ 0x03 ∷ 0x28 ∷ 0x00 ∷ 0x81 ∷ 0x00 ∷ 0x72 ∷ 0x00 ∷ 0x01 ∷ 0x00 ∷ 0x07 ∷ 0x00 ∷ []
 unfolding example-envelope bodyBytes envelopeFields headerFields tableWritten packedBytes packedByte
 example-message = refl
+
+example-lot-total : bodyBytes (example-envelope .route) (Body.LotTotal (record { number = 7; stated = totals 1 15000 30 })) ≡ 0x00 ∷ 0x51 ∷ 0x80 ∷ 0x00 ∷ 0x07 ∷ 0x00 ∷ 0x00 ∷ 0x01 ∷ 0x00 ∷ 0x00 ∷ 0x00 ∷ 0x00 ∷ 0x00 ∷ 0x01 ∷ 0x50 ∷ 0x00 ∷ 0x00 ∷ 0x00 ∷ 0x00 ∷ 0x00 ∷ 0x00 ∷ 0x30 ∷ []
+unfolding bodyBytes lotTotalFields tableWritten packedBytes packedByte
+example-lot-total = refl
+
+example-session-total : bodyBytes (example-envelope .route) (Body.SessionTotal (record { number = 1; stated = totals 1 15000 30 })) ≡ 0x00 ∷ 0x51 ∷ 0x90 ∷ 0x00 ∷ 0x01 ∷ 0x00 ∷ 0x00 ∷ 0x00 ∷ 0x01 ∷ 0x00 ∷ 0x00 ∷ 0x00 ∷ 0x00 ∷ 0x00 ∷ 0x00 ∷ 0x01 ∷ 0x50 ∷ 0x00 ∷ 0x00 ∷ 0x00 ∷ 0x00 ∷ 0x00 ∷ 0x00 ∷ 0x00 ∷ 0x30 ∷ []
+unfolding bodyBytes sessionTotalFields tableWritten packedBytes packedByte
+example-session-total = refl
 
 example-reply : wholeReply example-envelope (record { operation = Operation.Other; code = Code.Accepted }) ≡ 0x02 ∷ 0x14 ∷ 0x03 ∷ 0x28 ∷ 0x00 ∷ 0x81 ∷ 0x00 ∷ 0x72 ∷ 0x00 ∷ 0x00 ∷ 0x00 ∷ 0x01 ∷ 0x00 ∷ 0x51 ∷ 0x86 ∷ 0x00 ∷ []
 unfolding example-envelope envelopeFields tableWritten packedBytes packedByte operationByte codeByte
