@@ -15,14 +15,13 @@ use Rattle.codes.specs.Field.{earning, tableWritten}
 use Rattle.amounts.specs.Totals.{totals}
 use Rattle.message.specs.declared.route.Route.{Route}
 use Rattle.message.specs.declared.envelope.Kind.{Kind}
-use Rattle.message.specs.declared.line.Body.{Body}
 use Rattle.message.specs.Layout.{shapeGood, bodyCode}
 use Rattle.message.specs.Envelope.{lengthGood, envelopeFields, envelopeGood, writtenEnvelope}
 use Rattle.message.specs.Content.{byOperation, contentOf}
 use Rattle.message.specs.Header.{headerFields, header}
 use Rattle.message.specs.Total.{lotTotal, lotTotalFields, sessionTotal, sessionTotalFields}
 use Rattle.message.specs.Reply.{operationNumber, operationByte, replyOperation, replyGood}
-use Rattle.message.specs.Line.{bodyBytes}
+use Rattle.message.specs.Line.{Body, bodyBytes}
 
 -- a case: the number that the definitions give, and the one that the paper gives
 record Case : Type 0 where
@@ -49,19 +48,19 @@ way-back = record { date = 140328; presenting = 72; receiving = 81 }
 
 -- the code of a header of a route, a time and an order number
 abbrev headed : Route → (time number : ℕ) → List ℕ
-headed route time number = bodyBytes route (Body.Header (record { time = time; centre = 1; number = number }))
+headed route time number = bodyBytes route (Body.opening (record { time = time; centre = 1; number = number }))
 
 abbrev plain : List ℕ
 plain = headed day 21000000 7
 
 abbrev lot : (number documents nominal commission : ℕ) → List ℕ
-lot n d a c = bodyBytes day (Body.LotTotal (record { number = n; stated = totals d a c }))
+lot n d a c = bodyBytes day (Body.lotEnding (record { number = n; stated = totals d a c }))
 
 abbrev one-lot : List ℕ
 one-lot = lot 7 1 15000 30
 
 abbrev no-lots : List ℕ
-no-lots = bodyBytes day (Body.SessionTotal (record { number = 0; stated = totals 0 0 0 }))
+no-lots = bodyBytes day (Body.sessionEnding (record { number = 0; stated = totals 0 0 0 }))
 
 bodies : List Case
 bodies =

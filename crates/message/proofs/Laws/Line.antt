@@ -17,7 +17,6 @@ use Rattle.message.specs.declared.envelope.ReadEnvelope.{ReadEnvelope}
 use Rattle.message.specs.declared.reply.Operation.{Operation}
 use Rattle.message.specs.declared.reply.Reply.{Reply}
 use Rattle.message.specs.declared.reply.ReadReply.{ReadReply}
-use Rattle.message.specs.declared.line.Body.{Body}
 use Rattle.message.specs.Limits.{envelopeBytes}
 use Rattle.message.specs.Reading.{reading}
 use Rattle.message.specs.Layout.{readBody}
@@ -26,31 +25,30 @@ use Rattle.message.specs.Content.{byOperation, contentOf}
 use Rattle.message.specs.Header.{headerFields}
 use Rattle.message.specs.Total.{lotTotalFields, sessionTotalFields}
 use Rattle.message.specs.Reply.{operationByte, readReply, replySaid, writtenReplyBody}
-use Rattle.message.specs.Line.{layoutOf, valuesOf, bodyBytes, bodyContent, bodyLength, message, wholeReply}
+use Rattle.message.specs.Line.{Body, layoutOf, valuesOf, bodyBytes, bodyContent, message, wholeReply}
 use Rattle.message.proofs.Laws.Layout.{Whole, written-then-read as layout-written, read-then-written as layout-read}
 use Rattle.message.proofs.Laws.Envelope.{body-told, written-then-read as envelope-written, read-then-written as envelope-again}
 use Rattle.message.proofs.Laws.Header.{whole as header-whole}
 use Rattle.message.proofs.Laws.Total.{lot-whole, session-whole}
 use Rattle.message.proofs.Laws.Reply.{written-then-read as reply-written, read-then-written as reply-body-again}
 
--- each body is as long as 01 says
-pub body-length : (route : Route) (x : Body) → length (bodyBytes route x) ≡ bodyLength x
+-- each body is as long as its layout says, and no longer than a message may be
+pub body-length : (route : Route) (x : Body) → length (bodyBytes route x) ≡ layoutOf route x .bytes
 unfolding bodyBytes tableWritten packedBytes headerFields lotTotalFields sessionTotalFields
-body-length route (Body.Header h) = refl
-body-length route (Body.LotTotal t) = refl
-body-length route (Body.SessionTotal t) = refl
+body-length route (Body.opening h) = refl
+body-length route (Body.lotEnding t) = refl
+body-length route (Body.sessionEnding t) = refl
 
--- and no longer than a message may be
-short : (x : Body) → lengthGood Kind.Message (envelopeBytes + bodyLength x) ≡ true
-short (Body.Header h) = refl
-short (Body.LotTotal t) = refl
-short (Body.SessionTotal t) = refl
+short : (route : Route) (x : Body) → lengthGood Kind.Message (envelopeBytes + layoutOf route x .bytes) ≡ true
+short route (Body.opening h) = refl
+short route (Body.lotEnding t) = refl
+short route (Body.sessionEnding t) = refl
 
 -- every row of a body is covered and earns 01 or 03
 pub whole : (route : Route) (x : Body) → Whole (layoutOf route x)
-whole route (Body.Header h) = header-whole route
-whole route (Body.LotTotal t) = lot-whole
-whole route (Body.SessionTotal t) = session-whole
+whole route (Body.opening h) = header-whole route
+whole route (Body.lotEnding t) = lot-whole
+whole route (Body.sessionEnding t) = session-whole
 
 module _ (route : Route) (x : Body) where
   -- a written body is read again: its receiver finds every number, and no fault
@@ -66,15 +64,15 @@ module _ (route : Route) (x : Body) where
 -- byte 3 says what it is
 pub content-told : (route : Route) (x : Body) → contentOf (bodyBytes route x) ≡ bodyContent x
 unfolding bodyBytes byOperation
-content-told route (Body.Header h) = refl
-content-told route (Body.LotTotal t) = refl
-content-told route (Body.SessionTotal t) = refl
+content-told route (Body.opening h) = refl
+content-told route (Body.lotEnding t) = refl
+content-told route (Body.sessionEnding t) = refl
 
 -- so for whole messages and whole replies
 pub message-read : (e : Envelope) (x : Body) → tableTakes envelopeFields (envelopeValues e) ≡ true → tableTakes (layoutOf (e .route) x .fields) (valuesOf (e .route) x) ≡ true → let bytes = message e (bodyBytes (e .route) x) in (readEnvelope Kind.Message bytes ≡ envelopeSaid (ReadEnvelope.Read e)) × (readBody (layoutOf (e .route) x) (bodyOf bytes) ≡ reading 0 (valuesOf (e .route) x))
 message-read e x fe fx =
     let body = bodyBytes (e .route) x in
-    let fits = ap (λ (n : ℕ). lengthGood Kind.Message (envelopeBytes + n)) (body-length (e .route) x) ∙ short x in
+    let fits = ap (λ (n : ℕ). lengthGood Kind.Message (envelopeBytes + n)) (body-length (e .route) x) ∙ short (e .route) x in
     (envelope-written Kind.Message e body fe fits, ap (readBody (layoutOf (e .route) x)) (body-told Kind.Message e body) ∙ written-then-read (e .route) x fx)
 
 pub message-again : (e : Envelope) (x : Body) (bytes : List ℕ) → envelopeSaid (ReadEnvelope.Read e) ≡ readEnvelope Kind.Message bytes → reading 0 (valuesOf (e .route) x) ≡ readBody (layoutOf (e .route) x) (bodyOf bytes) → message e (bodyBytes (e .route) x) ≡ take envelopeBytes bytes ++ cleared (bodyOf bytes)
@@ -90,15 +88,15 @@ reply-again e r bytes he hr = λ i. envelope-again Kind.Reply bytes e he i ++ re
 example-envelope : Envelope
 example-envelope = record { route = record { date = 140328; presenting = 81; receiving = 72 }; serial = 1 }
 
-example-message : message example-envelope (bodyBytes (example-envelope .route) (Body.Header (record { time = 235959; centre = 1; number = 7 }))) ≡ 0x01 ∷ 0x14 ∷ 0x03 ∷ 0x28 ∷ 0x00 ∷ 0x81 ∷ 0x00 ∷ 0x72 ∷ 0x00 ∷ 0x00 ∷ 0x00 ∷ 0x01 ∷ 0x00 ∷ 0x51 ∷ 0x01 ∷ 0x00 ∷ 0x23 ∷ 0x59 ∷ 0x59 ∷ 0x14 ∷ 0x03 ∷ 0x28 ∷ 0x00 ∷ 0x81 ∷ 0x00 ∷ 0x72 ∷ 0x00 ∷ 0x01 ∷ 0x00 ∷ 0x07 ∷ 0x00 ∷ []
+example-message : message example-envelope (bodyBytes (example-envelope .route) (Body.opening (record { time = 235959; centre = 1; number = 7 }))) ≡ 0x01 ∷ 0x14 ∷ 0x03 ∷ 0x28 ∷ 0x00 ∷ 0x81 ∷ 0x00 ∷ 0x72 ∷ 0x00 ∷ 0x00 ∷ 0x00 ∷ 0x01 ∷ 0x00 ∷ 0x51 ∷ 0x01 ∷ 0x00 ∷ 0x23 ∷ 0x59 ∷ 0x59 ∷ 0x14 ∷ 0x03 ∷ 0x28 ∷ 0x00 ∷ 0x81 ∷ 0x00 ∷ 0x72 ∷ 0x00 ∷ 0x01 ∷ 0x00 ∷ 0x07 ∷ 0x00 ∷ []
 unfolding example-envelope bodyBytes envelopeFields headerFields tableWritten packedBytes packedByte
 example-message = refl
 
-example-lot-total : bodyBytes (example-envelope .route) (Body.LotTotal (record { number = 7; stated = totals 1 15000 30 })) ≡ 0x00 ∷ 0x51 ∷ 0x80 ∷ 0x00 ∷ 0x07 ∷ 0x00 ∷ 0x00 ∷ 0x01 ∷ 0x00 ∷ 0x00 ∷ 0x00 ∷ 0x00 ∷ 0x00 ∷ 0x01 ∷ 0x50 ∷ 0x00 ∷ 0x00 ∷ 0x00 ∷ 0x00 ∷ 0x00 ∷ 0x00 ∷ 0x30 ∷ []
+example-lot-total : bodyBytes (example-envelope .route) (Body.lotEnding (record { number = 7; stated = totals 1 15000 30 })) ≡ 0x00 ∷ 0x51 ∷ 0x80 ∷ 0x00 ∷ 0x07 ∷ 0x00 ∷ 0x00 ∷ 0x01 ∷ 0x00 ∷ 0x00 ∷ 0x00 ∷ 0x00 ∷ 0x00 ∷ 0x01 ∷ 0x50 ∷ 0x00 ∷ 0x00 ∷ 0x00 ∷ 0x00 ∷ 0x00 ∷ 0x00 ∷ 0x30 ∷ []
 unfolding bodyBytes lotTotalFields tableWritten packedBytes packedByte
 example-lot-total = refl
 
-example-session-total : bodyBytes (example-envelope .route) (Body.SessionTotal (record { number = 1; stated = totals 1 15000 30 })) ≡ 0x00 ∷ 0x51 ∷ 0x90 ∷ 0x00 ∷ 0x01 ∷ 0x00 ∷ 0x00 ∷ 0x00 ∷ 0x01 ∷ 0x00 ∷ 0x00 ∷ 0x00 ∷ 0x00 ∷ 0x00 ∷ 0x00 ∷ 0x01 ∷ 0x50 ∷ 0x00 ∷ 0x00 ∷ 0x00 ∷ 0x00 ∷ 0x00 ∷ 0x00 ∷ 0x00 ∷ 0x30 ∷ []
+example-session-total : bodyBytes (example-envelope .route) (Body.sessionEnding (record { number = 1; stated = totals 1 15000 30 })) ≡ 0x00 ∷ 0x51 ∷ 0x90 ∷ 0x00 ∷ 0x01 ∷ 0x00 ∷ 0x00 ∷ 0x00 ∷ 0x01 ∷ 0x00 ∷ 0x00 ∷ 0x00 ∷ 0x00 ∷ 0x00 ∷ 0x00 ∷ 0x01 ∷ 0x50 ∷ 0x00 ∷ 0x00 ∷ 0x00 ∷ 0x00 ∷ 0x00 ∷ 0x00 ∷ 0x00 ∷ 0x30 ∷ []
 unfolding bodyBytes sessionTotalFields tableWritten packedBytes packedByte
 example-session-total = refl
 
