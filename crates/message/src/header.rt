@@ -16,9 +16,12 @@ ghost use mathlib.Core.Path.{_≡_};
 ghost use Prim.Native.Nat.{_≤_};
 ghost use lib.ListN.{length};
 ghost use lib.Seq.{sets};
-ghost use Rattle.message.specs.Limits.{headerBytes};
+ghost use Rattle.codes.specs.declared.reply.Code.{Code};
+ghost use Rattle.codes.specs.Reply.{codeNumber};
+ghost use Rattle.codes.specs.Field.{tableGood};
+ghost use Rattle.message.specs.Limits.{firstPosition, headerBytes};
 ghost use Rattle.message.specs.Layout.{readBody, writtenBody};
-ghost use Rattle.message.specs.Header.{timeOfDay, orderNumber, header, headerValues, headerOf, headerSaid, sendable};
+ghost use Rattle.message.specs.Header.{timeOfDay, orderNumber, headerFields, header, headerValues, headerOf, headerSaid, sendable};
 
 pub const HEADER_BYTES: usize = 19;
 
@@ -81,18 +84,26 @@ fn fields_of(body: &[u8]) -> Header
     }
 }
 
+// Whether every field is good, of a body whose numbers are these.
+fn fields_good(body: &[u8], h: Header, route: Route) -> bool
+    requires { ⌜ headerBytes ≤ length (now body) ⌝ }
+    requires { ⌜ h ≡ headerOf (now body) ⌝ }
+    ensures { λ r. ⌜ r ≡ tableGood firstPosition (codeNumber Code.WrongField) (headerFields route) (now (body .entry)) ⌝ }
+{
+    are_digits(body, FIELDS, DIGITS)
+        & time_of_day(h.time)
+        & same_route(read_route(body, ROUTE), route)
+        & order_number(h.number)
+        & (number(body, ZERO, 1) == 0)
+}
+
 // A received body, in a direction of this route.
 pub fn read_header(body: &[u8], route: Route) -> ReadHeader
     ensures { λ r. ⌜ headerSaid route r ≡ readBody (header route) (now (body .entry)) ⌝ }
 {
     if shape_good(body, HEADER_BYTES, HEADER) {
         let h = fields_of(body);
-        if are_digits(body, FIELDS, DIGITS)
-            & time_of_day(h.time)
-            & same_route(read_route(body, ROUTE), route)
-            & order_number(h.number)
-            & (number(body, ZERO, 1) == 0)
-        {
+        if fields_good(body, h, route) {
             return ReadHeader::Read(h);
         }
     }

@@ -6,7 +6,7 @@ use Prim.Native.Nat.{ℕ, _^_, _/_, _%_, _<_}
 use native.Mathlib.Omega.{arith}
 use lib.Dec.{leb, ltb}
 use lib.ListN.{getD}
-use borrow.Author.Tests.{lt-ltb, ltb-true, leb-true, eq-eqb}
+use borrow.Author.Tests.{lt-ltb, ltb-true, leb-true, eq-eqb, eqb-true}
 use Rattle.packed.specs.Part.{part}
 use Rattle.packed.specs.Every.{every}
 use Rattle.packed.specs.Digits.{areDigits}
@@ -21,6 +21,7 @@ use Rattle.message.specs.declared.header.ReadHeader.{ReadHeader}
 use Rattle.message.specs.Layout.{bodyCode, readBody, writtenBody}
 use Rattle.message.specs.Route.{routeValues, routeAt, sameRoute}
 use Rattle.message.specs.Header.{timeOfDay, orderNumber, headerFields, header, headerValues, headerOf, headerSaid, sendable}
+use Rattle.message.proofs.Laws.Route.{same}
 use Rattle.message.proofs.Laws.Reading.{told}
 use Rattle.message.proofs.Laws.Layout.{Whole, written-then-read}
 
@@ -37,20 +38,27 @@ module _ (route : Route) where
   unfolding headerFields earning every
   no-amounts s = refl
 
-  -- a body of this route that ends with zero holds these numbers
-  pub read-numbers : (s : List ℕ) → routeAt 7 s ≡ route → number (part 18 1 s) ≡ 0 → headerValues route (headerOf s) ≡ tableNumbers 1 (headerFields route) s
-  unfolding headerFields
-  read-numbers s r z = let h = headerOf s in λ i. h .time ∷ routeValues (sym r i) ++ h .centre ∷ h .number ∷ sym z i ∷ []
-
-  -- a reader that has the header, its route and its last byte, and has tested them
-  pub tests-decide : (h : Header) (read : Route) (last : ℕ) (digits time same order t : Bool) (s : List ℕ) → h ≡ headerOf s → read ≡ routeAt 7 s → last ≡ number (part 18 1 s) → digits ≡ areDigits (part 3 16 s) → time ≡ timeOfDay (h .time) → same ≡ sameRoute read route → order ≡ orderNumber (h .number) → digits && time && same && order && exactly 0 last ≡ t → tableGood 1 1 (headerFields route) s ≡ t
+  -- digits, time, route, order number and zero decide
+  pub fields-split : (s : List ℕ) → tableGood 1 1 (headerFields route) s ≡ areDigits (part 3 16 s) && timeOfDay (headerOf s .time) && sameRoute (routeAt 7 s) route && orderNumber (headerOf s .number) && exactly 0 (number (part 18 1 s))
   unfolding headerFields earning every digitRuns total
-  tests-decide h read last digits time same order t s k r z d m p o e =
+  fields-split s =
+      let h = headerOf s in
+      let r = routeAt 7 s in
+      let rules = timeOfDay (h .time) && (exactly (route .date) (r .date) && (exactly (route .presenting) (r .presenting) && (exactly (route .receiving) (r .receiving) && (orderNumber (h .number) && (exactly 0 (number (part 18 1 s)) && true))))) in
       table-split 1 1 (headerFields route) s
-      ∙ (λ i. (runs-join 3 (4 ∷ 3 ∷ 2 ∷ 2 ∷ 2 ∷ 2 ∷ 1 ∷ []) s true ∙ and-true (areDigits (part 3 16 s)) ∙ sym d) i && (timeOfDay (sym k i .time) && (exactly (route .date) (sym r i .date) && (exactly (route .presenting) (sym r i .presenting) && (exactly (route .receiving) (sym r i .receiving) && (orderNumber (sym k i .number) && (exactly 0 (sym z i) && true)))))))
-      ∙ listed digits (timeOfDay (h .time)) (exactly (route .date) (read .date)) (exactly (route .presenting) (read .presenting)) (exactly (route .receiving) (read .receiving)) (orderNumber (h .number)) (exactly 0 last)
-      ∙ (λ i. digits && sym m i && sym p i && sym o i && exactly 0 last)
-      ∙ e
+      ∙ ap (λ (t : Bool). t && rules) (runs-join 3 (4 ∷ 3 ∷ 2 ∷ 2 ∷ 2 ∷ 2 ∷ 1 ∷ []) s true ∙ and-true (areDigits (part 3 16 s)))
+      ∙ listed (areDigits (part 3 16 s)) (timeOfDay (h .time)) (exactly (route .date) (r .date)) (exactly (route .presenting) (r .presenting)) (exactly (route .receiving) (r .receiving)) (orderNumber (h .number)) (exactly 0 (number (part 18 1 s)))
+
+  -- a body of good fields holds the route and ends with zero, and so has the numbers of the header that is read of it
+  pub good-numbers : (s : List ℕ) → tableGood 1 1 (headerFields route) s ≡ true → headerValues route (headerOf s) ≡ tableNumbers 1 (headerFields route) s
+  unfolding headerFields
+  good-numbers s e =
+      let h = headerOf s in
+      let first = areDigits (part 3 16 s) && timeOfDay (h .time) in
+      let last = three (first && sameRoute (routeAt 7 s) route) (orderNumber (h .number)) (exactly 0 (number (part 18 1 s))) (sym (fields-split s) ∙ e) in
+      let r = same (routeAt 7 s) route (both first (sameRoute (routeAt 7 s) route) (last .0) .1) in
+      let z = eqb-true (number (part 18 1 s)) 0 (last .2) in
+      λ i. h .time ∷ routeValues (sym r i) ++ h .centre ∷ h .number ∷ sym z i ∷ []
 
   -- numbers that a header can carry
   pub in-range : (h : Header) → route .date < 100 ^ 3 → route .presenting < 100 ^ 2 → route .receiving < 100 ^ 2 → sendable (h .time) (h .centre) (h .number) ≡ true → tableTakes (headerFields route) (headerValues route h) ≡ true
