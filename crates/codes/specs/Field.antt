@@ -29,6 +29,7 @@ between least most v = leb least v && leb v most
 abbrev pub exactly : (wanted v : ℕ) → Bool
 exactly wanted v = eqb v wanted
 
+-- a row, by the code of its fault
 abbrev pub row : (code position width : ℕ) → (ℕ → Bool) → Field
 row c p w rule = record { position = p; width = w; code = c; rule = rule }
 

@@ -45,7 +45,7 @@ codeByte c = packedByte (codeNumber c)
 unfoldable pub readCode : ℕ → ReadCode
 readCode b = numbered codeByte ReadCode.Known ReadCode.Unknown codes b
 
--- a byte that carries a code
+-- whether a byte carries a code
 abbrev pub isKnown : ReadCode → Bool
 isKnown (ReadCode.Known c) = true
 isKnown ReadCode.Unknown = false

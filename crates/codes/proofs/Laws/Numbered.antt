@@ -1,4 +1,5 @@
--- Laws of a search by number: what is found has the number. One that has come to place i of a table: it ends at the number's own thing, goes on past another, and finds nothing at the end.
+-- Laws of a search by number: what is found has the number; and a search that has come to place i of a table ends at the number's own thing,
+-- goes on past another, and finds nothing at the end.
 use mathlib.Core.Path.{_≡_, refl, sym}
 use mathlib.Core.Bool.{Bool, true, false, cond}
 use mathlib.Core.List.{List, [], _∷_}
