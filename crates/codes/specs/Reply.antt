@@ -52,3 +52,7 @@ isKnown ReadCode.Unknown = false
 
 unfoldable pub knownCode : ℕ → Bool
 knownCode b = isKnown (readCode b)
+
+-- the code of a number; 01 where no code has it, so that nothing but 0 accepts
+unfoldable pub codeOf : ℕ → Code
+codeOf n = numbered codeNumber (λ (c : Code). c) Code.WrongField codes n

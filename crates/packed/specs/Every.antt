@@ -1,8 +1,13 @@
--- A test at every element of a list.
-use mathlib.Core.Bool.{Bool, true, _&&_}
+-- A test at every element of a list, or at any one of them.
+use mathlib.Core.Bool.{Bool, true, false, _&&_, _||_}
 use mathlib.Core.List.{List, [], _∷_}
 
 -- whether p holds of each element
 unfoldable pub every {ℓ} : {A : Type ℓ} → (A → Bool) → List A → Bool
 every p [] = true
 every p (x ∷ xs) = p x && every p xs
+
+-- whether p holds of one element at least
+unfoldable pub anyOf {ℓ} : {A : Type ℓ} → (A → Bool) → List A → Bool
+anyOf p [] = false
+anyOf p (x ∷ xs) = p x || anyOf p xs

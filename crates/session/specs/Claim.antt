@@ -1,0 +1,76 @@
+-- Demand 3, 01's 'Both ends together': what holds of a direction, in which one end presents and the other receives, after any list of calls.
+-- The theorem is `agreement` of proofs/Agreement. docs/AGREEMENT.md leads from the demand's sentences to the fields.
+use Prim.Native.Nat.{ℕ}
+use mathlib.Core.Path.{_≡_}
+use mathlib.Core.List.{List, [], _∷_, _++_}
+use mathlib.Core.Logic.{_⊎_}
+use mathlib.Core.Option.{some}
+use Rattle.session.specs.declared.report.Tally.{Tally}
+use Rattle.session.specs.declared.report.Awaited.{Awaited}
+use Rattle.session.specs.declared.report.Report.{Report}
+use Rattle.session.specs.Report.{report}
+use Rattle.session.specs.Running.{gather}
+use Rattle.session.specs.Premise.{Direction, Sound, Carried}
+use Rattle.session.specs.Ledger.{LedgerLot, lotSum, tallied, numbers, Distinct, due}
+use Rattle.session.specs.Ends.{End, other, Call, Engine, Event, World, presenterBook, receiverBook}
+
+-- counted lots are the receiver's list, confirmed ones the presenter's
+abbrev pub confirmed : World → End → List LedgerLot
+confirmed w p = presenterBook p (w .trace) .ledger .lots
+
+abbrev pub counted : World → End → List LedgerLot
+counted w p = receiverBook (other p) (w .trace) .ledger .lots
+
+-- the report at an end
+abbrev pub reportAt : World → End → Report
+reportAt w x = report (w .engine x .session)
+
+-- the two ends' totals of the direction
+abbrev pub presentedTally : World → End → Tally
+presentedTally w p = reportAt w p .presented
+
+abbrev pub receivedTally : World → End → Tally
+receivedTally w p = reportAt w (other p) .received
+
+-- the same lots, with the same documents and operations in the same order, and so the same totals
+pub record Level (w : World) (p : End) : Type 0 where
+  pub lots : counted w p ≡ confirmed w p
+  pub totals : receivedTally w p ≡ presentedTally w p
+
+-- the presenter's report names a lot, and the receiver has counted the confirmed ones and then that one
+pub record Ahead (w : World) (p : End) : Type 0 where
+  pub lot : LedgerLot
+  pub named : reportAt w p .awaited ≡ Awaited.LotTotal (lotSum lot)
+  pub lots : counted w p ≡ confirmed w p ++ lot ∷ []
+  pub totals : receivedTally w p .gathered ≡ gather (presentedTally w p .gathered) (lotSum lot .gathered)
+
+-- the latest call was a reply call at this end, and was not refused
+pub record JustReplied (w : World) (p : End) : Type 0 where
+  pub time : ℕ
+  pub bytes : List ℕ
+  pub said : List ℕ
+  pub earlier : List Event
+  pub latest : w .trace ≡ record { at = p; call = Call.reply time bytes; said = record { number = 0; bytes = said } } ∷ earlier
+
+-- the premise of every contract, at one end
+pub record Ready (e : Engine) : Type 0 where
+  pub sound : Sound (e .session)
+  pub presenting : Carried Direction.presenting (e .session) (e .presenting)
+  pub receiving : Carried Direction.receiving (e .session) (e .receiving)
+
+pub record Agreement (w : World) (p : End) : Type 0 where
+  -- 'the two ends' books agree, or differ by exactly one lot that the presenter's report names'
+  pub agreed : Level w p ⊎ Ahead w p
+  -- 'no number stands twice in either'
+  pub counted-once : Distinct (numbers (counted w p))
+  pub confirmed-once : Distinct (numbers (confirmed w p))
+  -- 'a report's totals are the counts and sums over its end's lists'
+  pub presented : presentedTally w p ≡ tallied (confirmed w p)
+  pub received : receivedTally w p ≡ tallied (counted w p)
+  -- 'it names the presenter's open lot exactly from the unrefused send of its total until the unrefused reply call for it'
+  pub named : reportAt w p .awaited ≡ due (presenterBook p (w .trace))
+  -- 'demand 3's last sentence holds right after that call': nothing is named, and the ends are level
+  pub settled : JustReplied w p → (reportAt w p .awaited ≡ Awaited.Neither) × Level w p
+  -- the theorem is about the engine that runs: the premise of every call holds at both ends
+  pub ready : Ready (w .engine p)
+  pub ready-other : Ready (w .engine (other p))

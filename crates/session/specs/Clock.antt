@@ -1,0 +1,18 @@
+-- 01, 'Course of a direction': the clock call, and how a session closes.
+use Prim.Native.Nat.{ℕ}
+use mathlib.Core.Bool.{_&&_, cond}
+use Rattle.session.specs.declared.session.Close.{Close}
+use Rattle.session.specs.declared.session.Session.{Session}
+use Rattle.session.specs.Hours.{atClose}
+use Rattle.session.specs.Call.{Held, Outcome, decided, silent, clockRefusal}
+
+-- in order if both session totals are accepted as this centre knows, else forced
+abbrev pub closing : Session → Close
+closing s = cond (s .presenting .ended && s .receiving .ended) Close.Ordered Close.Forced
+
+-- the last seen time moves, and at the hour the close; nothing else does, so what is pending stays
+abbrev pub ticked : (time : ℕ) → Session → Session
+ticked time s = record { parties = s .parties; presenting = s .presenting; receiving = s .receiving; seen = time; close = cond (atClose time) (closing s) (s .close) }
+
+unfoldable pub clock : (time : ℕ) → Held → Outcome
+clock time h = decided (clockRefusal time (h .session)) h (silent (record { session = ticked time (h .session); running = h .running; line = h .line }))

@@ -1,0 +1,35 @@
+-- 01, 'Centres and directions': the hours, in seconds of the day.
+use Prim.Native.Nat.{ℕ}
+use mathlib.Core.Bool.{Bool, _&&_}
+use lib.Dec.{leb, ltb}
+
+abbrev pub opening : ℕ
+opening = 75600  -- 21:00
+
+abbrev pub preclose : ℕ
+preclose = 83700  -- 23:15
+
+abbrev pub close : ℕ
+close = 84600  -- 23:30
+
+abbrev pub lastSecond : ℕ
+lastSecond = 86399
+
+abbrev pub pastDay : ℕ → Bool
+pastDay time = ltb lastSecond time
+
+-- when messages and replies go to and fro
+abbrev pub withinHours : ℕ → Bool
+withinHours time = leb opening time && ltb time close
+
+-- when a presenter sends no more headers, by its own clock
+abbrev pub presenterLate : ℕ → Bool
+presenterLate time = leb preclose time
+
+-- when a receiver accepts none, by its own
+abbrev pub receiverLate : ℕ → Bool
+receiverLate time = leb preclose time
+
+-- when a clock call closes
+abbrev pub atClose : ℕ → Bool
+atClose time = leb close time

@@ -1,0 +1,152 @@
+-- 01, 'Both ends together': the books of a direction, one at each end. They are made of what the calls were given and of what they answered,
+-- never of a session.
+use Prim.Native.Nat.{ℕ, _+_}
+use mathlib.Core.Path.{_≡_}
+use mathlib.Core.Bool.{Bool, true, false, _||_, cond}
+use mathlib.Core.List.{List, [], _∷_, _++_, map}
+use mathlib.Core.Option.{Option, none, some}
+use lib.Dec.{eqb}
+use lib.ListN.{length}
+use Rattle.packed.specs.Pieces.{pieces}
+use Rattle.packed.specs.Writing.{packedByte}
+use Rattle.codes.specs.Body.{operationOf}
+use Rattle.document.specs.Limits.{documentBytes}
+use Rattle.document.specs.Entities.{member}
+use Rattle.detail.specs.Groups.{documents}
+use Rattle.message.specs.declared.content.Content.{Content}
+use Rattle.message.specs.Content.{contentOf}
+use Rattle.message.specs.Header.{headerOf}
+use Rattle.session.specs.declared.counters.Lot.{Lot}
+use Rattle.session.specs.declared.report.Tally.{Tally}
+use Rattle.session.specs.declared.report.Awaited.{Awaited}
+use Rattle.session.specs.Running.{Running, empty, gather, detailAdds}
+
+-- a document to the byte, its key included, and its operation as the byte of its group
+pub record Document : Type 0 where
+  pub operation : ℕ
+  pub bytes : List ℕ
+
+pub record LedgerLot : Type 0 where
+  pub number : ℕ
+  pub documents : List Document
+
+-- a list of lots, and an open one or none
+pub record Ledger : Type 0 where
+  pub lots : List LedgerLot
+  pub current : Option LedgerLot
+
+abbrev pub blank : Ledger
+blank = record { lots = []; current = none }
+
+-- a message as the ledger sees it
+pub data Entry : Type 0 where
+  opens : (number : ℕ) → Entry
+  adds : List Document → Entry
+  endsLot : Entry
+  endsDirection : Entry
+  nothing : Entry
+
+-- the open lot with more documents
+abbrev pub longer : List Document → Option LedgerLot → Option LedgerLot
+longer ds none = none
+longer ds (some l) = some (record { number = l .number; documents = l .documents ++ ds })
+
+-- the list with the open lot at its end
+abbrev pub closed : List LedgerLot → Option LedgerLot → List LedgerLot
+closed lots none = lots
+closed lots (some l) = lots ++ l ∷ []
+
+unfoldable pub enter : Entry → (accepted : Bool) → Ledger → Ledger
+-- On 00 a header opens a lot, a detail adds its documents in order, a lot total moves the open lot to the list's end.
+enter (Entry.opens number) true b = record { lots = b .lots; current = some (record { number = number; documents = [] }) }
+enter (Entry.adds ds) true b = record { lots = b .lots; current = longer ds (b .current) }
+enter Entry.endsLot true b = record { lots = closed (b .lots) (b .current); current = none }
+-- On another code a lot total drops the open lot.
+enter Entry.endsLot false b = record { lots = b .lots; current = none }
+-- Else the book stays.
+enter (Entry.opens number) false b = b
+enter (Entry.adds ds) false b = b
+enter Entry.endsDirection accepted b = b
+enter Entry.nothing accepted b = b
+
+-- documents of one operation
+abbrev pub ofOperation : (operation : ℕ) → List (List ℕ) → List Document
+ofOperation operation ds = map (λ (d : List ℕ). record { operation = operation; bytes = d }) ds
+
+-- what a part is sent as, and what a body was received as
+abbrev pub partEntry : (operation : ℕ) (part : List ℕ) → Entry
+partEntry operation part = Entry.adds (ofOperation (packedByte operation) (pieces documentBytes part))
+
+unfoldable pub entryBy : Content → (body : List ℕ) → Entry
+entryBy Content.Header body = Entry.opens (headerOf body .number)
+entryBy Content.Detail body = Entry.adds (ofOperation (operationOf body) (documents body))
+entryBy Content.LotTotal body = Entry.endsLot
+entryBy Content.SessionTotal body = Entry.endsDirection
+entryBy Content.Unknown body = Entry.nothing
+
+abbrev pub bodyEntry : (body : List ℕ) → Entry
+bodyEntry body = entryBy (contentOf body) body
+
+-- counts and sums: of documents, of a lot, of a list of lots
+unfoldable pub sum : List Document → Running
+sum [] = empty
+sum (d ∷ ds) = gather (detailAdds (d .operation) (d .bytes ∷ [])) (sum ds)
+
+abbrev pub lotSum : LedgerLot → Lot
+lotSum l = record { number = l .number; gathered = sum (l .documents) }
+
+unfoldable pub lotsSum : List LedgerLot → Running
+lotsSum [] = empty
+lotsSum (l ∷ ls) = gather (sum (l .documents)) (lotsSum ls)
+
+abbrev pub tallied : List LedgerLot → Tally
+tallied ls = record { lots = length ls; gathered = lotsSum ls }
+
+abbrev pub numbers : List LedgerLot → List ℕ
+numbers ls = map (λ (l : LedgerLot). l .number) ls
+
+-- no number stands twice
+abbrev pub Distinct : List ℕ → Type 0
+Distinct [] = Unit {0}
+Distinct (n ∷ ns) = (member n ns ≡ false) × Distinct ns
+
+-- the presenter's book: the ledger, and the message whose reply is still to come
+pub record PresenterBook : Type 0 where
+  pub ledger : Ledger
+  pub waiting : Option Entry
+
+-- an unrefused send is waiting; the unrefused reply call enters it
+abbrev pub waitingFor : Entry → PresenterBook → PresenterBook
+waitingFor e b = record { ledger = b .ledger; waiting = some e }
+
+abbrev pub enterWaiting : (accepted : Bool) → Option Entry → Ledger → Ledger
+enterWaiting accepted none b = b
+enterWaiting accepted (some e) b = enter e accepted b
+
+abbrev pub answeredWith : (accepted : Bool) → PresenterBook → PresenterBook
+answeredWith accepted b = record { ledger = enterWaiting accepted (b .waiting) (b .ledger); waiting = none }
+
+-- what a report has to name: the open lot while its total waits, or a session total that waits
+abbrev pub namedLot : Option LedgerLot → Awaited
+namedLot none = Awaited.Neither
+namedLot (some l) = Awaited.LotTotal (lotSum l)
+
+abbrev pub namedBy : Option Entry → Option LedgerLot → Awaited
+namedBy (some Entry.endsLot) current = namedLot current
+namedBy (some Entry.endsDirection) current = Awaited.SessionTotal
+namedBy (some (Entry.opens number)) current = Awaited.Neither
+namedBy (some (Entry.adds ds)) current = Awaited.Neither
+namedBy (some Entry.nothing) current = Awaited.Neither
+namedBy none current = Awaited.Neither
+
+abbrev pub due : PresenterBook → Awaited
+due b = namedBy (b .waiting) (b .ledger .current)
+
+-- the receiver's book: the ledger, and the serials that were received
+pub record ReceiverBook : Type 0 where
+  pub ledger : Ledger
+  pub serials : List ℕ
+
+-- a message is entered when its serial is first received
+abbrev pub received : (serial : ℕ) → Entry → (accepted : Bool) → ReceiverBook → ReceiverBook
+received serial e accepted b = cond (member serial (b .serials)) b (record { ledger = enter e accepted (b .ledger); serials = serial ∷ b .serials })

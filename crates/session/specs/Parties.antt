@@ -1,0 +1,42 @@
+-- 01, 'Centres and directions': the date and the entities of a session, and the two ways between them.
+use Prim.Native.Nat.{ℕ, _-_, _/_, _%_}
+use mathlib.Core.Bool.{Bool, not, _&&_, _||_}
+use mathlib.Core.List.{List, []}
+use lib.Dec.{eqb, leb}
+use lib.ListN.{length, take, replicate}
+use lib.Seq.{sets}
+use Rattle.document.specs.Limits.{mostRepresented}
+use Rattle.document.specs.Rules.{dayAndMonth}
+use Rattle.document.specs.Entities.{isEntity, entitiesGood}
+use Rattle.message.specs.declared.route.Route.{Route}
+use Rattle.session.specs.declared.parties.Parties.{Parties}
+
+-- a day of the years 2000 to 2099 as DDMMYY; of these every fourth, from 2000 on, has a 29 February
+unfoldable pub realDate : ℕ → Bool
+realDate date = leb date 999999 && dayAndMonth (date / 100) && (not (eqb (date / 100) 2902) || eqb (date % 4) 0)
+
+-- what a start accepts: a real date, and two different entities
+unfoldable pub partiesGood : (date own partner : ℕ) (represented : List ℕ) → Bool
+partiesGood date own partner represented = realDate date && entitiesGood own represented && isEntity partner && not (eqb own partner)
+
+-- represented entities in the places that a session has for them
+unfoldable pub padded : List ℕ → List ℕ
+padded represented = sets (replicate mostRepresented 0) 0 represented
+
+abbrev pub partiesOf : (date own partner : ℕ) (represented : List ℕ) → Parties
+partiesOf date own partner represented = record { date = date; own = own; partner = partner; represented = padded represented; count = length represented }
+
+-- parties of no session
+abbrev pub nobody : Parties
+nobody = partiesOf 0 0 0 []
+
+-- the represented entities, without the places that are not used
+abbrev pub representedBy : Parties → List ℕ
+representedBy p = take (p .count) (p .represented)
+
+-- the way of what the centre presents, and of what it receives
+abbrev pub outgoing : Parties → Route
+outgoing p = record { date = p .date; presenting = p .own; receiving = p .partner }
+
+abbrev pub incoming : Parties → Route
+incoming p = record { date = p .date; presenting = p .partner; receiving = p .own }

@@ -1,0 +1,90 @@
+-- The one premise of a call (01, 'Centres and directions'): the state and the running totals are those that a start and the calls since
+-- have left. A start gives a sound session, and every call keeps both parts: the laws of proofs/Laws/Sound.
+use Prim.Native.Nat.{ℕ, _+_, _*_, _≤_, _<_}
+use mathlib.Core.Path.{_≡_}
+use mathlib.Core.Bool.{true}
+use lib.ListN.{length}
+use Rattle.document.specs.Limits.{largestEntity, mostRepresented}
+use Rattle.message.specs.Limits.{largestSerial, largestNumber}
+use Rattle.session.specs.declared.counters.OpenLot.{OpenLot}
+use Rattle.session.specs.declared.counters.Counters.{Counters}
+use Rattle.session.specs.declared.effect.Effect.{Effect}
+use Rattle.session.specs.declared.parties.Parties.{Parties}
+use Rattle.session.specs.declared.session.Session.{Session}
+use Rattle.session.specs.Limits.{lotDocuments, mostLots}
+use Rattle.session.specs.Running.{Running, empty, gather, documentsIn}
+use Rattle.session.specs.Sequence.{isOpen}
+
+-- the largest amounts of a document
+abbrev pub largestNominal : ℕ
+largestNominal = 999999999999
+
+abbrev pub largestCommission : ℕ
+largestCommission = 99999999
+
+-- amounts of at most so many documents
+pub record Fits (most : ℕ) (r : Running) : Type 0 where
+  pub documents : documentsIn r ≤ most
+  pub nominal : r .nominal .0 ≤ documentsIn r * largestNominal
+  pub commission : r .commission .0 ≤ documentsIn r * largestCommission
+
+-- an open lot has an order number, and room among the accepted ones
+abbrev pub OpenSound : OpenLot → (lots : ℕ) → Type 0
+OpenSound OpenLot.None lots = Unit {0}
+OpenSound (OpenLot.Numbered n) lots = (n ≤ largestNumber) × (lots < mostLots)
+
+pub record CountersSound (c : Counters) : Type 0 where
+  pub lots : c .lots ≤ mostLots
+  pub open-lot : OpenSound (c .current) (c .lots)
+  pub gathered : Fits (c .lots * lotDocuments) (c .gathered)
+
+-- a pending header may open its lot; a pending detail or lot total has an open one
+abbrev pub PendingSound : Effect → Counters → Type 0
+PendingSound Effect.Nothing c = Unit {0}
+PendingSound (Effect.Header n) c = (n ≤ largestNumber) × (c .lots < mostLots)
+PendingSound (Effect.Detail more) c = isOpen (c .current) ≡ true
+PendingSound (Effect.LotTotal lot) c = c .current ≡ OpenLot.Numbered (lot .number)
+PendingSound Effect.SessionTotal c = Unit {0}
+
+pub record PartiesSound (p : Parties) : Type 0 where
+  pub date : p .date < 1000000
+  pub own : p .own ≤ largestEntity
+  pub partner : p .partner ≤ largestEntity
+  pub represented : p .count ≤ mostRepresented
+
+-- the first part: of a session
+pub record Sound (s : Session) : Type 0 where
+  pub parties : PartiesSound (s .parties)
+  pub sent : s .presenting .serial ≤ largestSerial
+  pub received : s .receiving .serial ≤ largestSerial
+  pub presenting : CountersSound (s .presenting .counters)
+  pub receiving : CountersSound (s .receiving .counters)
+  pub pending : PendingSound (s .presenting .pending) (s .presenting .counters)
+  pub places : length (s .receiving .lots) ≡ mostLots
+
+-- the two directions of a centre, with the counters and what is pending in each
+pub data Direction : Type 0 where
+  presenting : Direction
+  receiving : Direction
+
+abbrev pub countersOf : Direction → Session → Counters
+countersOf Direction.presenting s = s .presenting .counters
+countersOf Direction.receiving s = s .receiving .counters
+
+abbrev pub pendingOf : Direction → Session → Effect
+pendingOf Direction.presenting s = s .presenting .pending
+pendingOf Direction.receiving s = Effect.Nothing
+
+-- a pending detail leaves the lot within its limit, and a pending lot total says what was gathered
+abbrev pub PendingCarried : Effect → Running → Type 0
+PendingCarried Effect.Nothing t = Unit {0}
+PendingCarried (Effect.Header n) t = Unit {0}
+PendingCarried (Effect.Detail more) t = Fits lotDocuments (gather t more)
+PendingCarried (Effect.LotTotal lot) t = lot .gathered ≡ t
+PendingCarried Effect.SessionTotal t = Unit {0}
+
+-- the second part: of the running totals that are lent for a direction
+pub record Carried (d : Direction) (s : Session) (t : Running) : Type 0 where
+  pub none-open : countersOf d s .current ≡ OpenLot.None → t ≡ empty
+  pub fits : Fits lotDocuments t
+  pub pending : PendingCarried (pendingOf d s) t

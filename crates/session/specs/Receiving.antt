@@ -1,0 +1,154 @@
+-- 01, 'Course of a direction' and 'Order, first that applies': a message that arrives.
+use Prim.Native.Nat.{ℕ, suc, _+_}
+use mathlib.Core.Bool.{Bool, not, _&&_, _||_, cond}
+use mathlib.Core.List.{List}
+use lib.Dec.{eqb}
+use lib.ListN.{take}
+use Rattle.packed.specs.Every.{anyOf}
+use Rattle.amounts.specs.declared.Totals.{Totals}
+use Rattle.amounts.specs.Totals.{same}
+use Rattle.codes.specs.Chain.{_when_, _orelse_}
+use Rattle.codes.specs.Reply.{codeOf}
+use Rattle.codes.specs.Body.{operationOf}
+use Rattle.detail.specs.Groups.{documents}
+use Rattle.detail.specs.Codes.{receiverCode}
+use Rattle.message.specs.declared.content.Content.{Content}
+use Rattle.message.specs.declared.envelope.Kind.{Kind}
+use Rattle.message.specs.declared.reply.Reply.{Reply}
+use Rattle.message.specs.declared.total.Total.{Total}
+use Rattle.message.specs.Limits.{envelopeBytes, replyBytes}
+use Rattle.message.specs.Route.{sameRoute}
+use Rattle.message.specs.Envelope.{envelopeGood, envelopeOf, bodyOf}
+use Rattle.message.specs.Content.{contentOf}
+use Rattle.message.specs.Layout.{bodyCode}
+use Rattle.message.specs.Header.{header, headerOf}
+use Rattle.message.specs.Total.{lotTotal, lotTotalFields, sessionTotal, sessionTotalFields, totalOf}
+use Rattle.message.specs.Reply.{replyOperation}
+use Rattle.message.specs.Line.{wholeReply}
+use Rattle.session.specs.declared.counters.Lot.{Lot}
+use Rattle.session.specs.declared.counters.Counters.{Counters}
+use Rattle.session.specs.declared.effect.Effect.{Effect}
+use Rattle.session.specs.declared.parties.Parties.{Parties}
+use Rattle.session.specs.declared.session.Receiving.{Receiving}
+use Rattle.session.specs.declared.session.Session.{Session}
+use Rattle.session.specs.Limits.{passesLot, lotsUsed}
+use Rattle.session.specs.Hours.{receiverLate}
+use Rattle.session.specs.Parties.{representedBy, incoming}
+use Rattle.session.specs.Running.{Running, detailAdds, stated, documentsIn}
+use Rattle.session.specs.Course.{Course, advance, ends, kept}
+use Rattle.session.specs.Sequence.{headerSequence, openSequence, lotTotalSequence, sessionTotalSequence}
+use Rattle.session.specs.Call.{Held, Outcome, decided, wrote, noRoom, timeRefusal}
+
+-- the accepted lots
+abbrev pub acceptedLots : Receiving → List Lot
+acceptedLots r = take (r .counters .lots) (r .lots)
+
+-- one of some lots has this number, or these three totals
+abbrev pub numberUsed : ℕ → List Lot → Bool
+numberUsed number lots = anyOf (λ (l : Lot). eqb (l .number) number) lots
+
+abbrev pub totalsUsed : Totals → List Lot → Bool
+totalsUsed t lots = anyOf (λ (l : Lot). same (stated (l .gathered)) t) lots
+
+-- the codes of each message, in the paper's order
+unfoldable pub headerCode : (time : ℕ) (body : List ℕ) → Parties → Receiving → ℕ
+headerCode time body p r =
+    bodyCode (header (incoming p)) body
+    orelse headerSequence (r .ended) (r .counters .current)
+    orelse 10 when receiverLate time
+    orelse 4 when numberUsed (headerOf body .number) (acceptedLots r)
+    orelse 11 when lotsUsed (r .counters .lots)
+
+unfoldable pub detailCode : (body : List ℕ) → Parties → Running → Receiving → ℕ
+detailCode body p running r =
+    receiverCode (p .own) (representedBy p) body
+    orelse openSequence (r .counters .current)
+    orelse 12 when passesLot (documentsIn running + documentsIn (detailAdds (operationOf body) (documents body)))
+
+unfoldable pub lotTotalCode : (body : List ℕ) → Running → Receiving → ℕ
+lotTotalCode body running r =
+    let read = totalOf lotTotalFields body in
+    bodyCode lotTotal body
+    orelse lotTotalSequence (read .number) (r .counters .current) running
+    orelse 4 when totalsUsed (read .stated) (acceptedLots r)
+    orelse 8 when not (same (stated running) (read .stated))
+
+unfoldable pub sessionTotalCode : (body : List ℕ) → Receiving → ℕ
+sessionTotalCode body r =
+    let read = totalOf sessionTotalFields body in
+    bodyCode sessionTotal body
+    orelse sessionTotalSequence (r .ended) (r .counters .current)
+    orelse 8 when not (eqb (r .counters .lots) (read .number) && same (stated (r .counters .gathered)) (read .stated))
+
+-- Byte 3 alone says what a body is.
+unfoldable pub codeBy : Content → (time : ℕ) (body : List ℕ) → Parties → Running → Receiving → ℕ
+codeBy Content.Header time body p running r = headerCode time body p r
+codeBy Content.Detail time body p running r = detailCode body p running r
+codeBy Content.LotTotal time body p running r = lotTotalCode body running r
+codeBy Content.SessionTotal time body p running r = sessionTotalCode body r
+codeBy Content.Unknown time body p running r = 1
+
+-- what it does once its code is known
+unfoldable pub effectBy : Content → (body : List ℕ) → Running → Effect
+effectBy Content.Header body running = Effect.Header (headerOf body .number)
+effectBy Content.Detail body running = Effect.Detail (detailAdds (operationOf body) (documents body))
+effectBy Content.LotTotal body running = Effect.LotTotal (record { number = totalOf lotTotalFields body .number; gathered = running })
+effectBy Content.SessionTotal body running = Effect.SessionTotal
+effectBy Content.Unknown body running = Effect.Nothing
+
+abbrev pub codeFor : (time : ℕ) (body : List ℕ) → Held → ℕ
+codeFor time body h = codeBy (contentOf body) time body (h .session .parties) (h .running) (h .session .receiving)
+
+-- the receiving direction and the running totals after a message of this code
+unfoldable pub taken : (code : ℕ) (body : List ℕ) → Running → Receiving → Receiving
+taken code body running r =
+    let effect = effectBy (contentOf body) body running in
+    record {
+      serial = suc (r .serial);
+      reply = record { operation = replyOperation (contentOf body); code = codeOf code };
+      counters = advance effect (eqb code 0) (record { counters = r .counters; running = running }) .counters;
+      ended = r .ended || ends effect (eqb code 0);
+      lots = kept effect (eqb code 0) (r .counters .lots) (r .lots);
+    }
+
+abbrev pub gathered : (code : ℕ) (body : List ℕ) → Running → Receiving → Running
+gathered code body running r = advance (effectBy (contentOf body) body running) (eqb code 0) (record { counters = r .counters; running = running }) .running
+
+-- a session with another receiving direction, at a time
+abbrev pub hearing : (time : ℕ) → Receiving → Session → Session
+hearing time r s = record { parties = s .parties; presenting = s .presenting; receiving = r; seen = time; close = s .close }
+
+abbrev pub serialOf : List ℕ → ℕ
+serialOf bytes = envelopeOf bytes .serial
+
+-- The receiver handles the last serial plus 1; for the last serial only the last seen time moves.
+abbrev pub isNext : (bytes : List ℕ) → Receiving → Bool
+isNext bytes r = eqb (serialOf bytes) (suc (r .serial))
+
+abbrev pub isLast : (bytes : List ℕ) → Receiving → Bool
+isLast bytes r = eqb (serialOf bytes) (r .serial)
+
+abbrev pub handled : (time : ℕ) (body : List ℕ) → Held → Held
+handled time body h =
+    let code = codeFor time body h in
+    record { session = hearing time (taken code body (h .running) (h .session .receiving)) (h .session); running = gathered code body (h .running) (h .session .receiving); line = h .line }
+
+abbrev pub repeated : (time : ℕ) → Held → Held
+repeated time h = record { session = hearing time (h .session .receiving) (h .session); running = h .running; line = h .line }
+
+unfoldable pub receiveRefusal : (time : ℕ) (bytes : List ℕ) → Held → ℕ
+receiveRefusal time bytes h =
+    timeRefusal time (h .session)
+    orelse 21 when not (envelopeGood Kind.Message bytes)
+    orelse 33 when not (sameRoute (envelopeOf bytes .route) (incoming (h .session .parties)))
+    orelse 35 when not (isLast bytes (h .session .receiving) || isNext bytes (h .session .receiving))
+    orelse 23 when noRoom (envelopeBytes + replyBytes) (h .line)
+
+-- the reply that is kept is written, new or again
+abbrev pub answered : (bytes : List ℕ) → Held → Outcome
+answered bytes h = wrote (wholeReply (envelopeOf bytes) (h .session .receiving .reply)) h
+
+unfoldable pub receive : (time : ℕ) (bytes : List ℕ) → Held → Outcome
+receive time bytes h =
+    decided (receiveRefusal time bytes h) h
+    (cond (isNext bytes (h .session .receiving)) (answered bytes (handled time (bodyOf bytes) h)) (answered bytes (repeated time h)))

@@ -1,0 +1,74 @@
+-- 01, 'Course of a direction' and 'Order, first that applies': a reply that arrives.
+use Prim.Native.Nat.{ℕ}
+use mathlib.Core.Bool.{Bool, not, _&&_, _||_}
+use mathlib.Core.List.{List}
+use lib.Dec.{eqb}
+use Rattle.packed.specs.Part.{byteAt}
+use Rattle.packed.specs.Number.{byteValue}
+use Rattle.codes.specs.Chain.{_when_, _orelse_}
+use Rattle.codes.specs.Body.{operationOf}
+use Rattle.message.specs.declared.envelope.Kind.{Kind}
+use Rattle.message.specs.declared.reply.Operation.{Operation}
+use Rattle.message.specs.Route.{sameRoute}
+use Rattle.message.specs.Envelope.{envelopeGood, envelopeOf, bodyOf}
+use Rattle.message.specs.Reply.{operationByte, replyGood}
+use Rattle.session.specs.declared.effect.Effect.{Effect}
+use Rattle.session.specs.declared.session.Presenting.{Presenting}
+use Rattle.session.specs.declared.session.Session.{Session}
+use Rattle.session.specs.Parties.{outgoing}
+use Rattle.session.specs.Running.{Running}
+use Rattle.session.specs.Course.{Course, advance, ends}
+use Rattle.session.specs.Call.{Held, Outcome, decided, silent, timeRefusal}
+use Rattle.session.specs.Sending.{isPending}
+
+-- the operation of the reply that a message awaits
+abbrev pub awaitedOperation : Effect → Operation
+awaitedOperation Effect.Nothing = Operation.Other
+awaitedOperation (Effect.Header number) = Operation.Other
+awaitedOperation (Effect.Detail more) = Operation.Other
+awaitedOperation (Effect.LotTotal lot) = Operation.LotTotal
+awaitedOperation Effect.SessionTotal = Operation.SessionTotal
+
+-- a reply is awaited, and it is this one
+unfoldable pub isAwaited : (bytes : List ℕ) → Presenting → Bool
+isAwaited bytes p =
+    isPending (p .pending) && eqb (envelopeOf bytes .serial) (p .serial) && eqb (operationOf (bodyOf bytes)) (operationByte (awaitedOperation (p .pending)))
+
+-- the code that it brings, and whether it is 00
+abbrev pub replyCode : List ℕ → ℕ
+replyCode bytes = byteValue (byteAt 4 (bodyOf bytes))
+
+abbrev pub isAccepted : List ℕ → Bool
+isAccepted bytes = eqb (replyCode bytes) 0
+
+unfoldable pub replyRefusal : (time : ℕ) (bytes : List ℕ) → Session → ℕ
+replyRefusal time bytes s =
+    timeRefusal time s
+    orelse 21 when not (envelopeGood Kind.Reply bytes)
+    orelse 33 when not (sameRoute (envelopeOf bytes .route) (outgoing (s .parties)))
+    orelse 22 when not (replyGood (bodyOf bytes))
+    orelse 35 when not (isAwaited bytes (s .presenting))
+
+-- the course of the presenting direction once the reply to what is pending is known
+abbrev pub told : (accepted : Bool) → Running → Presenting → Course
+told accepted running p = advance (p .pending) accepted (record { counters = p .counters; running = running })
+
+abbrev pub replied : (time : ℕ) (accepted : Bool) → Held → Held
+replied time accepted h =
+    let p = h .session .presenting in
+    let k = told accepted (h .running) p in
+    record {
+      session =
+          record {
+            parties = h .session .parties;
+            presenting = record { serial = p .serial; pending = Effect.Nothing; counters = k .counters; ended = p .ended || ends (p .pending) accepted };
+            receiving = h .session .receiving;
+            seen = time;
+            close = h .session .close;
+          };
+      running = k .running;
+      line = h .line;
+    }
+
+unfoldable pub takeReply : (time : ℕ) (bytes : List ℕ) → Held → Outcome
+takeReply time bytes h = decided (replyRefusal time bytes (h .session)) h (silent (replied time (isAccepted bytes) h))

@@ -1,0 +1,34 @@
+-- 01, 'Course of a direction': the report, which is never refused and changes nothing.
+use Rattle.amounts.specs.Difference.{difference}
+use Rattle.session.specs.declared.counters.Counters.{Counters}
+use Rattle.session.specs.declared.effect.Effect.{Effect}
+use Rattle.session.specs.declared.report.Tally.{Tally}
+use Rattle.session.specs.declared.report.Awaited.{Awaited}
+use Rattle.session.specs.declared.report.Report.{Report}
+use Rattle.session.specs.declared.session.Session.{Session}
+
+-- the accepted lots
+abbrev pub tally : Counters → Tally
+tally c = record { lots = c .lots; gathered = c .gathered }
+
+-- what awaits a reply: a lot total with its lot, a session total, or neither
+abbrev pub awaited : Effect → Awaited
+awaited (Effect.LotTotal lot) = Awaited.LotTotal lot
+awaited Effect.SessionTotal = Awaited.SessionTotal
+awaited Effect.Nothing = Awaited.Neither
+awaited (Effect.Header number) = Awaited.Neither
+awaited (Effect.Detail more) = Awaited.Neither
+
+-- two positions, presented less received
+unfoldable pub report : Session → Report
+report s =
+    let presented = s .presenting .counters .gathered in
+    let received = s .receiving .counters .gathered in
+    record {
+      presented = tally (s .presenting .counters);
+      received = tally (s .receiving .counters);
+      close = s .close;
+      nominal = difference (presented .nominal .0) (received .nominal .0);
+      commission = difference (presented .commission .0) (received .commission .0);
+      awaited = awaited (s .presenting .pending);
+    }

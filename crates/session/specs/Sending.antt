@@ -1,0 +1,117 @@
+-- 01, 'Course of a direction' and 'Order, first that applies': the four calls that send a message.
+use Prim.Native.Nat.{ℕ, suc, _+_}
+use mathlib.Core.Bool.{Bool, true, false, not}
+use mathlib.Core.List.{List}
+use lib.Dec.{leb}
+use lib.ListN.{length}
+use Rattle.packed.specs.Pieces.{pieces}
+use Rattle.packed.specs.Writing.{packedByte}
+use Rattle.codes.specs.Chain.{_when_, _orelse_}
+use Rattle.document.specs.Limits.{documentBytes}
+use Rattle.detail.specs.Codes.{presenterCode}
+use Rattle.detail.specs.Writing.{written}
+use Rattle.message.specs.declared.envelope.Envelope.{Envelope}
+use Rattle.message.specs.Limits.{largestSerial}
+use Rattle.message.specs.Header.{sendable}
+use Rattle.message.specs.Line.{Body, bodyBytes, message}
+use Rattle.session.specs.declared.counters.OpenLot.{OpenLot}
+use Rattle.session.specs.declared.counters.Lot.{Lot}
+use Rattle.session.specs.declared.counters.Counters.{Counters}
+use Rattle.session.specs.declared.effect.Effect.{Effect}
+use Rattle.session.specs.declared.session.Presenting.{Presenting}
+use Rattle.session.specs.declared.session.Session.{Session}
+use Rattle.session.specs.Limits.{passesLot, lotsUsed}
+use Rattle.session.specs.Hours.{presenterLate}
+use Rattle.session.specs.Parties.{outgoing}
+use Rattle.session.specs.Running.{Running, gather, detailAdds, stated, documentsIn}
+use Rattle.session.specs.Sequence.{headerSequence, openSequence, sessionTotalSequence}
+use Rattle.session.specs.Call.{Held, Outcome, decided, wrote, noRoom, timeRefusal}
+
+-- a reply is awaited
+abbrev pub isPending : Effect → Bool
+isPending Effect.Nothing = false
+isPending (Effect.Header number) = true
+isPending (Effect.Detail more) = true
+isPending (Effect.LotTotal lot) = true
+isPending Effect.SessionTotal = true
+
+-- The presenter sends serials from 1.
+abbrev pub nextEnvelope : Session → Envelope
+nextEnvelope s = record { route = outgoing (s .parties); serial = suc (s .presenting .serial) }
+
+unfoldable pub sendRefusal : (time code : ℕ) (bytes : List ℕ) → Held → ℕ
+sendRefusal time code bytes h =
+    timeRefusal time (h .session)
+    orelse 34 when isPending (h .session .presenting .pending)
+    orelse 36 when leb largestSerial (h .session .presenting .serial)
+    orelse code
+    orelse 23 when noRoom (length bytes) (h .line)
+
+-- the next serial is used, and its message awaits a reply; the counters stay
+abbrev pub sent : (time : ℕ) → Effect → Session → Session
+sent time effect s =
+    record {
+      parties = s .parties;
+      presenting = record { serial = suc (s .presenting .serial); pending = effect; counters = s .presenting .counters; ended = s .presenting .ended };
+      receiving = s .receiving;
+      seen = time;
+      close = s .close;
+    }
+
+-- a message of this body, which the presenter's own code may stop
+unfoldable pub send : (time code : ℕ) → Effect → (body : List ℕ) → Held → Outcome
+send time code effect body h =
+    let bytes = message (nextEnvelope (h .session)) body in
+    decided (sendRefusal time code bytes h) h (wrote bytes (record { session = sent time effect (h .session); running = h .running; line = h .line }))
+
+-- the codes that a presenter applies to itself: never 04, 06, 08, nor that no detail was accepted
+unfoldable pub headerStop : (time moment centre number : ℕ) → Presenting → ℕ
+headerStop time moment centre number p =
+    1 when not (sendable moment centre number)
+    orelse headerSequence (p .ended) (p .counters .current)
+    orelse 10 when presenterLate time
+    orelse 11 when lotsUsed (p .counters .lots)
+
+unfoldable pub detailStop : (operation partner : ℕ) (part : List ℕ) → Running → Presenting → ℕ
+detailStop operation partner part running p =
+    presenterCode operation partner part
+    orelse openSequence (p .counters .current)
+    orelse 12 when passesLot (documentsIn running + documentsIn (detailAdds operation (pieces documentBytes part)))
+
+unfoldable pub lotTotalStop : Presenting → ℕ
+lotTotalStop p = openSequence (p .counters .current)
+
+unfoldable pub sessionTotalStop : Presenting → ℕ
+sessionTotalStop p = sessionTotalSequence (p .ended) (p .counters .current)
+
+-- the lot that a total of the presenter ends: the open one, with what it gathered
+abbrev pub openNumber : OpenLot → ℕ
+openNumber OpenLot.None = 0
+openNumber (OpenLot.Numbered n) = n
+
+abbrev pub openLot : Counters → Running → Lot
+openLot c running = record { number = openNumber (c .current); gathered = running }
+
+-- hhmmsscc is what the header says of its moment; the call's own time is the first
+unfoldable pub sendHeader : (time moment centre number : ℕ) → Held → Outcome
+sendHeader time moment centre number h =
+    send time (headerStop time moment centre number (h .session .presenting)) (Effect.Header number)
+    (bodyBytes (outgoing (h .session .parties)) (Body.opening (record { time = moment; centre = centre; number = number }))) h
+
+unfoldable pub sendDetail : (time operation : ℕ) (part : List ℕ) → Held → Outcome
+sendDetail time operation part h =
+    send time (detailStop operation (h .session .parties .partner) part (h .running) (h .session .presenting)) (Effect.Detail (detailAdds operation (pieces documentBytes part)))
+    (written (packedByte operation) part) h
+
+-- The presenter writes totals from its own counters, and a lot total with the open lot's number.
+unfoldable pub sendLotTotal : (time : ℕ) → Held → Outcome
+sendLotTotal time h =
+    let lot = openLot (h .session .presenting .counters) (h .running) in
+    send time (lotTotalStop (h .session .presenting)) (Effect.LotTotal lot)
+    (bodyBytes (outgoing (h .session .parties)) (Body.lotEnding (record { number = lot .number; stated = stated (lot .gathered) }))) h
+
+unfoldable pub sendSessionTotal : (time : ℕ) → Held → Outcome
+sendSessionTotal time h =
+    let c = h .session .presenting .counters in
+    send time (sessionTotalStop (h .session .presenting)) Effect.SessionTotal
+    (bodyBytes (outgoing (h .session .parties)) (Body.sessionEnding (record { number = c .lots; stated = stated (c .gathered) }))) h
