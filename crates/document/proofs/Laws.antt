@@ -2,3 +2,4 @@
 pub mod Fields
 pub mod Entities
 pub mod Found
+pub mod Amounts

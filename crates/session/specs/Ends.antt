@@ -11,11 +11,12 @@ use Rattle.message.specs.Envelope.{bodyOf}
 use Rattle.session.specs.declared.session.Session.{Session}
 use Rattle.session.specs.Running.{Running, empty}
 use Rattle.session.specs.Start.{started}
-use Rattle.session.specs.Call.{Held, Outcome}
+use Rattle.session.specs.Call.{Held, Outcome, silent}
 use Rattle.session.specs.Sending.{sendHeader, sendDetail, sendLotTotal, sendSessionTotal}
 use Rattle.session.specs.Receiving.{receive, serialOf}
 use Rattle.session.specs.Reply.{takeReply, isAccepted}
 use Rattle.session.specs.Clock.{clock}
+use Rattle.session.specs.Premise.{Direction}
 use Rattle.session.specs.Ledger.{Entry, PresenterBook, ReceiverBook, blank, partEntry, bodyEntry, waitingFor, answeredWith, received}
 
 pub data End : Type 0 where
@@ -62,26 +63,50 @@ pub record Done : Type 0 where
 abbrev pub saidBy : Outcome → Said
 saidBy o = record { number = o .number; bytes = take (o .written) (o .left .line) }
 
--- a call of the presenting direction, and one of the receiving direction, by its meaning
-abbrev pub presentingCall : (Held → Outcome) → (line : List ℕ) → Engine → Done
-presentingCall call line e =
-    let o = call (record { session = e .session; running = e .presenting; line = line }) in
-    record { said = saidBy o; engine = record { session = o .left .session; presenting = o .left .running; receiving = e .receiving } }
+-- what each call means; a reply call, a clock call and a report are lent no line buffer
+unfoldable pub meaning : Call → Held → Outcome
+meaning (Call.header time moment centre number line) h = sendHeader time moment centre number h
+meaning (Call.detail time operation part line) h = sendDetail time operation part h
+meaning (Call.lotTotal time line) h = sendLotTotal time h
+meaning (Call.sessionTotal time line) h = sendSessionTotal time h
+meaning (Call.message time bytes line) h = receive time bytes h
+meaning (Call.reply time bytes) h = takeReply time bytes h
+meaning (Call.tick time) h = clock time h
+meaning Call.report h = silent h
 
-abbrev pub receivingCall : (Held → Outcome) → (line : List ℕ) → Engine → Done
-receivingCall call line e =
-    let o = call (record { session = e .session; running = e .receiving; line = line }) in
-    record { said = saidBy o; engine = record { session = o .left .session; presenting = e .presenting; receiving = o .left .running } }
+abbrev pub lineOf : Call → List ℕ
+lineOf (Call.header time moment centre number line) = line
+lineOf (Call.detail time operation part line) = line
+lineOf (Call.lotTotal time line) = line
+lineOf (Call.sessionTotal time line) = line
+lineOf (Call.message time bytes line) = line
+lineOf (Call.reply time bytes) = []
+lineOf (Call.tick time) = []
+lineOf Call.report = []
+
+-- the direction whose running totals a call gets and leaves
+abbrev pub directionOf : Call → Direction
+directionOf (Call.message time bytes line) = Direction.receiving
+directionOf (Call.header time moment centre number line) = Direction.presenting
+directionOf (Call.detail time operation part line) = Direction.presenting
+directionOf (Call.lotTotal time line) = Direction.presenting
+directionOf (Call.sessionTotal time line) = Direction.presenting
+directionOf (Call.reply time bytes) = Direction.presenting
+directionOf (Call.tick time) = Direction.presenting
+directionOf Call.report = Direction.presenting
+
+abbrev pub lent : Direction → (line : List ℕ) → Engine → Held
+lent Direction.presenting line e = record { session = e .session; running = e .presenting; line = line }
+lent Direction.receiving line e = record { session = e .session; running = e .receiving; line = line }
+
+abbrev pub given : Direction → Held → Engine → Engine
+given Direction.presenting h e = record { session = h .session; presenting = h .running; receiving = e .receiving }
+given Direction.receiving h e = record { session = h .session; presenting = e .presenting; receiving = h .running }
 
 unfoldable pub perform : Call → Engine → Done
-perform (Call.header time moment centre number line) e = presentingCall (sendHeader time moment centre number) line e
-perform (Call.detail time operation part line) e = presentingCall (sendDetail time operation part) line e
-perform (Call.lotTotal time line) e = presentingCall (sendLotTotal time) line e
-perform (Call.sessionTotal time line) e = presentingCall (sendSessionTotal time) line e
-perform (Call.message time bytes line) e = receivingCall (receive time bytes) line e
-perform (Call.reply time bytes) e = presentingCall (takeReply time bytes) [] e
-perform (Call.tick time) e = presentingCall (clock time) [] e
-perform Call.report e = record { said = record { number = 0; bytes = [] }; engine = e }
+perform call e =
+    let o = meaning call (lent (directionOf call) (lineOf call) e) in
+    record { said = saidBy o; engine = given (directionOf call) (o .left) e }
 
 -- a call that was made: where, with which arguments, and what it said
 pub record Event : Type 0 where

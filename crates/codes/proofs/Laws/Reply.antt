@@ -1,18 +1,19 @@
 -- A code is read back from its byte, so the byte tells the code; and the known bytes are those of the paper.
 use mathlib.Core.Path.{_≡_, refl, ap, sym, _∙_}
-use mathlib.Core.Bool.{true, cond, false≢true}
+use mathlib.Core.Bool.{true, false, cond, false≢true}
 use mathlib.Core.List.{List, [], _∷_, _++_}
 use Prim.Native.Nat.{ℕ, zero, suc, _<_}
 use native.Mathlib.Nat.{mod-eq-of-lt}
-use lib.Dec.{ltb}
-use borrow.Author.Tests.{ltb-true}
+use native.Mathlib.Omega.{arith}
+use lib.Dec.{eqb, ltb}
+use borrow.Author.Tests.{ltb-true, ne-eqb}
 use Rattle.packed.specs.Every.{every}
 use Rattle.packed.specs.Number.{byteValue}
 use Rattle.packed.specs.Writing.{packedByte}
 use Rattle.codes.specs.declared.reply.Code.{Code}
 use Rattle.codes.specs.declared.reply.ReadCode.{ReadCode}
 use Rattle.codes.specs.Numbered.{numbered}
-use Rattle.codes.specs.Reply.{codeNumber, codes, codeByte, readCode, isKnown, knownCode}
+use Rattle.codes.specs.Reply.{codeNumber, codes, codeByte, readCode, isKnown, knownCode, codeOf}
 use Rattle.packed.proofs.Laws.Writing.{packed-byte-value}
 use Rattle.codes.proofs.Laws.Numbered.{found-told}
 
@@ -50,6 +51,33 @@ code-value c = packed-byte-value (codeNumber c) ∙ mod-eq-of-lt (told (codeByte
 
 pub same-byte : (c d : Code) → codeByte c ≡ codeByte d → c ≡ d
 same-byte c d e = let known : ReadCode.Known c ≡ ReadCode.Known d = sym (written-then-read c) ∙ ap readCode e ∙ written-then-read d in cc
+
+-- a code is found by its number
+pub number-told : (c : Code) → codeOf (codeNumber c) ≡ c
+unfolding codeOf numbered codes
+number-told Code.Accepted = refl
+number-told Code.WrongField = refl
+number-told Code.WrongAmount = refl
+number-told Code.Duplicate = refl
+number-told Code.WrongDrawee = refl
+number-told Code.WrongSequence = refl
+number-told Code.WrongTotals = refl
+number-told Code.MixedOperations = refl
+number-told Code.TooLate = refl
+number-told Code.TooManyLots = refl
+number-told Code.TooManyDocuments = refl
+
+-- and the code of a number accepts where the number is 0, and nowhere else
+pub accepts : (n : ℕ) → eqb (codeNumber (codeOf n)) 0 ≡ eqb n 0
+unfolding codeOf numbered codes every
+accepts zero = refl
+accepts (suc n) =
+    found-told codeNumber (λ (c : Code). c) Code.WrongField (suc n) (λ (c : Code). true) (λ (c : Code). eqb (codeNumber c) 0 ≡ false)
+    refl
+    (λ (c : Code) (h : suc n ≡ codeNumber c) (p : true ≡ true). ne-eqb (codeNumber c) 0 (λ (z : codeNumber c ≡ 0). omega arith))
+    codes
+    refl
+    ∙ sym (ne-eqb (suc n) 0 (λ (z : suc n ≡ 0). omega arith))
 
 knownBelow : ℕ → List ℕ
 knownBelow zero = []

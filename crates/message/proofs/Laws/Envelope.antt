@@ -72,6 +72,14 @@ good-told kind bytes e =
     let all = three (lengthGood kind (length bytes)) (eqb (byteAt 1 bytes) (kindByte kind)) (tableGood 1 21 envelopeFields bytes) e in
     (all .0, eqb-true (byteAt 1 bytes) (kindByte kind) (all .1), all .2)
 
+-- its serial among them
+pub serial-told : (kind : Kind) (bytes : List ℕ) → envelopeGood kind bytes ≡ true → (1 ≤ envelopeOf bytes .serial) × (envelopeOf bytes .serial ≤ largestSerial)
+serial-told kind bytes e =
+    let n = number (part 8 4 bytes) in
+    let range = both (areDigits (part 1 11 bytes)) (between 1 largestSerial n) (sym (fields-split bytes) ∙ good-told kind bytes e .2) .1 in
+    let ends = both (leb 1 n) (leb n largestSerial) range in
+    (leb-true 1 n (ends .0), leb-true n largestSerial (ends .1))
+
 -- the first byte tells the kind
 pub kind-told : (kind asked : Kind) (e : Envelope) (body : List ℕ) → envelopeGood asked (writtenEnvelope kind e ++ body) ≡ true → asked ≡ kind
 kind-told Kind.Message Kind.Message e body h = refl

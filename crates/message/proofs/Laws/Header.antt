@@ -2,7 +2,7 @@
 use mathlib.Core.Path.{_≡_, refl, ap, sym, _∙_}
 use mathlib.Core.Bool.{Bool, true, _&&_, and-assoc, and-true}
 use mathlib.Core.List.{List, [], _∷_, _++_}
-use Prim.Native.Nat.{ℕ, _^_, _/_, _%_, _<_}
+use Prim.Native.Nat.{ℕ, _^_, _/_, _%_, _≤_, _<_}
 use native.Mathlib.Omega.{arith}
 use lib.Dec.{leb, ltb}
 use lib.ListN.{getD}
@@ -23,7 +23,7 @@ use Rattle.message.specs.Route.{routeValues, routeAt, sameRoute}
 use Rattle.message.specs.Header.{timeOfDay, orderNumber, headerFields, header, headerValues, headerOf, headerSaid, sendable}
 use Rattle.message.proofs.Laws.Route.{same}
 use Rattle.message.proofs.Laws.Reading.{told}
-use Rattle.message.proofs.Laws.Layout.{Whole, written-then-read}
+use Rattle.message.proofs.Laws.Layout.{Whole, accepted-told, written-then-read}
 
 listed : (d a b c e f g : Bool) → d && (a && (b && (c && (e && (f && (g && true)))))) ≡ d && a && (b && c && e) && f && g
 listed d a b c e f g = simp (and-assoc, and-true)
@@ -59,6 +59,15 @@ module _ (route : Route) where
       let r = same (routeAt 7 s) route (both first (sameRoute (routeAt 7 s) route) (last .0) .1) in
       let z = eqb-true (number (part 18 1 s)) 0 (last .2) in
       λ i. h .time ∷ routeValues (sym r i) ++ h .centre ∷ h .number ∷ sym z i ∷ []
+
+  -- an accepted header has an order number
+  pub order-told : (body : List ℕ) → bodyCode (header route) body ≡ 0 → headerOf body .number ≤ largestNumber
+  order-told body e =
+      let h = headerOf body in
+      let n = h .number in
+      let good = accepted-told (header route) body e .1 in
+      let order = three (areDigits (part 3 16 body) && timeOfDay (h .time) && sameRoute (routeAt 7 body) route) (orderNumber n) (exactly 0 (number (part 18 1 body))) (sym (fields-split body) ∙ good) .1 in
+      leb-true n largestNumber (both (leb 1 n) (leb n largestNumber) order .1)
 
   -- numbers that a header can carry
   pub in-range : (h : Header) → route .date < 100 ^ 3 → route .presenting < 100 ^ 2 → route .receiving < 100 ^ 2 → sendable (h .time) (h .centre) (h .number) ≡ true → tableTakes (headerFields route) (headerValues route h) ≡ true

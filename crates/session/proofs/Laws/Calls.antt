@@ -1,0 +1,188 @@
+-- Laws of all calls: a refused one gives everything back, the directions never touch each other, the parties never change, the premise is kept.
+use mathlib.Core.Path.{_≡_, refl, ap, subst, sym, _∙_}
+use mathlib.Core.Bool.{Bool, true, false, cond, false≢true}
+use mathlib.Core.List.{List}
+use Prim.Native.Nat.{ℕ, zero, suc}
+use native.Mathlib.Omega.{arith}
+use lib.Dec.{eqb}
+use Rattle.message.specs.Envelope.{envelopeOf, bodyOf}
+use Rattle.message.specs.Line.{wholeReply}
+use Rattle.session.specs.declared.counters.OpenLot.{OpenLot}
+use Rattle.session.specs.declared.session.Presenting.{Presenting}
+use Rattle.session.specs.declared.session.Receiving.{Receiving}
+use Rattle.session.specs.declared.session.Session.{Session}
+use Rattle.session.specs.Call.{Held, Outcome, refused, decided, silent, wrote, timeRefusal, clockRefusal}
+use Rattle.session.specs.Sending.{sendRefusal, send, sendHeader, sendDetail, sendLotTotal, sendSessionTotal}
+use Rattle.session.specs.Receiving.{isNext, receiveRefusal, receive, handled, repeated, answered}
+use Rattle.session.specs.Reply.{replyRefusal, takeReply}
+use Rattle.session.specs.Clock.{clock}
+use Rattle.session.specs.Premise.{Direction, PendingCarried, Sound, Carried}
+use Rattle.session.specs.Ends.{Call, Engine, meaning, directionOf, lineOf, lent, given, perform}
+use Rattle.session.specs.Claim.{Ready}
+use Rattle.session.proofs.Laws.Call.{either, unrefused, refused-keeps}
+use Rattle.session.proofs.Laws.Sound.{Good, send-header-keeps, send-detail-keeps, send-lot-total-keeps, send-session-total-keeps, receive-keeps, reply-keeps, clock-keeps}
+
+-- a call is a refusal that leaves what it was lent, or what it does where its chain gives 0
+pub record Decided (h : Held) (o : Outcome) : Type 0 where
+  pub refusal : ℕ
+  pub done : Outcome
+  pub unrefused : done .number ≡ 0
+  pub outcome : o ≡ decided refusal h done
+
+answers : (t : Bool) (a b : Outcome) → a .number ≡ 0 → b .number ≡ 0 → cond t a b .number ≡ 0
+answers true a b x y = x
+answers false a b x y = y
+
+pub is-decided : (call : Call) (h : Held) → Decided h (meaning call h)
+unfolding meaning sendHeader sendDetail sendLotTotal sendSessionTotal send receive takeReply clock
+is-decided (Call.header time moment centre number line) h = record { refusal = _; done = _; unrefused = refl; outcome = refl }
+is-decided (Call.detail time operation part line) h = record { refusal = _; done = _; unrefused = refl; outcome = refl }
+is-decided (Call.lotTotal time line) h = record { refusal = _; done = _; unrefused = refl; outcome = refl }
+is-decided (Call.sessionTotal time line) h = record { refusal = _; done = _; unrefused = refl; outcome = refl }
+is-decided (Call.message time bytes line) h = record { refusal = _; done = _; unrefused = answers (isNext bytes (h .session .receiving)) (answered bytes (handled time (bodyOf bytes) h)) (answered bytes (repeated time h)) refl refl; outcome = refl }
+is-decided (Call.reply time bytes) h = record { refusal = _; done = _; unrefused = refl; outcome = refl }
+is-decided (Call.tick time) h = record { refusal = _; done = _; unrefused = refl; outcome = refl }
+is-decided Call.report h = record { refusal = 0; done = silent h; unrefused = refl; outcome = sym (unrefused h (silent h)) }
+
+-- A refused call gives back what it was lent.
+pub gives-back : (call : Call) (h : Held) → (meaning call h .number ≡ 0 → ⊥) → meaning call h ≡ refused (meaning call h .number) h
+gives-back call h given = let d = is-decided call h in go (d .refusal) (d .done) (d .unrefused) (meaning call h) (d .outcome) given
+  where
+    go : (n : ℕ) (done : Outcome) → done .number ≡ 0 → (o : Outcome) → o ≡ decided n h done → (o .number ≡ 0 → ⊥) → o ≡ refused (o .number) h
+    go zero done u o e given = absurd (given (ap (λ (p : Outcome). p .number) (e ∙ unrefused h done) ∙ u))
+    go (suc k) done u o e given = e ∙ refused-keeps (suc k) h done (λ (z : suc k ≡ 0). omega arith) ∙ λ i. refused (sym (ap (λ (p : Outcome). p .number) (e ∙ refused-keeps (suc k) h done (λ (z : suc k ≡ 0). omega arith))) i) h
+
+-- what holds of whatever a call was lent, and of what it does where it is not refused, holds of what it leaves
+abbrev withReceiving : Receiving → Held → Held
+withReceiving r h = record { session = record { parties = h .session .parties; presenting = h .session .presenting; receiving = r; seen = h .session .seen; close = h .session .close }; running = h .running; line = h .line }
+
+abbrev withPresenting : Presenting → Held → Held
+withPresenting p h = record { session = record { parties = h .session .parties; presenting = p; receiving = h .session .receiving; seen = h .session .seen; close = h .session .close }; running = h .running; line = h .line }
+
+-- an outcome with a change of what is left
+abbrev changed : (Held → Held) → Outcome → Outcome
+changed f o = record { number = o .number; written = o .written; left = f (o .left) }
+
+apart : (f : Held → Held) (n : ℕ) (h : Held) (done : Outcome) → decided n (f h) (changed f done) ≡ changed f (decided n h done)
+unfolding decided
+apart f zero h done = refl
+apart f (suc n) h done = refl
+
+-- A call of one direction neither asks nor touches the other: with another state of that one it gives the same answer, and leaves it.
+abbrev Apart : Direction → (Held → Outcome) → Type 0
+Apart Direction.presenting call = (h : Held) (r : Receiving) → call (withReceiving r h) ≡ changed (withReceiving r) (call h)
+Apart Direction.receiving call = (h : Held) (p : Presenting) → call (withPresenting p h) ≡ changed (withPresenting p) (call h)
+
+-- all calls but the clock call, which sees both ends of a close, belong to one direction
+abbrev belongs : Call → Bool
+belongs (Call.tick time) = false
+belongs (Call.header time moment centre number line) = true
+belongs (Call.detail time operation part line) = true
+belongs (Call.lotTotal time line) = true
+belongs (Call.sessionTotal time line) = true
+belongs (Call.message time bytes line) = true
+belongs (Call.reply time bytes) = true
+belongs Call.report = true
+
+received-apart : (time : ℕ) (bytes : List ℕ) → Apart Direction.receiving (receive time bytes)
+unfolding receive receiveRefusal timeRefusal clockRefusal
+received-apart time bytes h p =
+    let a = answered bytes (handled time (bodyOf bytes) h) in
+    let b = answered bytes (repeated time h) in
+    ap (decided (receiveRefusal time bytes h) (withPresenting p h)) (either-way (isNext bytes (h .session .receiving)) a b) ∙ apart (withPresenting p) (receiveRefusal time bytes h) h (cond (isNext bytes (h .session .receiving)) a b)
+  where
+    either-way : (t : Bool) (a b : Outcome) → cond t (changed (withPresenting p) a) (changed (withPresenting p) b) ≡ changed (withPresenting p) (cond t a b)
+    either-way true a b = refl
+    either-way false a b = refl
+
+pub directions-apart : (call : Call) → belongs call ≡ true → Apart (directionOf call) (meaning call)
+unfolding meaning sendHeader sendDetail sendLotTotal sendSessionTotal send sendRefusal takeReply replyRefusal timeRefusal clockRefusal
+directions-apart (Call.header time moment centre number line) b = λ (h : Held) (r : Receiving). apart (withReceiving r) _ h _
+directions-apart (Call.detail time operation part line) b = λ (h : Held) (r : Receiving). apart (withReceiving r) _ h _
+directions-apart (Call.lotTotal time line) b = λ (h : Held) (r : Receiving). apart (withReceiving r) _ h _
+directions-apart (Call.sessionTotal time line) b = λ (h : Held) (r : Receiving). apart (withReceiving r) _ h _
+directions-apart (Call.reply time bytes) b = λ (h : Held) (r : Receiving). apart (withReceiving r) _ h _
+directions-apart Call.report b = λ (h : Held) (r : Receiving). refl
+directions-apart (Call.tick time) b = absurd (false≢true b)
+directions-apart (Call.message time bytes line) b = received-apart time bytes
+
+-- The parties never change, and the records of the two directions change in calls of their own alone.
+abbrev pub OtherSide : Direction → (before after : Session) → Type 0
+OtherSide Direction.presenting before after = after .receiving ≡ before .receiving
+OtherSide Direction.receiving before after = after .presenting ≡ before .presenting
+
+pub record Untouched (d : Direction) (h after : Held) : Type 0 where
+  pub parties : after .session .parties ≡ h .session .parties
+  pub otherSide : OtherSide d (h .session) (after .session)
+
+by-decision : (h : Held) (n : ℕ) (done : Outcome) → done .left .session .parties ≡ h .session .parties → done .left .session .receiving ≡ h .session .receiving → Untouched Direction.presenting h (decided n h done .left)
+by-decision h n done p r = either (λ (o : Outcome). Untouched Direction.presenting h (o .left)) n h done (λ (k : ℕ). record { parties = refl; otherSide = refl }) (λ (e : n ≡ 0). record { parties = p; otherSide = r })
+
+pub untouched : (call : Call) (h : Held) → Untouched (directionOf call) h (meaning call h .left)
+unfolding meaning sendHeader sendDetail sendLotTotal sendSessionTotal send receive takeReply clock
+untouched (Call.header time moment centre number line) h = by-decision h _ _ refl refl
+untouched (Call.detail time operation part line) h = by-decision h _ _ refl refl
+untouched (Call.lotTotal time line) h = by-decision h _ _ refl refl
+untouched (Call.sessionTotal time line) h = by-decision h _ _ refl refl
+untouched (Call.reply time bytes) h = by-decision h _ _ refl refl
+untouched (Call.tick time) h = by-decision h _ _ refl refl
+untouched Call.report h = record { parties = refl; otherSide = refl }
+untouched (Call.message time bytes line) h = either (λ (o : Outcome). Untouched Direction.receiving h (o .left)) (receiveRefusal time bytes h) h _ (λ (k : ℕ). record { parties = refl; otherSide = refl }) (λ (e : receiveRefusal time bytes h ≡ 0). either-way (isNext bytes (h .session .receiving)))
+  where
+    either-way : (t : Bool) → Untouched Direction.receiving h (cond t (answered bytes (handled time (bodyOf bytes) h)) (answered bytes (repeated time h)) .left)
+    either-way true = record { parties = refl; otherSide = refl }
+    either-way false = record { parties = refl; otherSide = refl }
+
+-- Every call keeps the premise of its direction.
+pub keeps : (call : Call) (h : Held) → Good (directionOf call) h → Good (directionOf call) (meaning call h .left)
+unfolding meaning
+keeps (Call.header time moment centre number line) h g = send-header-keeps time moment centre number h g
+keeps (Call.detail time operation part line) h g = send-detail-keeps time operation part h g
+keeps (Call.lotTotal time line) h g = send-lot-total-keeps time h g
+keeps (Call.sessionTotal time line) h g = send-session-total-keeps time h g
+keeps (Call.message time bytes line) h g = receive-keeps time bytes h g
+keeps (Call.reply time bytes) h g = reply-keeps time bytes h g
+keeps (Call.tick time) h g = clock-keeps time Direction.presenting h g
+keeps Call.report h g = g
+
+-- so an engine that is ready stays so
+pub ready-kept : (call : Call) (e : Engine) → Ready e → Ready (perform call e .engine)
+unfolding perform
+ready-kept call e r = go (directionOf call) refl
+  where
+    go : (d : Direction) → directionOf call ≡ d → Ready (given d (meaning call (lent d (lineOf call) e) .left) e)
+    go Direction.presenting way =
+        let h = lent Direction.presenting (lineOf call) e in
+        let after = subst (λ (d : Direction). Good d h → Good d (meaning call h .left)) way (keeps call h) (record { sound = r .sound; carried = r .presenting }) in
+        let same : meaning call h .left .session .receiving ≡ e .session .receiving = subst (λ (d : Direction). OtherSide d (h .session) (meaning call h .left .session)) way (untouched call h .otherSide) in
+        record {
+          sound = after .sound;
+          presenting = record { none-open = after .carried .none-open; fits = after .carried .fits; pending = after .carried .pending };
+          receiving = record { none-open = λ (q : meaning call h .left .session .receiving .counters .current ≡ OpenLot.None). r .receiving .none-open (ap (λ (x : Receiving). x .counters .current) (sym same) ∙ q); fits = r .receiving .fits; pending = tt };
+        }
+    go Direction.receiving way =
+        let h = lent Direction.receiving (lineOf call) e in
+        let after = subst (λ (d : Direction). Good d h → Good d (meaning call h .left)) way (keeps call h) (record { sound = r .sound; carried = r .receiving }) in
+        let same : meaning call h .left .session .presenting ≡ e .session .presenting = subst (λ (d : Direction). OtherSide d (h .session) (meaning call h .left .session)) way (untouched call h .otherSide) in
+        record {
+          sound = after .sound;
+          presenting = record { none-open = λ (q : meaning call h .left .session .presenting .counters .current ≡ OpenLot.None). r .presenting .none-open (ap (λ (x : Presenting). x .counters .current) (sym same) ∙ q); fits = r .presenting .fits; pending = subst (λ (x : Presenting). PendingCarried (x .pending) (e .presenting)) (sym same) (r .presenting .pending) };
+          receiving = record { none-open = after .carried .none-open; fits = after .carried .fits; pending = tt };
+        }
+
+-- A message with a code is not refused: whatever its body, the reply is written.
+pub message-answered : (time : ℕ) (bytes : List ℕ) (h : Held) → receiveRefusal time bytes h ≡ 0 → receive time bytes h .number ≡ 0
+unfolding receive
+message-answered time bytes h e =
+    let next = isNext bytes (h .session .receiving) in
+    let a = answered bytes (handled time (bodyOf bytes) h) in
+    let b = answered bytes (repeated time h) in
+    (λ i. decided (e i) h (cond next a b) .number) ∙ ap (λ (o : Outcome). o .number) (unrefused h (cond next a b)) ∙ answers next a b refl refl
+
+-- A repeat writes the kept reply again and moves the last seen time alone.
+pub repeat-told : (time : ℕ) (bytes : List ℕ) (h : Held) → receiveRefusal time bytes h ≡ 0 → isNext bytes (h .session .receiving) ≡ false → receive time bytes h ≡ wrote (wholeReply (envelopeOf bytes) (h .session .receiving .reply)) (repeated time h)
+unfolding receive
+repeat-told time bytes h e n =
+    let a = answered bytes (handled time (bodyOf bytes) h) in
+    let b = answered bytes (repeated time h) in
+    (λ i. decided (e i) h (cond (n i) a b)) ∙ unrefused h b

@@ -1,0 +1,91 @@
+-- Laws of the ledger: sums over lists, and the counters that mirror it, message by message.
+use mathlib.Core.Path.{_≡_, refl, ap, sym, _∙_}
+use mathlib.Core.Bool.{Bool, true, false, false≢true}
+use mathlib.Core.List.{List, [], _∷_, _++_}
+use mathlib.Core.Option.{Option, none, some}
+use Prim.Native.Nat.{ℕ, suc, _+_}
+use native.Mathlib.Omega.{arith}
+use lib.ListN.{length, length-append}
+use Rattle.amounts.specs.Totals.{plus}
+use Rattle.amounts.proofs.Laws.Totals.{plus-zeros, zeros-plus, plus-assoc}
+use Rattle.document.specs.Amounts.{documentTotals, totalsOf}
+use Rattle.session.specs.declared.counters.OpenLot.{OpenLot}
+use Rattle.session.specs.declared.counters.Lot.{Lot}
+use Rattle.session.specs.declared.counters.Counters.{Counters}
+use Rattle.session.specs.declared.effect.Effect.{Effect}
+use Rattle.session.specs.Running.{Running, empty, gather, detailAdds}
+use Rattle.session.specs.Course.{Course, advance}
+use Rattle.session.specs.Sequence.{isOpen}
+use Rattle.session.specs.Ledger.{Document, LedgerLot, Ledger, Entry, enter, ofOperation, sum, lotSum, lotsSum}
+
+-- sums join where lists do
+pub sum-append : (xs ys : List Document) → sum (xs ++ ys) ≡ gather (sum xs) (sum ys)
+unfolding sum
+sum-append [] ys = sym (zeros-plus (sum ys))
+sum-append (x ∷ xs) ys = ap (gather (detailAdds (x .operation) (x .bytes ∷ []))) (sum-append xs ys) ∙ sym (plus-assoc (detailAdds (x .operation) (x .bytes ∷ [])) (sum xs) (sum ys))
+
+pub lots-last : (ls : List LedgerLot) (l : LedgerLot) → lotsSum (ls ++ l ∷ []) ≡ gather (lotsSum ls) (sum (l .documents))
+unfolding lotsSum
+lots-last [] l = plus-zeros (sum (l .documents)) ∙ sym (zeros-plus (sum (l .documents)))
+lots-last (x ∷ ls) l = ap (gather (sum (x .documents))) (lots-last ls l) ∙ sym (plus-assoc (sum (x .documents)) (lotsSum ls) (sum (l .documents)))
+
+-- a detail adds the sum of its documents
+pub detail-sum : (operation : ℕ) (ds : List (List ℕ)) → sum (ofOperation operation ds) ≡ detailAdds operation ds
+unfolding sum totalsOf
+detail-sum operation [] = refl
+detail-sum operation (d ∷ ds) = λ i. gather (plus-zeros (documentTotals d) i) (detail-sum operation ds i)
+
+-- the counters of a ledger
+abbrev pub openOf : Option LedgerLot → OpenLot
+openOf none = OpenLot.None
+openOf (some l) = OpenLot.Numbered (l .number)
+
+abbrev pub runningOf : Option LedgerLot → Running
+runningOf none = empty
+runningOf (some l) = sum (l .documents)
+
+abbrev pub summary : Ledger → Course
+summary b = record { counters = record { current = openOf (b .current); lots = length (b .lots); gathered = lotsSum (b .lots) }; running = runningOf (b .current) }
+
+-- the lot that a total of the presenter would end
+abbrev pub lotOf : Option LedgerLot → Lot
+lotOf none = record { number = 0; gathered = empty }
+lotOf (some l) = lotSum l
+
+-- what an entry does to the counters of a ledger
+abbrev pub effectOf : Entry → Ledger → Effect
+effectOf (Entry.opens number) b = Effect.Header number
+effectOf (Entry.adds ds) b = Effect.Detail (sum ds)
+effectOf Entry.endsLot b = Effect.LotTotal (lotOf (b .current))
+effectOf Entry.endsDirection b = Effect.SessionTotal
+effectOf Entry.nothing b = Effect.Nothing
+
+-- an entry that is accepted into an open lot finds one
+abbrev pub Finds : Entry → OpenLot → Type 0
+Finds (Entry.opens number) lot = Unit {0}
+Finds (Entry.adds ds) lot = isOpen lot ≡ true
+Finds Entry.endsLot lot = isOpen lot ≡ true
+Finds Entry.endsDirection lot = Unit {0}
+Finds Entry.nothing lot = Unit {0}
+
+-- counters move as the ledger does
+pub mirrors : (e : Entry) (accepted : Bool) (b : Ledger) → (accepted ≡ true → Finds e (openOf (b .current))) → advance (effectOf e b) accepted (summary b) ≡ summary (enter e accepted b)
+unfolding advance enter sum
+mirrors (Entry.opens number) true b h = refl
+mirrors (Entry.opens number) false b h = refl
+mirrors (Entry.adds ds) false b h = refl
+mirrors (Entry.adds ds) true b h = go (b .current) (h refl)
+  where
+    go : (current : Option LedgerLot) → isOpen (openOf current) ≡ true → advance (Effect.Detail (sum ds)) true (summary (record { lots = b .lots; current = current })) ≡ summary (enter (Entry.adds ds) true (record { lots = b .lots; current = current }))
+    go none e = absurd (false≢true e)
+    go (some l) e = λ i. record { counters = summary (record { lots = b .lots; current = some l }) .counters; running = sym (sum-append (l .documents) ds) i }
+mirrors Entry.endsLot false b h = refl
+mirrors Entry.endsLot true b h = go (b .current) (h refl)
+  where
+    go : (current : Option LedgerLot) → isOpen (openOf current) ≡ true → advance (Effect.LotTotal (lotOf current)) true (summary (record { lots = b .lots; current = current })) ≡ summary (enter Entry.endsLot true (record { lots = b .lots; current = current }))
+    go none e = absurd (false≢true e)
+    go (some l) e =
+        let more : suc (length (b .lots)) ≡ length (b .lots ++ l ∷ []) = sym (length-append (b .lots) (l ∷ []) ∙ omega arith) in
+        λ i. record { counters = record { current = OpenLot.None; lots = more i; gathered = sym (lots-last (b .lots) l) i }; running = empty }
+mirrors Entry.endsDirection accepted b h = refl
+mirrors Entry.nothing accepted b h = refl

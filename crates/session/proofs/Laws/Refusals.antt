@@ -1,0 +1,87 @@
+-- What a call that is not refused tells: every test of its chain passed.
+use mathlib.Core.Path.{_≡_, sym, _∙_}
+use mathlib.Core.Bool.{Bool, true, false, not, _&&_, _||_}
+use mathlib.Core.List.{List}
+use Prim.Native.Nat.{ℕ, suc, _+_, _≤_, _<_}
+use lib.Dec.{eqb, leb, lit<}
+use lib.ListN.{length}
+use borrow.Author.Tests.{leb-false, ltb-false, eqb-true, not-false}
+use Rattle.packed.proofs.Laws.Told.{three}
+use Rattle.codes.specs.Body.{operationOf}
+use Rattle.codes.specs.Chain.{_when_, _orelse_}
+use Rattle.codes.proofs.Laws.Chain.{none-test, none-both}
+use Rattle.message.specs.declared.envelope.Kind.{Kind}
+use Rattle.message.specs.declared.route.Route.{Route}
+use Rattle.message.specs.Limits.{largestSerial, envelopeBytes, replyBytes}
+use Rattle.message.specs.Route.{sameRoute}
+use Rattle.message.specs.Envelope.{envelopeGood, envelopeOf, bodyOf}
+use Rattle.message.specs.Reply.{operationByte, replyGood}
+use Rattle.message.proofs.Laws.Route.{same}
+use Rattle.session.specs.declared.session.Session.{Session}
+use Rattle.session.specs.Parties.{outgoing, incoming}
+use Rattle.session.specs.Call.{Held, noRoom, timeRefusal}
+use Rattle.session.specs.Sending.{isPending, sendRefusal}
+use Rattle.session.specs.Receiving.{isLast, isNext, serialOf, receiveRefusal}
+use Rattle.session.specs.Reply.{awaitedOperation, isAwaited, replyRefusal}
+
+-- the test before the rest of a chain that gives nothing failed
+pub passed : (n : ℕ) (test : Bool) (rest : ℕ) → 0 < n → (n when test orelse rest) ≡ 0 → (test ≡ false) × (rest ≡ 0)
+passed n test rest h e = let both = none-both (n when test) rest e in (none-test n test h (both .0), both .1)
+
+pub record SendTold (code : ℕ) (bytes : List ℕ) (h : Held) : Type 0 where
+  pub idle : isPending (h .session .presenting .pending) ≡ false
+  pub more : h .session .presenting .serial < largestSerial
+  pub unstopped : code ≡ 0
+  pub room : length bytes ≤ length (h .line)
+
+pub send-told : (time code : ℕ) (bytes : List ℕ) (h : Held) → sendRefusal time code bytes h ≡ 0 → SendTold code bytes h
+unfolding sendRefusal
+send-told time code bytes h e =
+    let p = h .session .presenting in
+    let clock = none-both (timeRefusal time (h .session)) _ e in
+    let idle = passed 34 (isPending (p .pending)) _ (lit< tt) (clock .1) in
+    let used = passed 36 (leb largestSerial (p .serial)) _ (lit< tt) (idle .1) in
+    let own = none-both code _ (used .1) in
+    record { idle = idle .0; more = leb-false largestSerial (p .serial) (used .0); unstopped = own .0; room = ltb-false (length (h .line)) (length bytes) (none-test 23 (noRoom (length bytes) (h .line)) (lit< tt) (own .1)) }
+
+pub record ReceiveTold (bytes : List ℕ) (h : Held) : Type 0 where
+  pub good : envelopeGood Kind.Message bytes ≡ true
+  pub way : envelopeOf bytes .route ≡ incoming (h .session .parties)
+  pub known : isLast bytes (h .session .receiving) || isNext bytes (h .session .receiving) ≡ true
+  pub room : envelopeBytes + replyBytes ≤ length (h .line)
+
+pub receive-told : (time : ℕ) (bytes : List ℕ) (h : Held) → receiveRefusal time bytes h ≡ 0 → ReceiveTold bytes h
+unfolding receiveRefusal
+receive-told time bytes h e =
+    let good = envelopeGood Kind.Message bytes in
+    let way = sameRoute (envelopeOf bytes .route) (incoming (h .session .parties)) in
+    let known = isLast bytes (h .session .receiving) || isNext bytes (h .session .receiving) in
+    let clock = none-both (timeRefusal time (h .session)) _ e in
+    let first = passed 21 (not good) _ (lit< tt) (clock .1) in
+    let second = passed 33 (not way) _ (lit< tt) (first .1) in
+    let third = passed 35 (not known) _ (lit< tt) (second .1) in
+    record {
+      good = not-false good (first .0);
+      way = same (envelopeOf bytes .route) (incoming (h .session .parties)) (not-false way (second .0));
+      known = not-false known (third .0);
+      room = ltb-false (length (h .line)) (envelopeBytes + replyBytes) (none-test 23 (noRoom (envelopeBytes + replyBytes) (h .line)) (lit< tt) (third .1));
+    }
+
+pub record ReplyTold (bytes : List ℕ) (s : Session) : Type 0 where
+  pub good : envelopeGood Kind.Reply bytes ≡ true
+  pub way : envelopeOf bytes .route ≡ outgoing (s .parties)
+  pub awaited : isPending (s .presenting .pending) ≡ true
+  pub serial : serialOf bytes ≡ s .presenting .serial
+
+pub reply-told : (time : ℕ) (bytes : List ℕ) (s : Session) → replyRefusal time bytes s ≡ 0 → ReplyTold bytes s
+unfolding replyRefusal isAwaited
+reply-told time bytes s e =
+    let p = s .presenting in
+    let good = envelopeGood Kind.Reply bytes in
+    let way = sameRoute (envelopeOf bytes .route) (outgoing (s .parties)) in
+    let clock = none-both (timeRefusal time s) _ e in
+    let first = passed 21 (not good) _ (lit< tt) (clock .1) in
+    let second = passed 33 (not way) _ (lit< tt) (first .1) in
+    let third = passed 22 (not (replyGood (bodyOf bytes))) _ (lit< tt) (second .1) in
+    let all = three (isPending (p .pending)) (eqb (serialOf bytes) (p .serial)) (eqb (operationOf (bodyOf bytes)) (operationByte (awaitedOperation (p .pending)))) (not-false (isAwaited bytes p) (none-test 35 (not (isAwaited bytes p)) (lit< tt) (third .1))) in
+    record { good = not-false good (first .0); way = same (envelopeOf bytes .route) (outgoing (s .parties)) (not-false way (second .0)); awaited = all .0; serial = eqb-true (serialOf bytes) (p .serial) (all .1) }

@@ -1,0 +1,341 @@
+-- The premise is kept: a start gives a sound session with empty running totals, and every call keeps both parts, whatever its arguments.
+use mathlib.Core.Path.{_≡_, refl, ap, sym, subst, _∙_}
+use mathlib.Core.Bool.{Bool, true, false, not, _||_, cond, false≢true}
+use mathlib.Core.List.{List, []}
+use Prim.Native.Nat.{ℕ, suc, _+_, _*_, _≤_, _<_}
+use native.Mathlib.Omega.{arith}
+use lib.Dec.{eqb, leb, ltb, lit<}
+use lib.ListN.{length, length-set, length-replicate}
+use borrow.Author.Tests.{leb-true, leb-false, ltb-false, eqb-true, not-false}
+use Rattle.packed.specs.Every.{every}
+use Rattle.packed.specs.Pieces.{pieces}
+use Rattle.packed.specs.Writing.{packedByte}
+use Rattle.packed.proofs.Laws.Told.{both, three}
+use Rattle.codes.specs.Body.{operationOf}
+use Rattle.codes.specs.Chain.{_when_, _orelse_}
+use Rattle.codes.proofs.Laws.Chain.{none-test, none-both}
+use Rattle.document.specs.Limits.{documentBytes}
+use Rattle.document.specs.Fields.{amountsGood}
+use Rattle.document.specs.Amounts.{totalsOf}
+use Rattle.document.proofs.Laws.Amounts.{totals-below}
+use Rattle.detail.specs.Codes.{receiverCode, presenterCode}
+use Rattle.detail.specs.Groups.{documents}
+use Rattle.detail.proofs.Laws.Codes.{accepted-part, accepted-amounts}
+use Rattle.message.specs.declared.content.Content.{Content}
+use Rattle.message.specs.declared.envelope.Kind.{Kind}
+use Rattle.message.specs.Limits.{largestSerial, largestNumber}
+use Rattle.message.specs.Layout.{bodyCode}
+use Rattle.message.specs.Envelope.{envelopeGood, envelopeOf, bodyOf}
+use Rattle.message.specs.Content.{contentOf}
+use Rattle.message.specs.Header.{timeOfDay, orderNumber, header, headerOf, sendable}
+use Rattle.message.specs.Line.{message}
+use Rattle.message.specs.Total.{lotTotal, lotTotalFields, totalOf}
+use Rattle.message.proofs.Laws.Envelope.{serial-told}
+use Rattle.message.proofs.Laws.Header.{order-told}
+use Rattle.session.specs.declared.counters.OpenLot.{OpenLot}
+use Rattle.session.specs.declared.counters.Lot.{Lot}
+use Rattle.session.specs.declared.counters.Counters.{Counters}
+use Rattle.session.specs.declared.effect.Effect.{Effect}
+use Rattle.session.specs.declared.parties.Parties.{Parties}
+use Rattle.session.specs.declared.session.Close.{Close}
+use Rattle.session.specs.declared.session.Presenting.{Presenting}
+use Rattle.session.specs.declared.session.Receiving.{Receiving}
+use Rattle.session.specs.declared.session.Session.{Session}
+use Rattle.session.specs.Limits.{lotDocuments, mostLots, passesLot, lotsUsed}
+use Rattle.session.specs.Hours.{presenterLate, receiverLate}
+use Rattle.session.specs.Parties.{incoming, representedBy, partiesGood, partiesOf, nobody}
+use Rattle.session.specs.Running.{Running, empty, gather, detailAdds, documentsIn}
+use Rattle.session.specs.Course.{Course, advance, kept}
+use Rattle.session.specs.Sequence.{isOpen, isThis, headerSequence, openSequence, lotTotalSequence}
+use Rattle.session.specs.Start.{noLots, fresh, started, start}
+use Rattle.session.specs.Call.{Held, Outcome, decided, clockRefusal}
+use Rattle.session.specs.Sending.{isPending, sendRefusal, sent, send, headerStop, detailStop, lotTotalStop, sessionTotalStop, openNumber, openLot, sendHeader, sendDetail, sendLotTotal, sendSessionTotal, nextEnvelope}
+use Rattle.session.specs.Receiving.{acceptedLots, numberUsed, headerCode, detailCode, lotTotalCode, codeBy, effectBy, codeFor, taken, gathered, isNext, isLast, serialOf, receive, receiveRefusal, handled, repeated, answered}
+use Rattle.session.specs.Reply.{replyRefusal, isAccepted, told, replied, takeReply}
+use Rattle.session.specs.Clock.{ticked, clock}
+use Rattle.session.specs.Premise.{Fits, CountersSound, OpenSound, PendingSound, PendingCarried, PartiesSound, Sound, Direction, Carried}
+use Rattle.session.proofs.Laws.Parties.{told as parties-told}
+use Rattle.session.proofs.Laws.Call.{either}
+use Rattle.session.proofs.Laws.Refusals.{passed, SendTold, send-told, ReceiveTold, receive-told, ReplyTold, reply-told}
+
+-- amounts of digits fit, and add
+documents-fit : (operation receiving : ℕ) (ds : List (List ℕ)) → every (amountsGood operation receiving) ds ≡ true → Fits (length ds) (totalsOf ds)
+documents-fit operation receiving ds e = let t = totals-below operation receiving ds e in record { documents = omega (arith, t .0); nominal = omega (arith, t .0, t .1); commission = omega (arith, t .0, t .2) }
+
+fits-gather : (m n most : ℕ) (a b : Running) → documentsIn a + documentsIn b ≤ most → Fits m a → Fits n b → Fits most (gather a b)
+fits-gather m n most a b h f g = record { documents = h; nominal = omega (arith, f .nominal, g .nominal); commission = omega (arith, f .commission, g .commission) }
+
+fits-empty : (most : ℕ) → Fits most empty
+fits-empty most = record { documents = omega arith; nominal = omega arith; commission = omega arith }
+
+-- a direction's counters with the running totals lent for it
+pub record CourseSound (k : Course) : Type 0 where
+  pub counters : CountersSound (k .counters)
+  pub none-open : k .counters .current ≡ OpenLot.None → k .running ≡ empty
+  pub fits : Fits lotDocuments (k .running)
+
+-- what may be accepted
+pub record Allowed (effect : Effect) (k : Course) : Type 0 where
+  pub sound : PendingSound effect (k .counters)
+  pub carried : PendingCarried effect (k .running)
+
+-- nothing about a lot that is open can be said of none
+not-none : (n : ℕ) {A : Type 0} → OpenLot.Numbered n ≡ OpenLot.None → A
+not-none n e = absurd (false≢true (sym (ap isOpen e)))
+
+none-while-open : (lot : OpenLot) {A : Type 0} → isOpen lot ≡ true → lot ≡ OpenLot.None → A
+none-while-open lot o e = absurd (false≢true (sym (ap isOpen e) ∙ o))
+
+open-told : (lot : OpenLot) → openSequence lot ≡ 0 → isOpen lot ≡ true
+unfolding openSequence
+open-told lot e = not-false (isOpen lot) (none-test 7 (not (isOpen lot)) (lit< tt) e)
+
+numbered-open : (lot : OpenLot) → isOpen lot ≡ true → lot ≡ OpenLot.Numbered (openNumber lot)
+numbered-open OpenLot.None e = absurd (false≢true e)
+numbered-open (OpenLot.Numbered n) e = refl
+
+this-open : (number : ℕ) (lot : OpenLot) → isThis number lot ≡ true → lot ≡ OpenLot.Numbered number
+this-open number OpenLot.None e = absurd (false≢true e)
+this-open number (OpenLot.Numbered n) e = ap OpenLot.Numbered (eqb-true n number e)
+
+-- counters that advance by what may be accepted stay sound
+pub advanced : (effect : Effect) (accepted : Bool) (k : Course) → CourseSound k → (accepted ≡ true → Allowed effect k) → CourseSound (advance effect accepted k)
+unfolding advance
+advanced (Effect.Header n) true k s h =
+    let a = h refl in
+    record {
+      counters = record { lots = s .counters .lots; open-lot = a .sound; gathered = s .counters .gathered };
+      none-open = λ (e : OpenLot.Numbered n ≡ OpenLot.None). refl;
+      fits = fits-empty lotDocuments;
+    }
+advanced (Effect.Detail more) true k s h =
+    let a = h refl in
+    record { counters = s .counters; none-open = λ (e : k .counters .current ≡ OpenLot.None). none-while-open (k .counters .current) (a .sound) e; fits = a .carried }
+advanced (Effect.LotTotal lot) true k s h =
+    let a = h refl in
+    let room : OpenSound (OpenLot.Numbered (lot .number)) (k .counters .lots) = subst (λ (o : OpenLot). OpenSound o (k .counters .lots)) (a .sound) (s .counters .open-lot) in
+    let g = s .counters .gathered in
+    let f : Fits lotDocuments (lot .gathered) = subst (Fits lotDocuments) (sym (a .carried)) (s .fits) in
+    record {
+      counters = record { lots = omega (arith, room .1); open-lot = tt; gathered = fits-gather (k .counters .lots * lotDocuments) lotDocuments (suc (k .counters .lots) * lotDocuments) (k .counters .gathered) (lot .gathered) (omega (arith, g .documents, f .documents)) g f };
+      none-open = λ (e : OpenLot.None ≡ OpenLot.None). refl;
+      fits = fits-empty lotDocuments;
+    }
+advanced (Effect.LotTotal lot) false k s h =
+    record {
+      counters = record { lots = s .counters .lots; open-lot = tt; gathered = s .counters .gathered };
+      none-open = λ (e : OpenLot.None ≡ OpenLot.None). refl;
+      fits = fits-empty lotDocuments;
+    }
+advanced (Effect.Header n) false k s h = s
+advanced (Effect.Detail more) false k s h = s
+advanced Effect.SessionTotal accepted k s h = s
+advanced Effect.Nothing accepted k s h = s
+
+-- the presenter's codes let pass only what may be accepted
+module _ (t : Running) (p : Presenting) (fits : Fits lotDocuments t) where
+  abbrev presented : Course
+  presented = record { counters = p .counters; running = t }
+
+  header-allowed : (time moment centre number : ℕ) → headerStop time moment centre number p ≡ 0 → Allowed (Effect.Header number) presented
+  unfolding headerStop sendable
+  header-allowed time moment centre number e =
+      let fields = passed 1 (not (sendable moment centre number)) _ (lit< tt) e in
+      let place = none-both (headerSequence (p .ended) (p .counters .current)) _ (fields .1) in
+      let late = passed 10 (presenterLate time) _ (lit< tt) (place .1) in
+      let order = three (timeOfDay moment) (leb centre largestNumber) (orderNumber number) (not-false (sendable moment centre number) (fields .0)) .2 in
+      record {
+        sound = (leb-true number largestNumber (both (leb 1 number) (leb number largestNumber) order .1), leb-false mostLots (p .counters .lots) (none-test 11 (lotsUsed (p .counters .lots)) (lit< tt) (late .1)));
+        carried = tt;
+      }
+
+  detail-allowed : (operation partner : ℕ) (part : List ℕ) → detailStop operation partner part t p ≡ 0 → Allowed (Effect.Detail (detailAdds operation (pieces documentBytes part))) presented
+  unfolding detailStop
+  detail-allowed operation partner part e =
+      let ds = pieces documentBytes part in
+      let more = detailAdds operation ds in
+      let own = none-both (presenterCode operation partner part) _ e in
+      let place = none-both (openSequence (p .counters .current)) _ (own .1) in
+      let room = ltb-false lotDocuments (documentsIn t + documentsIn more) (none-test 12 (passesLot (documentsIn t + documentsIn more)) (lit< tt) (place .1)) in
+      record {
+        sound = open-told (p .counters .current) (place .0);
+        carried = fits-gather lotDocuments (length ds) lotDocuments t more room fits (documents-fit (packedByte operation) partner ds (accepted-part operation partner part (own .0) .1));
+      }
+
+  lot-total-allowed : lotTotalStop p ≡ 0 → Allowed (Effect.LotTotal (openLot (p .counters) t)) presented
+  unfolding lotTotalStop
+  lot-total-allowed e = record { sound = numbered-open (p .counters .current) (open-told (p .counters .current) e); carried = refl }
+
+-- and so do the receiver's
+module _ (time : ℕ) (body : List ℕ) (parties : Parties) (t : Running) (r : Receiving) (fits : Fits lotDocuments t) where
+  abbrev heard : Course
+  heard = record { counters = r .counters; running = t }
+
+  received-allowed : (c : Content) → codeBy c time body parties t r ≡ 0 → Allowed (effectBy c body t) heard
+  unfolding codeBy effectBy headerCode detailCode lotTotalCode lotTotalSequence
+  received-allowed Content.Header e =
+      let read = none-both (bodyCode (header (incoming parties)) body) _ e in
+      let place = none-both (headerSequence (r .ended) (r .counters .current)) _ (read .1) in
+      let late = passed 10 (receiverLate time) _ (lit< tt) (place .1) in
+      let new = passed 4 (numberUsed (headerOf body .number) (acceptedLots r)) _ (lit< tt) (late .1) in
+      record {
+        sound = (order-told (incoming parties) body (read .0), leb-false mostLots (r .counters .lots) (none-test 11 (lotsUsed (r .counters .lots)) (lit< tt) (new .1)));
+        carried = tt;
+      }
+  received-allowed Content.Detail e =
+      let ds = documents body in
+      let more = detailAdds (operationOf body) ds in
+      let read = none-both (receiverCode (parties .own) (representedBy parties) body) _ e in
+      let place = none-both (openSequence (r .counters .current)) _ (read .1) in
+      let room = ltb-false lotDocuments (documentsIn t + documentsIn more) (none-test 12 (passesLot (documentsIn t + documentsIn more)) (lit< tt) (place .1)) in
+      record {
+        sound = open-told (r .counters .current) (place .0);
+        carried = fits-gather lotDocuments (length ds) lotDocuments t more room fits (documents-fit (operationOf body) (parties .own) ds (accepted-amounts (parties .own) (representedBy parties) body (read .0)));
+      }
+  received-allowed Content.LotTotal e =
+      let number = totalOf lotTotalFields body .number in
+      let read = none-both (bodyCode lotTotal body) _ e in
+      let place = none-both (lotTotalSequence number (r .counters .current) t) _ (read .1) in
+      let this = passed 7 (not (isThis number (r .counters .current))) _ (lit< tt) (place .0) in
+      record { sound = this-open number (r .counters .current) (not-false (isThis number (r .counters .current)) (this .0)); carried = refl }
+  received-allowed Content.SessionTotal e = record { sound = tt; carried = tt }
+  received-allowed Content.Unknown e = record { sound = tt; carried = tt }
+
+-- the premise of a call of a direction, and that it is kept
+pub record Good (d : Direction) (h : Held) : Type 0 where
+  pub sound : Sound (h .session)
+  pub carried : Carried d (h .session) (h .running)
+
+presenting-course : (h : Held) → Good Direction.presenting h → CourseSound (record { counters = h .session .presenting .counters; running = h .running })
+presenting-course h g = record { counters = g .sound .presenting; none-open = g .carried .none-open; fits = g .carried .fits }
+
+receiving-course : (h : Held) → Good Direction.receiving h → CourseSound (record { counters = h .session .receiving .counters; running = h .running })
+receiving-course h g = record { counters = g .sound .receiving; none-open = g .carried .none-open; fits = g .carried .fits }
+
+-- every send, by what its own code lets pass
+pub send-keeps : (time code : ℕ) (effect : Effect) (body : List ℕ) (h : Held) → Good Direction.presenting h → (code ≡ 0 → Allowed effect (record { counters = h .session .presenting .counters; running = h .running })) → Good Direction.presenting (send time code effect body h .left)
+unfolding send
+send-keeps time code effect body h g allowed =
+    let bytes = message (nextEnvelope (h .session)) body in
+    either (λ (o : Outcome). Good Direction.presenting (o .left)) (sendRefusal time code bytes h) h _
+    (λ (k : ℕ). g)
+    (λ (e : sendRefusal time code bytes h ≡ 0).
+    let known = send-told time code bytes h e in
+    let a = allowed (known .unstopped) in
+    record {
+      sound = record { parties = g .sound .parties; sent = known .more; received = g .sound .received; presenting = g .sound .presenting; receiving = g .sound .receiving; pending = a .sound; places = g .sound .places };
+      carried = record { none-open = g .carried .none-open; fits = g .carried .fits; pending = a .carried };
+    })
+
+pub send-header-keeps : (time moment centre number : ℕ) (h : Held) → Good Direction.presenting h → Good Direction.presenting (sendHeader time moment centre number h .left)
+unfolding sendHeader
+send-header-keeps time moment centre number h g = send-keeps time _ _ _ h g (header-allowed (h .running) (h .session .presenting) (g .carried .fits) time moment centre number)
+
+pub send-detail-keeps : (time operation : ℕ) (part : List ℕ) (h : Held) → Good Direction.presenting h → Good Direction.presenting (sendDetail time operation part h .left)
+unfolding sendDetail
+send-detail-keeps time operation part h g = send-keeps time _ _ _ h g (detail-allowed (h .running) (h .session .presenting) (g .carried .fits) operation (h .session .parties .partner) part)
+
+pub send-lot-total-keeps : (time : ℕ) (h : Held) → Good Direction.presenting h → Good Direction.presenting (sendLotTotal time h .left)
+unfolding sendLotTotal
+send-lot-total-keeps time h g = send-keeps time _ _ _ h g (lot-total-allowed (h .running) (h .session .presenting) (g .carried .fits))
+
+pub send-session-total-keeps : (time : ℕ) (h : Held) → Good Direction.presenting h → Good Direction.presenting (sendSessionTotal time h .left)
+unfolding sendSessionTotal
+send-session-total-keeps time h g = send-keeps time _ _ _ h g (λ (e : sessionTotalStop (h .session .presenting) ≡ 0). record { sound = tt; carried = tt })
+
+-- a reply, whatever code it brings
+pub reply-keeps : (time : ℕ) (bytes : List ℕ) (h : Held) → Good Direction.presenting h → Good Direction.presenting (takeReply time bytes h .left)
+unfolding takeReply
+reply-keeps time bytes h g =
+    either (λ (o : Outcome). Good Direction.presenting (o .left)) (replyRefusal time bytes (h .session)) h _
+    (λ (k : ℕ). g)
+    (λ (e : replyRefusal time bytes (h .session) ≡ 0).
+    let p = h .session .presenting in
+    let after = advanced (p .pending) (isAccepted bytes) (record { counters = p .counters; running = h .running }) (presenting-course h g) (λ (t : isAccepted bytes ≡ true). record { sound = g .sound .pending; carried = g .carried .pending }) in
+    record {
+      sound = record { parties = g .sound .parties; sent = g .sound .sent; received = g .sound .received; presenting = after .counters; receiving = g .sound .receiving; pending = tt; places = g .sound .places };
+      carried = record { none-open = after .none-open; fits = after .fits; pending = tt };
+    })
+
+-- a message, whatever its bytes
+kept-length : (effect : Effect) (accepted : Bool) (lots : ℕ) (places : List Lot) → length (kept effect accepted lots places) ≡ length places
+unfolding kept
+kept-length (Effect.LotTotal lot) true lots places = length-set places lots lot
+kept-length (Effect.LotTotal lot) false lots places = refl
+kept-length Effect.Nothing accepted lots places = refl
+kept-length (Effect.Header number) accepted lots places = refl
+kept-length (Effect.Detail more) accepted lots places = refl
+kept-length Effect.SessionTotal accepted lots places = refl
+
+handled-keeps : (time : ℕ) (bytes : List ℕ) (h : Held) → Good Direction.receiving h → ReceiveTold bytes h → isNext bytes (h .session .receiving) ≡ true → Good Direction.receiving (handled time (bodyOf bytes) h)
+unfolding taken
+handled-keeps time bytes h g known next =
+    let body = bodyOf bytes in
+    let r = h .session .receiving in
+    let code = codeFor time body h in
+    let effect = effectBy (contentOf body) body (h .running) in
+    let after = advanced effect (eqb code 0) (record { counters = r .counters; running = h .running }) (receiving-course h g) (λ (t : eqb code 0 ≡ true). received-allowed time body (h .session .parties) (h .running) r (g .carried .fits) (contentOf body) (eqb-true code 0 t)) in
+    record {
+      sound =
+          record {
+            parties = g .sound .parties;
+            sent = g .sound .sent;
+            received = omega (arith, serial-told Kind.Message bytes (known .good) .1, eqb-true (serialOf bytes) (suc (r .serial)) next);
+            presenting = g .sound .presenting;
+            receiving = after .counters;
+            pending = g .sound .pending;
+            places = kept-length effect (eqb code 0) (r .counters .lots) (r .lots) ∙ g .sound .places;
+          };
+      carried = record { none-open = after .none-open; fits = after .fits; pending = tt };
+    }
+
+pub receive-keeps : (time : ℕ) (bytes : List ℕ) (h : Held) → Good Direction.receiving h → Good Direction.receiving (receive time bytes h .left)
+unfolding receive
+receive-keeps time bytes h g =
+    either (λ (o : Outcome). Good Direction.receiving (o .left)) (receiveRefusal time bytes h) h _
+    (λ (k : ℕ). g)
+    (λ (e : receiveRefusal time bytes h ≡ 0). go (isNext bytes (h .session .receiving)) refl (receive-told time bytes h e))
+  where
+    go : (t : Bool) → isNext bytes (h .session .receiving) ≡ t → ReceiveTold bytes h → Good Direction.receiving (cond t (answered bytes (handled time (bodyOf bytes) h)) (answered bytes (repeated time h)) .left)
+    go true n known = let after = handled-keeps time bytes h g known n in record { sound = after .sound; carried = after .carried }
+    go false n known =
+        record {
+          sound = record { parties = g .sound .parties; sent = g .sound .sent; received = g .sound .received; presenting = g .sound .presenting; receiving = g .sound .receiving; pending = g .sound .pending; places = g .sound .places };
+          carried = record { none-open = g .carried .none-open; fits = g .carried .fits; pending = tt };
+        }
+
+-- a clock call, in both directions
+pub clock-keeps : (time : ℕ) (d : Direction) (h : Held) → Good d h → Good d (clock time h .left)
+unfolding clock
+clock-keeps time d h g =
+    either (λ (o : Outcome). Good d (o .left)) (clockRefusal time (h .session)) h _
+    (λ (k : ℕ). g)
+    (λ (e : clockRefusal time (h .session) ≡ 0).
+    record {
+      sound = record { parties = g .sound .parties; sent = g .sound .sent; received = g .sound .received; presenting = g .sound .presenting; receiving = g .sound .receiving; pending = g .sound .pending; places = g .sound .places };
+      carried = ticked-carried d g;
+    })
+  where
+    ticked-carried : (d : Direction) → Good d h → Carried d (ticked time (h .session)) (h .running)
+    ticked-carried Direction.presenting g = record { none-open = g .carried .none-open; fits = g .carried .fits; pending = g .carried .pending }
+    ticked-carried Direction.receiving g = record { none-open = g .carried .none-open; fits = g .carried .fits; pending = tt }
+
+-- a start that is not refused; what stands beside 24 is sound as well
+fresh-sound : (parties : Parties) (close : Close) → PartiesSound parties → Sound (fresh parties close)
+unfolding fresh
+fresh-sound parties close p =
+    let none : CountersSound noLots = record { lots = omega arith; open-lot = tt; gathered = fits-empty 0 } in
+    record { parties = p; sent = omega arith; received = omega arith; presenting = none; receiving = none; pending = tt; places = length-replicate {A = Lot} mostLots (record { number = 0; gathered = empty }) }
+
+pub start-sound : (date own partner : ℕ) (represented : List ℕ) → Sound (start date own partner represented .session)
+unfolding start
+start-sound date own partner represented = go (partiesGood date own partner represented) refl
+  where
+    go : (t : Bool) → partiesGood date own partner represented ≡ t → Sound (cond t (started date own partner represented) (fresh nobody Close.Forced))
+    go true e = let p = parties-told date own partner represented e in fresh-sound (partiesOf date own partner represented) Close.Open (record { date = p .date; own = p .own; partner = p .partner; represented = p .represented })
+    go false e = fresh-sound nobody Close.Forced (record { date = omega arith; own = omega arith; partner = omega arith; represented = omega arith })
+
+pub start-carried : (parties : Parties) (close : Close) (d : Direction) → Carried d (fresh parties close) empty
+unfolding fresh
+start-carried parties close Direction.presenting = record { none-open = λ (e : OpenLot.None ≡ OpenLot.None). refl; fits = fits-empty lotDocuments; pending = tt }
+start-carried parties close Direction.receiving = record { none-open = λ (e : OpenLot.None ≡ OpenLot.None). refl; fits = fits-empty lotDocuments; pending = tt }
