@@ -5,3 +5,9 @@ pub mod Ledger
 pub mod Refusals
 pub mod Sound
 pub mod Calls
+pub mod Line
+pub mod Lists
+pub mod Joined
+pub mod Mirror
+pub mod Foreign
+pub mod Entries

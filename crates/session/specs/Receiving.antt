@@ -45,7 +45,7 @@ acceptedLots r = take (r .counters .lots) (r .lots)
 
 -- one of some lots has this number, or these three totals
 abbrev pub numberUsed : ℕ → List Lot → Bool
-numberUsed number lots = anyOf (λ (l : Lot). eqb (l .number) number) lots
+numberUsed number lots = anyOf (λ (l : Lot). eqb number (l .number)) lots
 
 abbrev pub totalsUsed : Totals → List Lot → Bool
 totalsUsed t lots = anyOf (λ (l : Lot). same (stated (l .gathered)) t) lots

@@ -72,11 +72,15 @@ headerStop time moment centre number p =
     orelse 10 when presenterLate time
     orelse 11 when lotsUsed (p .counters .lots)
 
+-- what the documents of a part would add
+abbrev pub partAdds : (operation : ℕ) (part : List ℕ) → Running
+partAdds operation part = detailAdds (packedByte operation) (pieces documentBytes part)
+
 unfoldable pub detailStop : (operation partner : ℕ) (part : List ℕ) → Running → Presenting → ℕ
 detailStop operation partner part running p =
     presenterCode operation partner part
     orelse openSequence (p .counters .current)
-    orelse 12 when passesLot (documentsIn running + documentsIn (detailAdds operation (pieces documentBytes part)))
+    orelse 12 when passesLot (documentsIn running + documentsIn (partAdds operation part))
 
 unfoldable pub lotTotalStop : Presenting → ℕ
 lotTotalStop p = openSequence (p .counters .current)
@@ -100,7 +104,7 @@ sendHeader time moment centre number h =
 
 unfoldable pub sendDetail : (time operation : ℕ) (part : List ℕ) → Held → Outcome
 sendDetail time operation part h =
-    send time (detailStop operation (h .session .parties .partner) part (h .running) (h .session .presenting)) (Effect.Detail (detailAdds operation (pieces documentBytes part)))
+    send time (detailStop operation (h .session .parties .partner) part (h .running) (h .session .presenting)) (Effect.Detail (partAdds operation part))
     (written (packedByte operation) part) h
 
 -- The presenter writes totals from its own counters, and a lot total with the open lot's number.

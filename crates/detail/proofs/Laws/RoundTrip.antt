@@ -32,7 +32,7 @@ use Rattle.detail.proofs.Laws.Codes.{sendable-part, shaped-judged}
 use Rattle.detail.proofs.Laws.Writing.{documents-written, operation-written, one-written, shape-written}
 
 -- the byte of operation 30 or 40 is one of the two of a group
-operation-byte : (operation : ℕ) → eqb operation presentedNumber || eqb operation returnedNumber ≡ true → isOperation (packedByte operation) ≡ true
+pub operation-byte : (operation : ℕ) → eqb operation presentedNumber || eqb operation returnedNumber ≡ true → isOperation (packedByte operation) ≡ true
 unfolding packedByte
 operation-byte operation e = go (eqb operation presentedNumber) refl e
   where

@@ -49,7 +49,7 @@ use Rattle.session.specs.Course.{Course, advance, kept}
 use Rattle.session.specs.Sequence.{isOpen, isThis, headerSequence, openSequence, lotTotalSequence}
 use Rattle.session.specs.Start.{noLots, fresh, started, start}
 use Rattle.session.specs.Call.{Held, Outcome, decided, clockRefusal}
-use Rattle.session.specs.Sending.{isPending, sendRefusal, sent, send, headerStop, detailStop, lotTotalStop, sessionTotalStop, openNumber, openLot, sendHeader, sendDetail, sendLotTotal, sendSessionTotal, nextEnvelope}
+use Rattle.session.specs.Sending.{isPending, sendRefusal, sent, send, headerStop, detailStop, lotTotalStop, sessionTotalStop, partAdds, openNumber, openLot, sendHeader, sendDetail, sendLotTotal, sendSessionTotal, nextEnvelope}
 use Rattle.session.specs.Receiving.{acceptedLots, numberUsed, headerCode, detailCode, lotTotalCode, codeBy, effectBy, codeFor, taken, gathered, isNext, isLast, serialOf, receive, receiveRefusal, handled, repeated, answered}
 use Rattle.session.specs.Reply.{replyRefusal, isAccepted, told, replied, takeReply}
 use Rattle.session.specs.Clock.{ticked, clock}
@@ -149,11 +149,11 @@ module _ (t : Running) (p : Presenting) (fits : Fits lotDocuments t) where
         carried = tt;
       }
 
-  detail-allowed : (operation partner : ℕ) (part : List ℕ) → detailStop operation partner part t p ≡ 0 → Allowed (Effect.Detail (detailAdds operation (pieces documentBytes part))) presented
+  detail-allowed : (operation partner : ℕ) (part : List ℕ) → detailStop operation partner part t p ≡ 0 → Allowed (Effect.Detail (partAdds operation part)) presented
   unfolding detailStop
   detail-allowed operation partner part e =
       let ds = pieces documentBytes part in
-      let more = detailAdds operation ds in
+      let more = partAdds operation part in
       let own = none-both (presenterCode operation partner part) _ e in
       let place = none-both (openSequence (p .counters .current)) _ (own .1) in
       let room = ltb-false lotDocuments (documentsIn t + documentsIn more) (none-test 12 (passesLot (documentsIn t + documentsIn more)) (lit< tt) (place .1)) in

@@ -1,0 +1,72 @@
+-- What a presenter sends reads at the other end as the entry that it waits with, keys and all.
+use mathlib.Core.Path.{_≡_, refl, ap, sym, _∙_}
+use mathlib.Core.Bool.{true}
+use mathlib.Core.List.{List}
+use mathlib.Core.Option.{Option, none, some}
+use Prim.Native.Nat.{ℕ, _<_, _^_}
+use native.Mathlib.Omega.{arith}
+use lib.ListN.{length}
+use Rattle.packed.specs.Pieces.{pieces}
+use Rattle.packed.specs.Writing.{packedByte}
+use Rattle.codes.specs.Body.{operationOf}
+use Rattle.document.specs.Limits.{documentBytes}
+use Rattle.detail.specs.Codes.{sendable}
+use Rattle.detail.specs.Groups.{documents}
+use Rattle.detail.specs.Writing.{written}
+use Rattle.detail.proofs.Laws.Codes.{sendable-part}
+use Rattle.detail.proofs.Laws.Writing.{documents-written, operation-written}
+use Rattle.detail.proofs.Laws.RoundTrip.{operation-byte}
+use Rattle.message.specs.declared.route.Route.{Route}
+use Rattle.message.specs.declared.content.Content.{Content}
+use Rattle.message.specs.declared.header.Header.{Header}
+use Rattle.message.specs.declared.total.Total.{Total}
+use Rattle.message.specs.Content.{byOperation, contentOf}
+use Rattle.codes.specs.Field.{tableTakes}
+use Rattle.message.specs.Header.{headerFields, headerValues, headerOf, sendable as headerSendable}
+use Rattle.message.specs.Line.{Body, bodyBytes, bodyContent}
+use Rattle.message.proofs.Laws.Content.{detail-told}
+use Rattle.message.proofs.Laws.Header.{header-told, in-range}
+use Rattle.message.proofs.Laws.Line.{content-told}
+use Rattle.session.specs.declared.counters.Counters.{Counters}
+use Rattle.session.specs.declared.counters.Lot.{Lot}
+use Rattle.session.specs.declared.effect.Effect.{Effect}
+use Rattle.session.specs.Running.{Running}
+use Rattle.session.specs.Course.{Course}
+use Rattle.session.specs.Sending.{openNumber, openLot, partAdds}
+use Rattle.session.specs.Ledger.{LedgerLot, Ledger, Entry, entryBy, bodyEntry, partEntry, ofOperation}
+use Rattle.session.proofs.Laws.Ledger.{summary, openOf, runningOf, lotOf, detail-sum}
+
+header-read : (route : Route) (h : Header) → tableTakes (headerFields route) (headerValues route h) ≡ true → headerOf (bodyBytes route (Body.opening h)) ≡ h
+unfolding bodyBytes
+header-read route h e = header-told route h e
+
+pub header-entry : (route : Route) (h : Header) → route .date < 100 ^ 3 → route .presenting < 100 ^ 2 → route .receiving < 100 ^ 2 → headerSendable (h .time) (h .centre) (h .number) ≡ true → bodyEntry (bodyBytes route (Body.opening h)) ≡ Entry.opens (h .number)
+unfolding entryBy
+header-entry route h d p r s = ap (λ (c : Content). entryBy c (bodyBytes route (Body.opening h))) (content-told route (Body.opening h)) ∙ ap (λ (x : Header). Entry.opens (x .number)) (header-read route h (in-range route h d p r s))
+
+pub detail-entry : (operation : ℕ) (part : List ℕ) → sendable operation part ≡ true → bodyEntry (written (packedByte operation) part) ≡ partEntry operation part
+unfolding entryBy
+detail-entry operation part s =
+    let fit = sendable-part operation part s in
+    let o = packedByte operation in
+    let body = written o part in
+    let some-bytes : 0 < length part = omega (arith, fit .least) in
+    let op = operation-written o part some-bytes in
+    ap (λ (c : Content). entryBy c body) (ap byOperation op ∙ detail-told o (operation-byte operation (fit .kind)))
+    ∙ λ i. Entry.adds (ofOperation (op i) (documents-written o part i))
+
+pub lot-total-entry : (route : Route) (t : Total) → bodyEntry (bodyBytes route (Body.lotEnding t)) ≡ Entry.endsLot
+unfolding entryBy
+lot-total-entry route t = ap (λ (c : Content). entryBy c (bodyBytes route (Body.lotEnding t))) (content-told route (Body.lotEnding t))
+
+pub session-total-entry : (route : Route) (t : Total) → bodyEntry (bodyBytes route (Body.sessionEnding t)) ≡ Entry.endsDirection
+unfolding entryBy
+session-total-entry route t = ap (λ (c : Content). entryBy c (bodyBytes route (Body.sessionEnding t))) (content-told route (Body.sessionEnding t))
+
+-- the lot that the presenter's counters name is the open one of its book
+pub named-lot : (c : Counters) (t : Running) (b : Ledger) → _≡_ {A = Course} (record { counters = c; running = t }) (summary b) → openLot c t ≡ lotOf (b .current)
+named-lot c t b course = ap (λ (k : Course). openLot (k .counters) (k .running)) course ∙ go (b .current)
+  where
+    go : (o : Option LedgerLot) → _≡_ {A = Lot} (record { number = openNumber (openOf o); gathered = runningOf o }) (lotOf o)
+    go none = refl
+    go (some l) = refl

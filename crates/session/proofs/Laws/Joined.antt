@@ -1,0 +1,94 @@
+-- How the two ends of a direction stand to each other: the invariant of the agreement. Each end's counters mirror its own book; the books are
+-- equal, or the receiver's has what the presenter still waits for; and the line holds nothing that could surprise either.
+use mathlib.Core.Path.{_≡_, refl, ap, sym, subst, _∙_}
+use mathlib.Core.Bool.{Bool, true, false, cond}
+use mathlib.Core.List.{List, [], _∷_, map}
+use mathlib.Core.Logic.{_⊎_, inl, inr}
+use mathlib.Core.Option.{Option, none, some}
+use Prim.Native.Nat.{ℕ, suc}
+use native.Mathlib.Omega.{arith}
+use lib.Dec.{eqb}
+use borrow.Author.Tests.{ne-eqb}
+use Rattle.document.specs.Entities.{member}
+use Rattle.message.specs.declared.route.Route.{Route}
+use Rattle.session.specs.declared.effect.Effect.{Effect}
+use Rattle.session.specs.declared.session.Presenting.{Presenting}
+use Rattle.session.specs.declared.session.Receiving.{Receiving}
+use Rattle.session.specs.Running.{Running}
+use Rattle.session.specs.Course.{Course}
+use Rattle.session.specs.Receiving.{acceptedLots}
+use Rattle.session.specs.Ledger.{LedgerLot, Ledger, Entry, PresenterBook, ReceiverBook, enter, lotSum, numbers, Distinct}
+use Rattle.session.specs.Ends.{Event, Written}
+use Rattle.session.proofs.Laws.Ledger.{summary, effectOf}
+use Rattle.session.proofs.Laws.Line.{accepts, MessageFact, ReplyFact, Foreign}
+use Rattle.session.proofs.Laws.Lists.{upTo}
+
+-- what waits, as the presenter's state has it
+abbrev pub waitingEffect : Option Entry → Ledger → Effect
+waitingEffect none b = Effect.Nothing
+waitingEffect (some (Entry.opens number)) b = effectOf (Entry.opens number) b
+waitingEffect (some (Entry.adds ds)) b = effectOf (Entry.adds ds) b
+waitingEffect (some Entry.endsLot) b = effectOf Entry.endsLot b
+waitingEffect (some Entry.endsDirection) b = Effect.SessionTotal
+waitingEffect (some Entry.nothing) b = Effect.SessionTotal
+
+pub record PresenterSide (p : Presenting) (t : Running) (b : PresenterBook) : Type 0 where
+  pub course : _≡_ {A = Course} (record { counters = p .counters; running = t }) (summary (b .ledger))
+  pub pending : p .pending ≡ waitingEffect (b .waiting) (b .ledger)
+  pub once : Distinct (numbers (b .ledger .lots))
+
+-- the open lot's number is no accepted lot's
+abbrev pub NewNumber : Option LedgerLot → List LedgerLot → Type 0
+NewNumber none ls = Unit {0}
+NewNumber (some l) ls = member (l .number) (numbers ls) ≡ false
+
+-- what the receiver's own book says of its state
+pub record Mirrored (r : Receiving) (t : Running) (b : Ledger) : Type 0 where
+  pub course : _≡_ {A = Course} (record { counters = r .counters; running = t }) (summary b)
+  pub kept : acceptedLots r ≡ map lotSum (b .lots)
+  pub once : Distinct (numbers (b .lots))
+  pub new : NewNumber (b .current) (b .lots)
+
+-- the serials that were received end with the last
+pub record Seen (last : ℕ) (serials : List ℕ) : Type 0 where
+  pub earlier : upTo last serials ≡ true
+  pub last-seen : (last ≡ 0) ⊎ (member last serials ≡ true)
+
+-- nothing waits and the books are equal; or a message waits that was not received; or one that was, with the code that is kept
+pub data Link (p : Presenting) (r : Receiving) (waiting : Option Entry) (confirming counting : Ledger) : Type 0 where
+  idle : waiting ≡ none → p .serial ≡ r .serial → confirming ≡ counting → Link p r waiting confirming counting
+  sent : (e : Entry) → waiting ≡ some e → p .serial ≡ suc (r .serial) → confirming ≡ counting → Link p r waiting confirming counting
+  taken : (e : Entry) → waiting ≡ some e → p .serial ≡ r .serial → counting ≡ enter e (accepts (r .reply .code)) confirming → Link p r waiting confirming counting
+
+pub record Joined (route : Route) (p : Presenting) (pt : Running) (r : Receiving) (rt : Running) (bp : PresenterBook) (br : ReceiverBook) (trace : List Event) : Type 0 where
+  pub presenter : PresenterSide p pt bp
+  pub receiver : Mirrored r rt (br .ledger)
+  pub seen : Seen (r .serial) (br .serials)
+  pub link : Link p r (bp .waiting) (bp .ledger) (br .ledger)
+  pub messages : (bytes : List ℕ) → Written bytes trace → MessageFact route (p .serial) (bp .waiting) bytes
+  pub replies : (bytes : List ℕ) → Written bytes trace → ReplyFact route (r .serial) (r .reply .code) bytes
+
+module _ (route : Route) (p : Presenting) (pt : Running) (r : Receiving) (rt : Running) (bp : PresenterBook) (br : ReceiverBook) (trace : List Event) (j : Joined route p pt r rt bp br trace) where
+  -- a call that writes nothing of this direction
+  pub passed-by : (e : Event) → (e .said .number ≡ 0 → Foreign route (e .said .bytes)) → Joined route p pt r rt bp br (e ∷ trace)
+  passed-by e foreign =
+      record { presenter = j .presenter; receiver = j .receiver; seen = j .seen; link = j .link; messages = all-messages; replies = all-replies }
+    where
+      all-messages : (bytes : List ℕ) → Written bytes (e ∷ trace) → MessageFact route (p .serial) (bp .waiting) bytes
+      all-messages bytes (inl w) = subst (MessageFact route (p .serial) (bp .waiting)) (w .1) (λ g way. absurd (foreign (w .0) .no-message g way))
+      all-messages bytes (inr w) = j .messages bytes w
+
+      all-replies : (bytes : List ℕ) → Written bytes (e ∷ trace) → ReplyFact route (r .serial) (r .reply .code) bytes
+      all-replies bytes (inl w) = subst (ReplyFact route (r .serial) (r .reply .code)) (w .1) (λ g way. absurd (foreign (w .0) .no-reply g way))
+      all-replies bytes (inr w) = j .replies bytes w
+
+  -- a refused call
+  pub refused-by : (e : Event) (k : ℕ) → e .said .number ≡ suc k → Joined route p pt r rt bp br (e ∷ trace)
+  refused-by e k n = passed-by e (λ (z : e .said .number ≡ 0). absurd (never n z))
+    where
+      never : {m l : ℕ} → m ≡ suc l → m ≡ 0 → ⊥
+      never a b = omega arith
+
+-- which enters no book
+pub not-entered : {A : Type 0} (k : ℕ) (a b : A) → cond (eqb (suc k) 0) a b ≡ b
+not-entered {A = A} k a b = ap (λ (t : Bool). cond t a b) (ne-eqb (suc k) 0 (λ (z : suc k ≡ 0). omega arith))

@@ -1,0 +1,81 @@
+-- What the line tells: whose message or reply some written bytes are, and what they bring.
+use mathlib.Core.Path.{_≡_, refl, ap, sym, subst, _∙_}
+use mathlib.Core.Bool.{Bool, true, false, true≢false, false≢true}
+use mathlib.Core.List.{List, [], _++_}
+use mathlib.Core.Option.{Option, none, some}
+use Prim.Native.Nat.{ℕ, suc, _≤_, _<_, _^_}
+use native.Mathlib.Omega.{arith}
+use lib.Dec.{eqb}
+use Rattle.packed.specs.Part.{byteAt}
+use Rattle.packed.specs.Number.{byteValue}
+use Rattle.codes.specs.declared.reply.Code.{Code}
+use Rattle.codes.specs.Reply.{codeNumber, codeByte}
+use Rattle.codes.proofs.Laws.Reply.{code-value}
+use Rattle.codes.specs.Field.{tableTakes}
+use Rattle.message.specs.declared.route.Route.{Route}
+use Rattle.message.specs.declared.envelope.Kind.{Kind}
+use Rattle.message.specs.declared.envelope.Envelope.{Envelope}
+use Rattle.message.specs.declared.reply.Reply.{Reply}
+use Rattle.message.specs.Limits.{largestSerial}
+use Rattle.message.specs.Envelope.{envelopeFields, envelopeGood, envelopeOf, envelopeValues, writtenEnvelope, bodyOf}
+use Rattle.message.specs.Reply.{writtenReplyBody}
+use Rattle.message.specs.Line.{message, wholeReply}
+use Rattle.message.proofs.Laws.Envelope.{in-range, envelope-told, body-told, kind-told}
+use Rattle.session.specs.declared.parties.Parties.{Parties}
+use Rattle.session.specs.Parties.{outgoing, incoming}
+use Rattle.session.specs.Receiving.{serialOf}
+use Rattle.session.specs.Reply.{isAccepted}
+use Rattle.session.specs.Premise.{PartiesSound}
+use Rattle.session.specs.Ledger.{Entry, bodyEntry}
+
+-- whether a code accepts
+abbrev pub accepts : Code → Bool
+accepts c = eqb (codeNumber c) 0
+
+-- a message of a direction is no later than the presenter's last, and that one reads as what is waiting
+abbrev pub MessageFact : Route → (serial : ℕ) → Option Entry → List ℕ → Type 0
+MessageFact route serial waiting bytes =
+    envelopeGood Kind.Message bytes ≡ true → envelopeOf bytes .route ≡ route → (serialOf bytes ≤ serial) × ((e : Entry) → serialOf bytes ≡ serial → waiting ≡ some e → bodyEntry (bodyOf bytes) ≡ e)
+
+-- a reply is to nothing later than the receiver's last, and that one brings the kept code
+abbrev pub ReplyFact : Route → (serial : ℕ) → Code → List ℕ → Type 0
+ReplyFact route serial code bytes = envelopeGood Kind.Reply bytes ≡ true → envelopeOf bytes .route ≡ route → (serialOf bytes ≤ serial) × (serialOf bytes ≡ serial → isAccepted bytes ≡ accepts code)
+
+-- neither a message nor a reply of the direction
+pub record Foreign (route : Route) (bytes : List ℕ) : Type 0 where
+  pub no-message : envelopeGood Kind.Message bytes ≡ true → envelopeOf bytes .route ≡ route → ⊥
+  pub no-reply : envelopeGood Kind.Reply bytes ≡ true → envelopeOf bytes .route ≡ route → ⊥
+
+isReply : Kind → Bool
+isReply Kind.Message = false
+isReply Kind.Reply = true
+
+-- a message is no reply, and a reply no message, whatever its route
+pub message-is-none : (e : Envelope) (body : List ℕ) → envelopeGood Kind.Reply (message e body) ≡ true → ⊥
+unfolding isReply
+message-is-none e body g = true≢false (ap isReply (kind-told Kind.Message Kind.Reply e body g))
+
+pub reply-is-none : (e : Envelope) (r : Reply) → envelopeGood Kind.Message (wholeReply e r) ≡ true → ⊥
+unfolding isReply
+reply-is-none e r g = false≢true (ap isReply (kind-told Kind.Reply Kind.Message e (writtenReplyBody r) g))
+
+-- nothing written is nobody's
+pub nothing-foreign : (route : Route) → Foreign route []
+unfolding envelopeGood
+nothing-foreign route = record { no-message = λ (g : false ≡ true) (w : envelopeOf [] .route ≡ route). false≢true g; no-reply = λ (g : false ≡ true) (w : envelopeOf [] .route ≡ route). false≢true g }
+
+-- an envelope of either way between sound parties can be written
+pub carries : (p : Parties) → PartiesSound p → (route : Route) → route .date ≡ p .date → route .presenting ≤ 9999 → route .receiving ≤ 9999 → (serial : ℕ) → 1 ≤ serial → serial ≤ largestSerial → tableTakes envelopeFields (envelopeValues (record { route = route; serial = serial })) ≡ true
+carries p s route d a b serial least most = in-range (record { route = route; serial = serial }) (omega (arith, d, s .date)) (omega (arith, a)) (omega (arith, b)) least most
+
+-- so its route and its serial are read back
+module _ (kind : Kind) (e : Envelope) (body : List ℕ) (fits : tableTakes envelopeFields (envelopeValues e) ≡ true) where
+  pub route-told : envelopeOf (writtenEnvelope kind e ++ body) .route ≡ e .route
+  route-told = ap (λ (x : Envelope). x .route) (envelope-told kind e body fits)
+
+  pub serial-read : serialOf (writtenEnvelope kind e ++ body) ≡ e .serial
+  serial-read = ap (λ (x : Envelope). x .serial) (envelope-told kind e body fits)
+
+-- and a reply's code
+pub code-read : (e : Envelope) (r : Reply) → isAccepted (wholeReply e r) ≡ accepts (r .code)
+code-read e r = ap (λ (body : List ℕ). eqb (byteValue (byteAt 4 body)) 0) (body-told Kind.Reply e (writtenReplyBody r)) ∙ ap (λ (n : ℕ). eqb n 0) (code-value (r .code))
