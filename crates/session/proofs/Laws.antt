@@ -11,3 +11,5 @@ pub mod Joined
 pub mod Mirror
 pub mod Foreign
 pub mod Entries
+pub mod Presenter
+pub mod Receiver

@@ -1,2 +1,3 @@
 -- The laws that crates above cite.
 pub mod Laws
+pub mod Agreement

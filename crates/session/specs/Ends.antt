@@ -10,7 +10,7 @@ use lib.ListN.{take}
 use Rattle.message.specs.Envelope.{bodyOf}
 use Rattle.session.specs.declared.session.Session.{Session}
 use Rattle.session.specs.Running.{Running, empty}
-use Rattle.session.specs.Start.{started}
+use Rattle.session.specs.Start.{start}
 use Rattle.session.specs.Call.{Held, Outcome, silent}
 use Rattle.session.specs.Sending.{sendHeader, sendDetail, sendLotTotal, sendSessionTotal}
 use Rattle.session.specs.Receiving.{receive, serialOf}
@@ -194,13 +194,24 @@ unfoldable pub receiverBook : End → List Event → ReceiverBook
 receiverBook x [] = record { ledger = blank; serials = [] }
 receiverBook x (e ∷ earlier) = cond (counts x e) (receives (e .call) (e .said .bytes) (receiverBook x earlier)) (receiverBook x earlier)
 
--- two sessions just started, of one date, own and partner exchanged, running totals zero
-abbrev pub fresh : Session → Engine
-fresh s = record { session = s; presenting = empty; receiving = empty }
+-- two engines, one at each end
+abbrev pub engines : (here there : Engine) → End → Engine
+engines here there End.near = here
+engines here there End.far = there
 
-abbrev pub bothFresh : (date one two : ℕ) (represented : End → List ℕ) → End → Engine
-bothFresh date one two represented End.near = fresh (started date one two (represented End.near))
-bothFresh date one two represented End.far = fresh (started date two one (represented End.far))
+-- a session with running totals zero
+abbrev pub withEmpty : Session → Engine
+withEmpty s = record { session = s; presenting = empty; receiving = empty }
 
+-- two sessions just started, of one date, own and partner exchanged
 unfoldable pub begun : (date one two : ℕ) (represented : End → List ℕ) → World
-begun date one two represented = record { engine = bothFresh date one two represented; trace = [] }
+begun date one two represented =
+    record {
+      engine = engines (withEmpty (start date one two (represented End.near) .session)) (withEmpty (start date two one (represented End.far) .session));
+      trace = [];
+    }
+
+-- neither start was refused
+pub record Begins (date one two : ℕ) (represented : End → List ℕ) : Type 0 where
+  pub near : start date one two (represented End.near) .number ≡ 0
+  pub far : start date two one (represented End.far) .number ≡ 0

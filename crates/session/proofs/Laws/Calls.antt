@@ -170,6 +170,15 @@ ready-kept call e r = go (directionOf call) refl
           receiving = record { none-open = after .carried .none-open; fits = after .carried .fits; pending = tt };
         }
 
+-- and its parties stay
+pub parties-kept : (call : Call) (e : Engine) → perform call e .engine .session .parties ≡ e .session .parties
+unfolding perform
+parties-kept call e = go (directionOf call) refl
+  where
+    go : (d : Direction) → directionOf call ≡ d → given d (meaning call (lent d (lineOf call) e) .left) e .session .parties ≡ e .session .parties
+    go Direction.presenting way = untouched call (lent Direction.presenting (lineOf call) e) .parties
+    go Direction.receiving way = untouched call (lent Direction.receiving (lineOf call) e) .parties
+
 -- A message with a code is not refused: whatever its body, the reply is written.
 pub message-answered : (time : ℕ) (bytes : List ℕ) (h : Held) → receiveRefusal time bytes h ≡ 0 → receive time bytes h .number ≡ 0
 unfolding receive

@@ -14,7 +14,7 @@ use Rattle.message.specs.declared.route.Route.{Route}
 use Rattle.session.specs.declared.effect.Effect.{Effect}
 use Rattle.session.specs.declared.session.Presenting.{Presenting}
 use Rattle.session.specs.declared.session.Receiving.{Receiving}
-use Rattle.session.specs.Running.{Running}
+use Rattle.session.specs.Running.{Running, empty}
 use Rattle.session.specs.Course.{Course}
 use Rattle.session.specs.Receiving.{acceptedLots}
 use Rattle.session.specs.Ledger.{LedgerLot, Ledger, Entry, PresenterBook, ReceiverBook, enter, lotSum, numbers, Distinct}
@@ -23,14 +23,14 @@ use Rattle.session.proofs.Laws.Ledger.{summary, effectOf}
 use Rattle.session.proofs.Laws.Line.{accepts, MessageFact, ReplyFact, Foreign}
 use Rattle.session.proofs.Laws.Lists.{upTo}
 
--- what waits, as the presenter's state has it
+-- what waits, as the presenter's state has it; what is no message never does
 abbrev pub waitingEffect : Option Entry → Ledger → Effect
 waitingEffect none b = Effect.Nothing
 waitingEffect (some (Entry.opens number)) b = effectOf (Entry.opens number) b
 waitingEffect (some (Entry.adds ds)) b = effectOf (Entry.adds ds) b
 waitingEffect (some Entry.endsLot) b = effectOf Entry.endsLot b
 waitingEffect (some Entry.endsDirection) b = Effect.SessionTotal
-waitingEffect (some Entry.nothing) b = Effect.SessionTotal
+waitingEffect (some Entry.nothing) b = Effect.Detail empty
 
 pub record PresenterSide (p : Presenting) (t : Running) (b : PresenterBook) : Type 0 where
   pub course : _≡_ {A = Course} (record { counters = p .counters; running = t }) (summary (b .ledger))

@@ -45,7 +45,7 @@ record Ended (number : ℕ) (t : Running) (b : Ledger) : Type 0 where
   same : _≡_ {A = Lot} (record { number = number; gathered = t }) (lotSum lot)
 
 module _ (r : Receiving) (t : Running) (b : Ledger) (m : Mirrored r t b) where
-  abbrev course : Course
+  abbrev pub course : Course
   course = record { counters = r .counters; running = t }
 
   open-same : r .counters .current ≡ openOf (b .current)
@@ -71,14 +71,14 @@ module _ (r : Receiving) (t : Running) (b : Ledger) (m : Mirrored r t b) where
 
   module _ (body : List ℕ) where
     -- a header that is accepted has a number that no accepted lot has
-    abbrev FreeHeader : Content → Type 0
+    abbrev pub FreeHeader : Content → Type 0
     FreeHeader Content.Header = member (headerOf body .number) (numbers (b .lots)) ≡ false
     FreeHeader Content.Detail = Unit {0}
     FreeHeader Content.LotTotal = Unit {0}
     FreeHeader Content.SessionTotal = Unit {0}
     FreeHeader Content.Unknown = Unit {0}
 
-    free-header : (time : ℕ) (p : Parties) (c : Content) → codeBy c time body p t r ≡ 0 → FreeHeader c
+    pub free-header : (time : ℕ) (p : Parties) (c : Content) → codeBy c time body p t r ≡ 0 → FreeHeader c
     unfolding codeBy headerCode
     free-header time p Content.Header e =
         let read = none-both (bodyCode (header (incoming p)) body) _ e in
@@ -92,7 +92,7 @@ module _ (r : Receiving) (t : Running) (b : Ledger) (m : Mirrored r t b) where
     free-header time p Content.Unknown e = tt
 
     -- the counters
-    course-mirrors : (c : Content) (accepted : Bool) → (accepted ≡ true → Allowed (effectBy c body t) course) → advance (effectBy c body t) accepted course ≡ summary (enter (entryBy c body) accepted b)
+    pub course-mirrors : (c : Content) (accepted : Bool) → (accepted ≡ true → Allowed (effectBy c body t) course) → advance (effectBy c body t) accepted course ≡ summary (enter (entryBy c body) accepted b)
     unfolding effectBy entryBy advance enter
     course-mirrors Content.Header accepted a = let e = Entry.opens (headerOf body .number) in ap (advance (effectOf e b) accepted) (m .course) ∙ mirrors e accepted b (λ (h : accepted ≡ true). tt)
     course-mirrors Content.Detail accepted a =
@@ -108,10 +108,10 @@ module _ (r : Receiving) (t : Running) (b : Ledger) (m : Mirrored r t b) where
     course-mirrors Content.Unknown accepted a = m .course
 
     -- the accepted lots
-    abbrev keptLots : (c : Content) (accepted : Bool) → List Lot
+    abbrev pub keptLots : (c : Content) (accepted : Bool) → List Lot
     keptLots c accepted = take (advance (effectBy c body t) accepted course .counters .lots) (kept (effectBy c body t) accepted (r .counters .lots) (r .lots))
 
-    lots-mirror : (c : Content) (accepted : Bool) → (accepted ≡ true → Allowed (effectBy c body t) course) → (isOpen (r .counters .current) ≡ true → r .counters .lots < length (r .lots)) → keptLots c accepted ≡ map lotSum (enter (entryBy c body) accepted b .lots)
+    pub lots-mirror : (c : Content) (accepted : Bool) → (accepted ≡ true → Allowed (effectBy c body t) course) → (isOpen (r .counters .current) ≡ true → r .counters .lots < length (r .lots)) → keptLots c accepted ≡ map lotSum (enter (entryBy c body) accepted b .lots)
     unfolding effectBy entryBy advance enter kept
     lots-mirror Content.LotTotal true a room =
         let last = ended (totalOf lotTotalFields body .number) (a refl .sound) in
@@ -129,7 +129,7 @@ module _ (r : Receiving) (t : Running) (b : Ledger) (m : Mirrored r t b) where
     lots-mirror Content.Unknown accepted a room = m .kept
 
     -- no number stands twice, and the open lot's is new
-    numbers-mirror : (c : Content) (accepted : Bool) → (accepted ≡ true → Allowed (effectBy c body t) course) → (accepted ≡ true → FreeHeader c) → Distinct (numbers (enter (entryBy c body) accepted b .lots)) × NewNumber (enter (entryBy c body) accepted b .current) (enter (entryBy c body) accepted b .lots)
+    pub numbers-mirror : (c : Content) (accepted : Bool) → (accepted ≡ true → Allowed (effectBy c body t) course) → (accepted ≡ true → FreeHeader c) → Distinct (numbers (enter (entryBy c body) accepted b .lots)) × NewNumber (enter (entryBy c body) accepted b .current) (enter (entryBy c body) accepted b .lots)
     unfolding effectBy entryBy enter
     numbers-mirror Content.Header true a free = (m .once, free refl)
     numbers-mirror Content.Header false a free = (m .once, m .new)

@@ -171,7 +171,7 @@ module _ (time : ℕ) (body : List ℕ) (parties : Parties) (t : Running) (r : R
   abbrev heard : Course
   heard = record { counters = r .counters; running = t }
 
-  received-allowed : (c : Content) → codeBy c time body parties t r ≡ 0 → Allowed (effectBy c body t) heard
+  pub received-allowed : (c : Content) → codeBy c time body parties t r ≡ 0 → Allowed (effectBy c body t) heard
   unfolding codeBy effectBy headerCode detailCode lotTotalCode lotTotalSequence
   received-allowed Content.Header e =
       let read = none-both (bodyCode (header (incoming parties)) body) _ e in
@@ -321,7 +321,7 @@ clock-keeps time d h g =
     ticked-carried Direction.receiving g = record { none-open = g .carried .none-open; fits = g .carried .fits; pending = tt }
 
 -- a start that is not refused; what stands beside 24 is sound as well
-fresh-sound : (parties : Parties) (close : Close) → PartiesSound parties → Sound (fresh parties close)
+pub fresh-sound : (parties : Parties) (close : Close) → PartiesSound parties → Sound (fresh parties close)
 unfolding fresh
 fresh-sound parties close p =
     let none : CountersSound noLots = record { lots = omega arith; open-lot = tt; gathered = fits-empty 0 } in

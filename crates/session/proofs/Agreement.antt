@@ -1,0 +1,274 @@
+-- Demand 3, 01's 'Both ends together', as one theorem about any list of calls: `agreement`. The two ends of each direction stay joined whatever
+-- call is made at either, so they are joined after every list; and joined ends agree as the claim says.
+use mathlib.Core.Path.{_≡_, refl, ap, sym, subst, _∙_}
+use mathlib.Core.Bool.{Bool, true, false, not, cond, false≢true}
+use mathlib.Core.List.{List, [], _∷_, _++_}
+use mathlib.Core.Logic.{_⊎_, inl, inr}
+use mathlib.Core.Option.{Option, none, some}
+use Prim.Native.Nat.{ℕ}
+use lib.Dec.{eqb, lit<}
+use borrow.Author.Tests.{not-false}
+use Rattle.packed.specs.Every.{every}
+use Rattle.codes.proofs.Laws.Chain.{none-test}
+use Rattle.message.specs.declared.route.Route.{Route}
+use Rattle.session.specs.declared.counters.OpenLot.{OpenLot}
+use Rattle.session.specs.declared.counters.Counters.{Counters}
+use Rattle.session.specs.declared.effect.Effect.{Effect}
+use Rattle.session.specs.declared.parties.Parties.{Parties}
+use Rattle.session.specs.declared.report.Tally.{Tally}
+use Rattle.session.specs.declared.report.Awaited.{Awaited}
+use Rattle.session.specs.declared.session.Close.{Close}
+use Rattle.session.specs.declared.session.Session.{Session}
+use Rattle.session.specs.Parties.{partiesGood, partiesOf, nobody, outgoing, incoming}
+use Rattle.session.specs.Running.{empty, gather}
+use Rattle.session.specs.Course.{Course}
+use Rattle.session.specs.Sequence.{isOpen}
+use Rattle.session.specs.Start.{fresh, started, start}
+use Rattle.session.specs.Report.{tally, awaited, report}
+use Rattle.session.specs.Premise.{Direction, PendingSound, Sound}
+use Rattle.session.specs.Ledger.{LedgerLot, Ledger, Entry, blank, enter, closed, sum, lotSum, lotsSum, tallied, numbers, namedLot, namedBy, due, PresenterBook, ReceiverBook}
+use Rattle.session.specs.Ends.{End, other, Call, Engine, Event, World, Step, perform, replaced, act, run, Written, Brought, Possible, presents, receives, presenterBook, receiverBook, engines, withEmpty, begun, Begins}
+use Rattle.session.specs.Claim.{confirmed, counted, reportAt, presentedTally, receivedTally, Level, Ahead, JustReplied, Ready, Agreement}
+use Rattle.session.proofs.Laws.Parties.{Told, told}
+use Rattle.session.proofs.Laws.Sound.{fresh-sound, start-carried}
+use Rattle.session.proofs.Laws.Calls.{ready-kept, parties-kept}
+use Rattle.session.proofs.Laws.Ledger.{summary, openOf, lotOf, lots-last}
+use Rattle.session.proofs.Laws.Line.{accepts}
+use Rattle.session.proofs.Laws.Joined.{waitingEffect, Link, Joined}
+use Rattle.session.proofs.Laws.Presenter.{never-none, presenter-step}
+use Rattle.session.proofs.Laws.Receiver.{receiver-step}
+
+-- both directions joined, and both ends ready
+pub record Whole (w : World) : Type 0 where
+  pub ready : (x : End) → Ready (w .engine x)
+  pub different : (x : End) → w .engine x .session .parties .own ≡ w .engine x .session .parties .partner → ⊥
+  pub ways : (x : End) → outgoing (w .engine x .session .parties) ≡ incoming (w .engine (other x) .session .parties)
+  pub joined : (p : End) → Joined (outgoing (w .engine p .session .parties)) (w .engine p .session .presenting) (w .engine p .presenting) (w .engine (other p) .session .receiving) (w .engine (other p) .receiving) (presenterBook p (w .trace)) (receiverBook (other p) (w .trace)) (w .trace)
+
+-- a direction seen from a call at its presenting end, and from one at its receiving end
+module _ (x : End) (call : Call) (e f : Engine) (bp : PresenterBook) (br : ReceiverBook) (trace : List Event) (ready : Ready e) (different : e .session .parties .own ≡ e .session .parties .partner → ⊥) (brought : Brought call trace) where
+  abbrev d : Engine
+  d = perform call e .engine
+
+  abbrev event : Event
+  event = record { at = x; call = call; said = perform call e .said }
+
+  at-presenter : Joined (outgoing (e .session .parties)) (e .session .presenting) (e .presenting) (f .session .receiving) (f .receiving) bp br trace → Joined (outgoing (d .session .parties)) (d .session .presenting) (d .presenting) (f .session .receiving) (f .receiving) (cond (eqb (event .said .number) 0) (presents call bp) bp) br (event ∷ trace)
+  at-presenter j = subst (λ (p : Parties). Joined (outgoing p) (d .session .presenting) (d .presenting) (f .session .receiving) (f .receiving) (cond (eqb (event .said .number) 0) (presents call bp) bp) br (event ∷ trace)) (sym (parties-kept call e)) (presenter-step x e ready different (f .session .receiving) (f .receiving) bp br trace j call brought)
+
+  at-receiver : outgoing (f .session .parties) ≡ incoming (e .session .parties) → Joined (outgoing (f .session .parties)) (f .session .presenting) (f .presenting) (e .session .receiving) (e .receiving) bp br trace → Joined (outgoing (f .session .parties)) (f .session .presenting) (f .presenting) (d .session .receiving) (d .receiving) bp (cond (eqb (event .said .number) 0) (receives call (event .said .bytes) br) br) (event ∷ trace)
+  at-receiver way j =
+      subst (λ (route : Route). Joined route (f .session .presenting) (f .presenting) (d .session .receiving) (d .receiving) bp (cond (eqb (event .said .number) 0) (receives call (event .said .bytes) br) br) (event ∷ trace)) (sym way)
+      (receiver-step x e ready different (f .session .presenting) (f .presenting) bp br trace (subst (λ (route : Route). Joined route (f .session .presenting) (f .presenting) (e .session .receiving) (e .receiving) bp br trace) way j) call brought)
+
+-- what holds of the engine after a call, and of the other end, holds of both
+both-ends : (Q : End → Engine → Type 0) (x : End) (e : Engine) (engine : End → Engine) → Q x e → Q (other x) (engine (other x)) → (y : End) → Q y (replaced x e engine y)
+both-ends Q End.near e engine here there End.near = here
+both-ends Q End.near e engine here there End.far = there
+both-ends Q End.far e engine here there End.near = there
+both-ends Q End.far e engine here there End.far = here
+
+-- every call keeps both directions
+module _ (w : World) (all : Whole w) (call : Call) (brought : Brought call (w .trace)) where
+  abbrev after : End → End → Engine
+  after x = replaced x (perform call (w .engine x) .engine) (w .engine)
+
+  parties-same : (x y : End) → after x y .session .parties ≡ w .engine y .session .parties
+  parties-same x = both-ends (λ (y : End) (e : Engine). e .session .parties ≡ w .engine y .session .parties) x _ (w .engine) (parties-kept call (w .engine x)) refl
+
+  stay-joined : (x p : End) → let w' = act x call w in Joined (outgoing (w' .engine p .session .parties)) (w' .engine p .session .presenting) (w' .engine p .presenting) (w' .engine (other p) .session .receiving) (w' .engine (other p) .receiving) (presenterBook p (w' .trace)) (receiverBook (other p) (w' .trace)) (w' .trace)
+  unfolding act presenterBook receiverBook
+  stay-joined End.near End.near = at-presenter End.near call _ (w .engine End.far) _ _ (w .trace) (all .ready End.near) (all .different End.near) brought (all .joined End.near)
+  stay-joined End.far End.far = at-presenter End.far call _ (w .engine End.near) _ _ (w .trace) (all .ready End.far) (all .different End.far) brought (all .joined End.far)
+  stay-joined End.near End.far = at-receiver End.near call _ (w .engine End.far) _ _ (w .trace) (all .ready End.near) (all .different End.near) brought (all .ways End.far) (all .joined End.far)
+  stay-joined End.far End.near = at-receiver End.far call _ (w .engine End.near) _ _ (w .trace) (all .ready End.far) (all .different End.far) brought (all .ways End.near) (all .joined End.near)
+
+  act-keeps : (x : End) → Whole (act x call w)
+  unfolding act
+  act-keeps x =
+      record {
+        ready = both-ends (λ (y : End) (e : Engine). Ready e) x _ (w .engine) (ready-kept call (w .engine x) (all .ready x)) (all .ready (other x));
+        different = λ (y : End). subst (λ (p : Parties). p .own ≡ p .partner → ⊥) (sym (parties-same x y)) (all .different y);
+        ways = λ (y : End). ap outgoing (parties-same x y) ∙ all .ways y ∙ ap incoming (sym (parties-same x (other y)));
+        joined = stay-joined x;
+      }
+
+-- so a whole list of calls does
+run-keeps : (steps : List Step) (w : World) → Whole w → Possible steps w → Whole (run steps w)
+unfolding run Possible
+run-keeps [] w all possible = all
+run-keeps (s ∷ steps) w all possible = run-keeps steps (act (s .at) (s .call) w) (act-keeps w all (s .call) (possible .0) (s .at)) (possible .1)
+
+-- the beginning
+fresh-joined : (a b : Parties) (route : Route) → let s = fresh a Close.Open in let t = fresh b Close.Open in Joined route (s .presenting) empty (t .receiving) empty (record { ledger = blank; waiting = none }) (record { ledger = blank; serials = [] }) []
+unfolding fresh lotsSum every
+fresh-joined a b route =
+    record {
+      presenter = record { course = refl; pending = refl; once = tt };
+      receiver = record { course = refl; kept = refl; once = tt; new = tt };
+      seen = record { earlier = refl; last-seen = inl refl };
+      link = Link.idle refl refl refl;
+      messages = λ (bytes : List ℕ) (w : ⊥). absurd w;
+      replies = λ (bytes : List ℕ) (w : ⊥). absurd w;
+    }
+
+fresh-ready : (date own partner : ℕ) (represented : List ℕ) → Told date own partner represented → Ready (withEmpty (started date own partner represented))
+fresh-ready date own partner represented t =
+    let parties = partiesOf date own partner represented in
+    record {
+      sound = fresh-sound parties Close.Open (record { date = t .date; own = t .own; partner = t .partner; represented = t .represented });
+      presenting = start-carried parties Close.Open Direction.presenting;
+      receiving = start-carried parties Close.Open Direction.receiving;
+    }
+
+just-started : (date own partner : ℕ) (represented : List ℕ) → start date own partner represented .number ≡ 0 → Told date own partner represented × (started date own partner represented ≡ start date own partner represented .session)
+unfolding start
+just-started date own partner represented n =
+    let good = not-false (partiesGood date own partner represented) (none-test 24 (not (partiesGood date own partner represented)) (lit< tt) n) in
+    (told date own partner represented good, ap (λ (t : Bool). cond t (started date own partner represented) (fresh nobody Close.Forced)) (sym good))
+
+two-ends : (Q : End → Engine → Type 0) (a b : Engine) → Q End.near a → Q End.far b → (x : End) → Q x (engines a b x)
+two-ends Q a b here there End.near = here
+two-ends Q a b here there End.far = there
+
+begun-whole : (date one two : ℕ) (represented : End → List ℕ) → Begins date one two represented → Whole (begun date one two represented)
+unfolding begun fresh presenterBook receiverBook
+begun-whole date one two represented begins =
+    let near = just-started date one two (represented End.near) (begins .near) in
+    let far = just-started date two one (represented End.far) (begins .far) in
+    subst Whole (λ i. record { engine = engines (withEmpty (near .1 i)) (withEmpty (far .1 i)); trace = [] }) (whole (near .0) (far .0))
+  where
+    world : World
+    world = record { engine = engines (withEmpty (started date one two (represented End.near))) (withEmpty (started date two one (represented End.far))); trace = [] }
+
+    ways : (x : End) → outgoing (world .engine x .session .parties) ≡ incoming (world .engine (other x) .session .parties)
+    ways End.near = refl
+    ways End.far = refl
+
+    joined : (p : End) → Joined (outgoing (world .engine p .session .parties)) (world .engine p .session .presenting) (world .engine p .presenting) (world .engine (other p) .session .receiving) (world .engine (other p) .receiving) (presenterBook p []) (receiverBook (other p) []) []
+    joined End.near = fresh-joined (partiesOf date one two (represented End.near)) (partiesOf date two one (represented End.far)) _
+    joined End.far = fresh-joined (partiesOf date two one (represented End.far)) (partiesOf date one two (represented End.near)) _
+
+    whole : Told date one two (represented End.near) → Told date two one (represented End.far) → Whole world
+    whole a b =
+        record {
+          ready = two-ends (λ (x : End) (e : Engine). Ready e) _ _ (fresh-ready date one two (represented End.near) a) (fresh-ready date two one (represented End.far) b);
+          different = two-ends (λ (x : End) (e : Engine). e .session .parties .own ≡ e .session .parties .partner → ⊥) _ _ (a .different) (b .different);
+          ways = ways;
+          joined = joined;
+        }
+
+-- after a reply call that was not refused nothing waits
+none-after : (p : End) (time : ℕ) (bytes said : List ℕ) (earlier : List Event) → presenterBook p (record { at = p; call = Call.reply time bytes; said = record { number = 0; bytes = said } } ∷ earlier) .waiting ≡ none
+unfolding presenterBook
+none-after End.near time bytes said earlier = refl
+none-after End.far time bytes said earlier = refl
+
+-- joined ends agree
+module _ (w : World) (all : Whole w) (p : End) where
+  abbrev e : Engine
+  e = w .engine p
+
+  abbrev f : Engine
+  f = w .engine (other p)
+
+  abbrev bp : PresenterBook
+  bp = presenterBook p (w .trace)
+
+  abbrev br : ReceiverBook
+  br = receiverBook (other p) (w .trace)
+
+  presented : presentedTally w p ≡ tallied (confirmed w p)
+  unfolding report
+  presented = ap (λ (k : Course). tally (k .counters)) (all .joined p .presenter .course)
+
+  received : receivedTally w p ≡ tallied (counted w p)
+  unfolding report
+  received = ap (λ (k : Course). tally (k .counters)) (all .joined p .receiver .course)
+
+  named : reportAt w p .awaited ≡ due bp
+  unfolding report
+  named = ap awaited (all .joined p .presenter .pending) ∙ go (bp .waiting) (subst (λ (x : Effect). PendingSound x (e .session .presenting .counters)) (all .joined p .presenter .pending) (all .ready p .sound .pending))
+    where
+      same-open : e .session .presenting .counters .current ≡ openOf (bp .ledger .current)
+      same-open = ap (λ (k : Course). k .counters .current) (all .joined p .presenter .course)
+
+      lot : (current : Option LedgerLot) → openOf current ≡ OpenLot.Numbered (lotOf current .number) → Awaited.LotTotal (lotOf current) ≡ namedLot current
+      lot none h = absurd (false≢true (ap isOpen h))
+      lot (some l) h = refl
+
+      go : (waiting : Option Entry) → PendingSound (waitingEffect waiting (bp .ledger)) (e .session .presenting .counters) → awaited (waitingEffect waiting (bp .ledger)) ≡ namedBy waiting (bp .ledger .current)
+      go none s = refl
+      go (some (Entry.opens number)) s = refl
+      go (some (Entry.adds ds)) s = refl
+      go (some Entry.endsLot) s = lot (bp .ledger .current) (sym same-open ∙ s)
+      go (some Entry.endsDirection) s = refl
+      go (some Entry.nothing) s = refl
+
+  level : counted w p ≡ confirmed w p → Level w p
+  level same = record { lots = same; totals = received ∙ ap tallied same ∙ sym presented }
+
+  ahead : (l : LedgerLot) → due bp ≡ Awaited.LotTotal (lotSum l) → counted w p ≡ confirmed w p ++ l ∷ [] → Ahead w p
+  ahead l names more =
+      record {
+        lot = l;
+        named = named ∙ names;
+        lots = more;
+        totals = ap (λ (t : Tally). t .gathered) received ∙ ap lotsSum more ∙ lots-last (confirmed w p) l ∙ ap (λ (t : Tally). gather (t .gathered) (sum (l .documents))) (sym presented);
+      }
+
+  agreed : Level w p ⊎ Ahead w p
+  unfolding enter
+  agreed = go (all .joined p .link)
+    where
+      lots-of : {a b : Ledger} → a ≡ b → a .lots ≡ b .lots
+      lots-of h = ap (λ (l : Ledger). l .lots) h
+
+      ended : (current : Option LedgerLot) → bp .waiting ≡ some Entry.endsLot → bp .ledger .current ≡ current → counted w p ≡ closed (confirmed w p) current → Level w p ⊎ Ahead w p
+      ended none w c h = inl (level h)
+      ended (some l) w c h = inr (ahead l (λ i. namedBy (w i) (c i)) h)
+
+      entered : (d : Entry) (accepted : Bool) → bp .waiting ≡ some d → br .ledger ≡ enter d accepted (bp .ledger) → Level w p ⊎ Ahead w p
+      entered (Entry.opens number) true w h = inl (level (lots-of h))
+      entered (Entry.opens number) false w h = inl (level (lots-of h))
+      entered (Entry.adds ds) true w h = inl (level (lots-of h))
+      entered (Entry.adds ds) false w h = inl (level (lots-of h))
+      entered Entry.endsLot true w h = ended (bp .ledger .current) w refl (lots-of h)
+      entered Entry.endsLot false w h = inl (level (lots-of h))
+      entered Entry.endsDirection accepted w h = inl (level (lots-of h))
+      entered Entry.nothing accepted w h = inl (level (lots-of h))
+
+      go : Link (e .session .presenting) (f .session .receiving) (bp .waiting) (bp .ledger) (br .ledger) → Level w p ⊎ Ahead w p
+      go (Link.idle w s b) = inl (level (lots-of (sym b)))
+      go (Link.sent d w s b) = inl (level (lots-of (sym b)))
+      go (Link.taken d w s b) = entered d (accepts (f .session .receiving .reply .code)) w b
+
+  settled : JustReplied w p → (reportAt w p .awaited ≡ Awaited.Neither) × Level w p
+  settled just = (named ∙ ap (λ (o : Option Entry). namedBy o (bp .ledger .current)) waits, go (all .joined p .link))
+    where
+      waits : bp .waiting ≡ none
+      waits = ap (λ (trace : List Event). presenterBook p trace .waiting) (just .latest) ∙ none-after p (just .time) (just .bytes) (just .said) (just .earlier)
+
+      go : Link (e .session .presenting) (f .session .receiving) (bp .waiting) (bp .ledger) (br .ledger) → Level w p
+      go (Link.idle h s b) = level (ap (λ (l : Ledger). l .lots) (sym b))
+      go (Link.sent d h s b) = never-none d (sym waits ∙ h)
+      go (Link.taken d h s b) = never-none d (sym waits ∙ h)
+
+  agree : Agreement w p
+  agree =
+      record {
+        agreed = agreed;
+        counted-once = all .joined p .receiver .once;
+        confirmed-once = all .joined p .presenter .once;
+        presented = presented;
+        received = received;
+        named = named;
+        settled = settled;
+        ready = all .ready p;
+        ready-other = all .ready (other p);
+      }
+
+-- Two sessions just started, of one date, own and partner exchanged, any represented entities; any list of calls at either end with any
+-- arguments, over a line that brings what was written and nothing else: in both directions the ends agree.
+pub agreement : (date one two : ℕ) (represented : End → List ℕ) → Begins date one two represented → (steps : List Step) → Possible steps (begun date one two represented) → (p : End) → Agreement (run steps (begun date one two represented)) p
+agreement date one two represented begins steps possible p = agree (run steps (begun date one two represented)) (run-keeps steps (begun date one two represented) (begun-whole date one two represented begins) possible) p

@@ -1,0 +1,262 @@
+-- The presenting end of a direction: whatever call is made there, the two ends stay joined.
+use mathlib.Core.Path.{_≡_, refl, ap, sym, subst, _∙_}
+use mathlib.Core.Bool.{Bool, true, false, not, cond, false≢true}
+use mathlib.Core.List.{List, [], _∷_}
+use mathlib.Core.Logic.{_⊎_, inl, inr}
+use mathlib.Core.Option.{Option, none, some}
+use Prim.Native.Nat.{ℕ, suc, _≤_, _<_}
+use native.Mathlib.Omega.{arith}
+use lib.Dec.{eqb, lit<}
+use lib.ListN.{length, take}
+use lib.Seq.{sets}
+use borrow.Author.Tests.{not-false}
+use Rattle.amounts.proofs.Laws.Totals.{plus-zeros}
+use Rattle.codes.specs.Chain.{_when_, _orelse_}
+use Rattle.codes.proofs.Laws.Chain.{none-both}
+use Rattle.detail.specs.Codes.{presenterCode}
+use Rattle.detail.specs.Writing.{written}
+use Rattle.detail.proofs.Laws.Codes.{accepted-part}
+use Rattle.packed.specs.Pieces.{pieces}
+use Rattle.packed.specs.Writing.{packedByte}
+use Rattle.document.specs.Limits.{documentBytes}
+use Rattle.message.specs.declared.route.Route.{Route}
+use Rattle.message.specs.declared.envelope.Kind.{Kind}
+use Rattle.message.specs.declared.header.Header.{Header}
+use Rattle.message.specs.declared.reply.Reply.{Reply}
+use Rattle.message.specs.Reply.{writtenReplyBody}
+use Rattle.message.specs.Envelope.{envelopeGood, envelopeOf, bodyOf}
+use Rattle.message.specs.Header.{sendable}
+use Rattle.message.specs.Line.{Body, bodyBytes, message, wholeReply}
+use Rattle.message.proofs.Laws.Envelope.{body-told, whole-length}
+use Rattle.session.specs.declared.effect.Effect.{Effect}
+use Rattle.session.specs.declared.session.Presenting.{Presenting}
+use Rattle.session.specs.declared.session.Receiving.{Receiving}
+use Rattle.session.specs.Parties.{outgoing}
+use Rattle.session.specs.Running.{Running}
+use Rattle.session.specs.Course.{Course, advance}
+use Rattle.session.specs.Sequence.{isOpen}
+use Rattle.session.specs.Call.{Held, Outcome, clockRefusal}
+use Rattle.session.specs.Sending.{isPending, nextEnvelope, sendRefusal, sent, send, headerStop, detailStop, lotTotalStop, sessionTotalStop, partAdds, openLot, sendHeader, sendDetail, sendLotTotal, sendSessionTotal}
+use Rattle.session.specs.Receiving.{serialOf, isNext, receiveRefusal, receive, handled, repeated, answered}
+use Rattle.session.specs.Reply.{isAccepted, replyRefusal, replied, takeReply}
+use Rattle.session.specs.Clock.{clock}
+use Rattle.session.specs.Premise.{Direction, PendingSound}
+use Rattle.session.specs.Ledger.{Entry, Ledger, PresenterBook, ReceiverBook, enter, bodyEntry, partEntry, waitingFor, enterWaiting, answeredWith, numbers, Distinct}
+use Rattle.session.specs.Ends.{End, Call, Engine, Event, saidBy, meaning, directionOf, lineOf, lent, given, perform, Written, Brought, presents}
+use Rattle.session.specs.Claim.{Ready}
+use Rattle.session.proofs.Laws.Call.{either, first-bytes}
+use Rattle.session.proofs.Laws.Refusals.{passed, SendTold, send-told, ReceiveTold, receive-told, ReplyTold, reply-told}
+use Rattle.session.proofs.Laws.Ledger.{summary, openOf, Finds, effectOf, detail-sum, mirrors}
+use Rattle.session.proofs.Laws.Line.{accepts, MessageFact, ReplyFact, Foreign, message-is-none, nothing-foreign, serial-read}
+use Rattle.session.proofs.Laws.Joined.{waitingEffect, PresenterSide, Link, Joined, passed-by, refused-by, not-entered}
+use Rattle.session.proofs.Laws.Foreign.{next-fits, reply-foreign}
+use Rattle.session.proofs.Laws.Entries.{header-entry, detail-entry, lot-total-entry, session-total-entry, named-lot}
+
+pending-some : (e : Entry) (b : Ledger) → isPending (waitingEffect (some e) b) ≡ true
+pending-some (Entry.opens number) b = refl
+pending-some (Entry.adds ds) b = refl
+pending-some Entry.endsLot b = refl
+pending-some Entry.endsDirection b = refl
+pending-some Entry.nothing b = refl
+
+-- the entry in an option, or another
+entryIn : Entry → Option Entry → Entry
+entryIn d none = d
+entryIn d (some e) = e
+
+same-entry : (a b : Entry) → some a ≡ some b → a ≡ b
+unfolding entryIn
+same-entry a b e = ap (entryIn a) e
+
+isNone : Option Entry → Bool
+isNone none = true
+isNone (some e) = false
+
+pub never-none : (e : Entry) {A : Type 0} → none ≡ some e → A
+unfolding isNone
+never-none e h = absurd (false≢true (sym (ap isNone h)))
+
+module _ (x : End) (e : Engine) (ready : Ready e) (different : e .session .parties .own ≡ e .session .parties .partner → ⊥) (r : Receiving) (rt : Running) (bp : PresenterBook) (br : ReceiverBook) (trace : List Event) where
+  abbrev route : Route
+  route = outgoing (e .session .parties)
+
+  abbrev p : Presenting
+  p = e .session .presenting
+
+  abbrev pt : Running
+  pt = e .presenting
+
+  module _ (j : Joined route p pt r rt bp br trace) where
+    -- the ends after a call with this outcome, in which the running totals are the call's own or not
+    abbrev After : Call → Running → Outcome → Type 0
+    After call t o = Joined route (o .left .session .presenting) t r rt (cond (eqb (o .number) 0) (presents call bp) bp) br (record { at = x; call = call; said = saidBy o } ∷ trace)
+
+    refused-after : (call : Call) (k : ℕ) → Joined route p pt r rt (cond (eqb (suc k) 0) (presents call bp) bp) br (record { at = x; call = call; said = record { number = suc k; bytes = [] } } ∷ trace)
+    refused-after call k = subst (λ (b : PresenterBook). Joined route p pt r rt b br (record { at = x; call = call; said = record { number = suc k; bytes = [] } } ∷ trace)) (sym (not-entered k (presents call bp) bp)) (refused-by route p pt r rt bp br trace j (record { at = x; call = call; said = record { number = suc k; bytes = [] } }) k refl)
+
+    module _ (call : Call) (time code : ℕ) (effect : Effect) (body line : List ℕ) (entry : Entry) where
+      abbrev h : Held
+      h = lent Direction.presenting line e
+
+      abbrev bytes : List ℕ
+      bytes = message (nextEnvelope (e .session)) body
+
+      abbrev event : Event
+      event = record { at = x; call = call; said = record { number = 0; bytes = bytes } }
+
+      -- the message is on the line, and waits
+      sent-joined : SendTold code bytes h → effect ≡ waitingEffect (some entry) (bp .ledger) → bodyEntry body ≡ entry → Joined route (sent time effect (e .session) .presenting) pt r rt (waitingFor entry bp) br (event ∷ trace)
+      sent-joined told matching reads =
+          record {
+            presenter = record { course = j .presenter .course; pending = matching; once = j .presenter .once };
+            receiver = j .receiver;
+            seen = j .seen;
+            link = linked (j .link);
+            messages = all-messages;
+            replies = all-replies;
+          }
+        where
+          linked : Link p r (bp .waiting) (bp .ledger) (br .ledger) → Link (sent time effect (e .session) .presenting) r (some entry) (bp .ledger) (br .ledger)
+          linked (Link.idle w s b) = Link.sent entry refl (ap suc s) b
+          linked (Link.sent d w s b) = absurd (false≢true (sym (told .idle) ∙ ap isPending (j .presenter .pending ∙ ap (λ (o : Option Entry). waitingEffect o (bp .ledger)) w) ∙ pending-some d (bp .ledger)))
+          linked (Link.taken d w s b) = absurd (false≢true (sym (told .idle) ∙ ap isPending (j .presenter .pending ∙ ap (λ (o : Option Entry). waitingEffect o (bp .ledger)) w) ∙ pending-some d (bp .ledger)))
+
+          all-messages : (b : List ℕ) → Written b (event ∷ trace) → MessageFact route (suc (p .serial)) (some entry) b
+          all-messages b (inl w) =
+              subst (MessageFact route (suc (p .serial)) (some entry)) (w .1)
+              (λ (g : envelopeGood Kind.Message bytes ≡ true) (way : envelopeOf bytes .route ≡ route). (
+                omega (arith, serial-read Kind.Message (nextEnvelope (e .session)) body (next-fits (e .session) (ready .sound) (told .more))),
+                λ (d : Entry) (s : serialOf bytes ≡ suc (p .serial)) (same : some entry ≡ some d). ap bodyEntry (body-told Kind.Message (nextEnvelope (e .session)) body) ∙ reads ∙ same-entry entry d same,
+              ))
+          all-messages b (inr w) =
+              λ (g : envelopeGood Kind.Message b ≡ true) (way : envelopeOf b .route ≡ route).
+              let old = j .messages b w g way .0 in
+              (omega (arith, old), λ (d : Entry) (s : serialOf b ≡ suc (p .serial)) (same : some entry ≡ some d). absurd (omega (arith, old, s)))
+
+          all-replies : (b : List ℕ) → Written b (event ∷ trace) → ReplyFact route (r .serial) (r .reply .code) b
+          all-replies b (inl w) = subst (ReplyFact route (r .serial) (r .reply .code)) (w .1) (λ (g : envelopeGood Kind.Reply bytes ≡ true) (way : envelopeOf bytes .route ≡ route). absurd (message-is-none (nextEnvelope (e .session)) body g))
+          all-replies b (inr w) = j .replies b w
+
+      -- so for every send, if its code lets nothing else pass
+      send-after : (presents call bp ≡ waitingFor entry bp) → (code ≡ 0 → (effect ≡ waitingEffect (some entry) (bp .ledger)) × (bodyEntry body ≡ entry)) → After call (send time code effect body h .left .running) (send time code effect body h)
+      unfolding send
+      send-after books fits =
+          either (λ (o : Outcome). After call (o .left .running) o) (sendRefusal time code bytes h) h _
+          (λ (k : ℕ). refused-after call k)
+          (λ (z : sendRefusal time code bytes h ≡ 0).
+          let told = send-told time code bytes h z in
+          let fit = fits (told .unstopped) in
+          subst (λ (w : List ℕ). Joined route (sent time effect (e .session) .presenting) pt r rt (presents call bp) br (record { at = x; call = call; said = record { number = 0; bytes = w } } ∷ trace)) (sym (first-bytes bytes line (told .room)))
+          (subst (λ (b : PresenterBook). Joined route (sent time effect (e .session) .presenting) pt r rt b br (event ∷ trace)) (sym books) (sent-joined told (fit .0) (fit .1))))
+
+    -- a reply enters what waits, with the code that the receiver kept
+    module _ (time : ℕ) (bytes : List ℕ) where
+      abbrev replyHeld : Held
+      replyHeld = lent Direction.presenting [] e
+
+      finds : (d : Entry) → bp .waiting ≡ some d → Finds d (openOf (bp .ledger .current))
+      finds d w = go d (subst (λ (f : Effect). PendingSound f (p .counters)) (j .presenter .pending ∙ ap (λ (o : Option Entry). waitingEffect o (bp .ledger)) w) (ready .sound .pending))
+        where
+          same-open : p .counters .current ≡ openOf (bp .ledger .current)
+          same-open = ap (λ (k : Course). k .counters .current) (j .presenter .course)
+
+          go : (d : Entry) → PendingSound (waitingEffect (some d) (bp .ledger)) (p .counters) → Finds d (openOf (bp .ledger .current))
+          go (Entry.opens number) s = tt
+          go (Entry.adds ds) s = sym (ap isOpen same-open) ∙ s
+          go Entry.endsLot s = sym (ap isOpen same-open) ∙ ap isOpen s
+          go Entry.endsDirection s = tt
+          go Entry.nothing s = tt
+
+      entered : (d : Entry) (accepted : Bool) → bp .waiting ≡ some d → advance (p .pending) accepted (record { counters = p .counters; running = pt }) ≡ summary (enter d accepted (bp .ledger))
+      unfolding advance enter
+      entered d accepted w =
+          (λ i. advance ((j .presenter .pending ∙ ap (λ (o : Option Entry). waitingEffect o (bp .ledger)) w) i) accepted (j .presenter .course i)) ∙ same d accepted (mirrors d accepted (bp .ledger) (λ (h : accepted ≡ true). finds d w))
+        where
+          same : (d : Entry) (accepted : Bool) → advance (effectOf d (bp .ledger)) accepted (summary (bp .ledger)) ≡ summary (enter d accepted (bp .ledger)) → advance (waitingEffect (some d) (bp .ledger)) accepted (summary (bp .ledger)) ≡ summary (enter d accepted (bp .ledger))
+          same (Entry.opens number) accepted h = h
+          same (Entry.adds ds) accepted h = h
+          same Entry.endsLot accepted h = h
+          same Entry.endsDirection accepted h = h
+          same Entry.nothing true h = λ i. record { counters = summary (bp .ledger) .counters; running = plus-zeros (summary (bp .ledger) .running) i }
+          same Entry.nothing false h = refl
+
+      replied-joined : Written bytes trace → ReplyTold bytes (e .session) → Joined route (replied time (isAccepted bytes) replyHeld .session .presenting) (replied time (isAccepted bytes) replyHeld .running) r rt (answeredWith (isAccepted bytes) bp) br trace
+      replied-joined brought told = go (j .link)
+        where
+          go : Link p r (bp .waiting) (bp .ledger) (br .ledger) → Joined route (replied time (isAccepted bytes) replyHeld .session .presenting) (replied time (isAccepted bytes) replyHeld .running) r rt (answeredWith (isAccepted bytes) bp) br trace
+          go (Link.idle w s b) = absurd (false≢true (ap isPending (sym (ap (λ (o : Option Entry). waitingEffect o (bp .ledger)) w) ∙ sym (j .presenter .pending)) ∙ told .awaited))
+          go (Link.sent d w s b) = absurd (omega (arith, told .serial, s, j .replies bytes brought (told .good) (told .way) .0))
+          go (Link.taken d w s b) =
+              let accepted = isAccepted bytes in
+              let same : accepted ≡ accepts (r .reply .code) = j .replies bytes brought (told .good) (told .way) .1 (told .serial ∙ s) in
+              let after : answeredWith accepted bp .ledger ≡ enter d accepted (bp .ledger) = ap (λ (o : Option Entry). enterWaiting accepted o (bp .ledger)) w in
+              let level : answeredWith accepted bp .ledger ≡ br .ledger = after ∙ ap (λ (t : Bool). enter d t (bp .ledger)) same ∙ sym b in
+              record {
+                presenter = record { course = entered d accepted w ∙ ap summary (sym after); pending = refl; once = subst (λ (l : Ledger). Distinct (numbers (l .lots))) (sym level) (j .receiver .once) };
+                receiver = j .receiver;
+                seen = j .seen;
+                link = Link.idle refl s level;
+                messages =
+                    λ (b : List ℕ) (w : Written b trace) (g : envelopeGood Kind.Message b ≡ true) (way : envelopeOf b .route ≡ route).
+                    (j .messages b w g way .0, λ (f : Entry) (q : serialOf b ≡ p .serial) (waits : none ≡ some f). never-none f waits);
+                replies = j .replies;
+              }
+
+      reply-after : Written bytes trace → After (Call.reply time bytes) (takeReply time bytes replyHeld .left .running) (takeReply time bytes replyHeld)
+      unfolding takeReply
+      reply-after brought =
+          either (λ (o : Outcome). After (Call.reply time bytes) (o .left .running) o) (replyRefusal time bytes (e .session)) replyHeld _
+          (λ (k : ℕ). refused-after (Call.reply time bytes) k)
+          (λ (z : replyRefusal time bytes (e .session) ≡ 0).
+          passed-by route _ _ r rt _ br trace (replied-joined brought (reply-told time bytes (e .session) z)) _ (λ (n : 0 ≡ 0). nothing-foreign route))
+
+    -- what arrives here is of the other direction
+    foreign-reply : (time : ℕ) (bytes line : List ℕ) (reply : Reply) → ReceiveTold bytes (lent Direction.receiving line e) → Joined route p pt r rt bp br (record { at = x; call = Call.message time bytes line; said = record { number = 0; bytes = take (length (wholeReply (envelopeOf bytes) reply)) (sets line 0 (wholeReply (envelopeOf bytes) reply)) } } ∷ trace)
+    foreign-reply time bytes line reply told =
+        let whole = wholeReply (envelopeOf bytes) reply in
+        let room : length whole ≤ length line = omega (arith, told .room, whole-length Kind.Reply (envelopeOf bytes) (writtenReplyBody reply)) in
+        passed-by route p pt r rt bp br trace j _ (λ (n : 0 ≡ 0). subst (Foreign route) (sym (first-bytes whole line room)) (reply-foreign (e .session) (ready .sound) different bytes reply (told .good) (told .way)))
+
+    message-after : (time : ℕ) (bytes line : List ℕ) → After (Call.message time bytes line) pt (receive time bytes (lent Direction.receiving line e))
+    unfolding receive
+    message-after time bytes line =
+        let h = lent Direction.receiving line e in
+        either (After (Call.message time bytes line) pt) (receiveRefusal time bytes h) h _
+        (λ (k : ℕ). refused-after (Call.message time bytes line) k)
+        (λ (z : receiveRefusal time bytes h ≡ 0). go (isNext bytes (e .session .receiving)) (receive-told time bytes h z))
+      where
+        go : (t : Bool) → ReceiveTold bytes (lent Direction.receiving line e) → After (Call.message time bytes line) pt (cond t (answered bytes (handled time (bodyOf bytes) (lent Direction.receiving line e))) (answered bytes (repeated time (lent Direction.receiving line e))))
+        go true told = foreign-reply time bytes line (handled time (bodyOf bytes) (lent Direction.receiving line e) .session .receiving .reply) told
+        go false told = foreign-reply time bytes line (e .session .receiving .reply) told
+
+    tick-after : (time : ℕ) → After (Call.tick time) (clock time (lent Direction.presenting [] e) .left .running) (clock time (lent Direction.presenting [] e))
+    unfolding clock
+    tick-after time =
+        either (λ (o : Outcome). After (Call.tick time) (o .left .running) o) (clockRefusal time (e .session)) (lent Direction.presenting [] e) _
+        (λ (k : ℕ). refused-after (Call.tick time) k)
+        (λ (z : clockRefusal time (e .session) ≡ 0). passed-by route p pt r rt bp br trace j _ (λ (n : 0 ≡ 0). nothing-foreign route))
+
+    -- what a presenter's own code lets pass is a message that its receiver reads as it was meant
+    header-fits : (time moment centre number : ℕ) → headerStop time moment centre number p ≡ 0 → (Effect.Header number ≡ waitingEffect (some (Entry.opens number)) (bp .ledger)) × (bodyEntry (bodyBytes route (Body.opening (record { time = moment; centre = centre; number = number }))) ≡ Entry.opens number)
+    unfolding headerStop
+    header-fits time moment centre number z =
+        let s = ready .sound .parties in
+        let fields = passed 1 (not (sendable moment centre number)) _ (lit< tt) z in
+        (refl, header-entry route (record { time = moment; centre = centre; number = number }) (omega (arith, s .date)) (omega (arith, s .own)) (omega (arith, s .partner)) (not-false (sendable moment centre number) (fields .0)))
+
+    detail-fits : (operation : ℕ) (part : List ℕ) → detailStop operation (e .session .parties .partner) part pt p ≡ 0 → (Effect.Detail (partAdds operation part) ≡ waitingEffect (some (partEntry operation part)) (bp .ledger)) × (bodyEntry (written (packedByte operation) part) ≡ partEntry operation part)
+    unfolding detailStop
+    detail-fits operation part z =
+        let own = none-both (presenterCode operation (e .session .parties .partner) part) _ z in
+        (ap Effect.Detail (sym (detail-sum (packedByte operation) (pieces documentBytes part))), detail-entry operation part (accepted-part operation (e .session .parties .partner) part (own .0) .0))
+
+    pub presenter-step : (call : Call) → Brought call trace → let d = perform call e in Joined route (d .engine .session .presenting) (d .engine .presenting) r rt (cond (eqb (d .said .number) 0) (presents call bp) bp) br (record { at = x; call = call; said = d .said } ∷ trace)
+    unfolding perform meaning sendHeader sendDetail sendLotTotal sendSessionTotal
+    presenter-step (Call.header time moment centre number line) brought = send-after (Call.header time moment centre number line) time _ _ _ line (Entry.opens number) refl (header-fits time moment centre number)
+    presenter-step (Call.detail time operation part line) brought = send-after (Call.detail time operation part line) time _ _ _ line (partEntry operation part) refl (detail-fits operation part)
+    presenter-step (Call.lotTotal time line) brought = send-after (Call.lotTotal time line) time _ _ _ line Entry.endsLot refl (λ (z : lotTotalStop p ≡ 0). (ap Effect.LotTotal (named-lot (p .counters) pt (bp .ledger) (j .presenter .course)), lot-total-entry route _))
+    presenter-step (Call.sessionTotal time line) brought = send-after (Call.sessionTotal time line) time _ _ _ line Entry.endsDirection refl (λ (z : sessionTotalStop p ≡ 0). (refl, session-total-entry route _))
+    presenter-step (Call.message time bytes line) brought = message-after time bytes line
+    presenter-step (Call.reply time bytes) brought = reply-after time bytes brought
+    presenter-step (Call.tick time) brought = tick-after time
+    presenter-step Call.report brought = passed-by route p pt r rt bp br trace j _ (λ (n : 0 ≡ 0). nothing-foreign route)

@@ -1,0 +1,239 @@
+-- The receiving end of a direction: whatever call is made there, the two ends stay joined.
+use mathlib.Core.Path.{_≡_, refl, ap, sym, subst, _∙_}
+use mathlib.Core.Bool.{Bool, true, false, _||_, cond, or-false, false≢true}
+use mathlib.Core.List.{List, [], _∷_}
+use mathlib.Core.Logic.{_⊎_, inl, inr}
+use mathlib.Core.Option.{Option, none, some}
+use Prim.Native.Nat.{ℕ, suc, _≤_, _<_}
+use native.Mathlib.Omega.{arith}
+use lib.Dec.{eqb}
+use lib.ListN.{length, take}
+use lib.Seq.{sets}
+use borrow.Author.Tests.{eqb-true, eq-eqb}
+use Rattle.codes.specs.Reply.{codeOf}
+use Rattle.codes.proofs.Laws.Reply.{accepts as code-accepts}
+use Rattle.document.specs.Entities.{member}
+use Rattle.message.specs.declared.route.Route.{Route}
+use Rattle.message.specs.declared.envelope.Kind.{Kind}
+use Rattle.message.specs.declared.reply.Reply.{Reply}
+use Rattle.message.specs.Envelope.{envelopeGood, envelopeOf, bodyOf}
+use Rattle.message.specs.Content.{contentOf}
+use Rattle.message.specs.Reply.{writtenReplyBody}
+use Rattle.message.specs.Line.{message, wholeReply}
+use Rattle.message.proofs.Laws.Envelope.{serial-told, whole-length}
+use Rattle.session.specs.declared.counters.OpenLot.{OpenLot}
+use Rattle.session.specs.declared.effect.Effect.{Effect}
+use Rattle.session.specs.declared.session.Presenting.{Presenting}
+use Rattle.session.specs.declared.session.Receiving.{Receiving}
+use Rattle.session.specs.Limits.{mostLots}
+use Rattle.session.specs.Parties.{incoming}
+use Rattle.session.specs.Running.{Running}
+use Rattle.session.specs.Course.{Course, advance}
+use Rattle.session.specs.Sequence.{isOpen}
+use Rattle.session.specs.Call.{Held, Outcome, clockRefusal}
+use Rattle.session.specs.Sending.{nextEnvelope, sendRefusal, send, sendHeader, sendDetail, sendLotTotal, sendSessionTotal}
+use Rattle.session.specs.Receiving.{serialOf, isNext, isLast, codeFor, effectBy, taken, gathered, receiveRefusal, receive, handled, repeated, answered}
+use Rattle.session.specs.Reply.{isAccepted, replyRefusal, takeReply}
+use Rattle.session.specs.Clock.{clock}
+use Rattle.session.specs.Premise.{Direction, OpenSound}
+use Rattle.session.specs.Ledger.{Entry, Ledger, PresenterBook, ReceiverBook, enter, entryBy, bodyEntry, received}
+use Rattle.session.specs.Ends.{End, Call, Engine, Event, saidBy, meaning, directionOf, lineOf, lent, given, perform, Written, Brought, receives}
+use Rattle.session.specs.Claim.{Ready}
+use Rattle.session.proofs.Laws.Call.{either, first-bytes}
+use Rattle.session.proofs.Laws.Refusals.{SendTold, send-told, ReceiveTold, receive-told}
+use Rattle.session.proofs.Laws.Sound.{Allowed, received-allowed}
+use Rattle.session.proofs.Laws.Line.{accepts, MessageFact, ReplyFact, Foreign, reply-is-none, nothing-foreign, serial-read, code-read}
+use Rattle.session.proofs.Laws.Lists.{next-unseen, up-to-next}
+use Rattle.session.proofs.Laws.Joined.{Mirrored, Seen, Link, Joined, passed-by, refused-by, not-entered}
+use Rattle.session.proofs.Laws.Mirror.{course-mirrors, lots-mirror, numbers-mirror, free-header}
+use Rattle.session.proofs.Laws.Foreign.{message-foreign, reply-fits}
+
+-- an open lot has a place among the accepted ones
+has-room : (lot : OpenLot) (lots : ℕ) → OpenSound lot lots → isOpen lot ≡ true → lots < mostLots
+has-room OpenLot.None lots s e = absurd (false≢true e)
+has-room (OpenLot.Numbered n) lots s e = s .1
+
+module _ (x : End) (e : Engine) (ready : Ready e) (different : e .session .parties .own ≡ e .session .parties .partner → ⊥) (p : Presenting) (pt : Running) (bp : PresenterBook) (br : ReceiverBook) (trace : List Event) where
+  abbrev route : Route
+  route = incoming (e .session .parties)
+
+  abbrev r : Receiving
+  r = e .session .receiving
+
+  abbrev rt : Running
+  rt = e .receiving
+
+  module _ (j : Joined route p pt r rt bp br trace) where
+    abbrev After : Call → Running → Outcome → Type 0
+    After call t o = Joined route p pt (o .left .session .receiving) t bp (cond (eqb (o .number) 0) (receives call (saidBy o .bytes) br) br) (record { at = x; call = call; said = saidBy o } ∷ trace)
+
+    refused-after : (call : Call) (k : ℕ) → Joined route p pt r rt bp (cond (eqb (suc k) 0) (receives call [] br) br) (record { at = x; call = call; said = record { number = suc k; bytes = [] } } ∷ trace)
+    refused-after call k = subst (λ (b : ReceiverBook). Joined route p pt r rt bp b (record { at = x; call = call; said = record { number = suc k; bytes = [] } } ∷ trace)) (sym (not-entered k (receives call [] br) br)) (refused-by route p pt r rt bp br trace j (record { at = x; call = call; said = record { number = suc k; bytes = [] } }) k refl)
+
+    -- what is sent from here is of the other direction
+    send-after : (call : Call) (time code : ℕ) (effect : Effect) (body line : List ℕ) → ((w : List ℕ) → receives call w br ≡ br) → After call rt (send time code effect body (lent Direction.presenting line e))
+    unfolding send
+    send-after call time code effect body line books =
+        let h = lent Direction.presenting line e in
+        let bytes = message (nextEnvelope (e .session)) body in
+        either (After call rt) (sendRefusal time code bytes h) h _
+        (λ (k : ℕ). refused-after call k)
+        (λ (z : sendRefusal time code bytes h ≡ 0).
+        let told = send-told time code bytes h z in
+        subst (λ (b : ReceiverBook). Joined route p pt r rt bp b (record { at = x; call = call; said = record { number = 0; bytes = take (length bytes) (sets line 0 bytes) } } ∷ trace)) (sym (books _))
+        (passed-by route p pt r rt bp br trace j _ (λ (n : 0 ≡ 0). subst (Foreign route) (sym (first-bytes bytes line (told .room))) (message-foreign (e .session) (ready .sound) different body (told .more)))))
+
+    reply-after : (time : ℕ) (bytes : List ℕ) → After (Call.reply time bytes) rt (takeReply time bytes (lent Direction.presenting [] e))
+    unfolding takeReply
+    reply-after time bytes =
+        either (After (Call.reply time bytes) rt) (replyRefusal time bytes (e .session)) (lent Direction.presenting [] e) _
+        (λ (k : ℕ). refused-after (Call.reply time bytes) k)
+        (λ (z : replyRefusal time bytes (e .session) ≡ 0). passed-by route p pt r rt bp br trace j _ (λ (n : 0 ≡ 0). nothing-foreign route))
+
+    tick-after : (time : ℕ) → After (Call.tick time) rt (clock time (lent Direction.presenting [] e))
+    unfolding clock
+    tick-after time =
+        either (After (Call.tick time) rt) (clockRefusal time (e .session)) (lent Direction.presenting [] e) _
+        (λ (k : ℕ). refused-after (Call.tick time) k)
+        (λ (z : clockRefusal time (e .session) ≡ 0). passed-by route p pt r rt bp br trace j _ (λ (n : 0 ≡ 0). nothing-foreign route))
+
+    module _ (time : ℕ) (bytes line : List ℕ) (brought : Written bytes trace) (told : ReceiveTold bytes (lent Direction.receiving line e)) where
+      abbrev h : Held
+      h = lent Direction.receiving line e
+
+      abbrev body : List ℕ
+      body = bodyOf bytes
+
+      abbrev code : ℕ
+      code = codeFor time body h
+
+      -- the reply of this serial with some code, kept by the receiver, is on the line beside all earlier ones
+      module _ (after : Receiving) (reply : Reply) (serial : serialOf bytes ≡ after .serial) (keptReply : after .reply ≡ reply) where
+        abbrev whole : List ℕ
+        whole = wholeReply (envelopeOf bytes) reply
+
+        abbrev event : Event
+        event = record { at = x; call = Call.message time bytes line; said = record { number = 0; bytes = whole } }
+
+        fits : length whole ≤ length line
+        fits = omega (arith, told .room, whole-length Kind.Reply (envelopeOf bytes) (writtenReplyBody reply))
+
+        all-messages : (b : List ℕ) → Written b (event ∷ trace) → MessageFact route (p .serial) (bp .waiting) b
+        all-messages b (inl w) = subst (MessageFact route (p .serial) (bp .waiting)) (w .1) (λ (g : envelopeGood Kind.Message whole ≡ true) (way : envelopeOf whole .route ≡ route). absurd (reply-is-none (envelopeOf bytes) reply g))
+        all-messages b (inr w) = j .messages b w
+
+        all-replies : ((b : List ℕ) → Written b trace → ReplyFact route (after .serial) (after .reply .code) b) → (b : List ℕ) → Written b (event ∷ trace) → ReplyFact route (after .serial) (after .reply .code) b
+        all-replies old b (inl w) =
+            subst (ReplyFact route (after .serial) (after .reply .code)) (w .1)
+            (λ (g : envelopeGood Kind.Reply whole ≡ true) (way : envelopeOf whole .route ≡ route).
+            let read = serial-read Kind.Reply (envelopeOf bytes) (writtenReplyBody reply) (reply-fits (e .session) (ready .sound) bytes (told .good) (told .way)) ∙ serial in
+            (omega (arith, read), λ (s : serialOf whole ≡ after .serial). code-read (envelopeOf bytes) reply ∙ ap (λ (q : Reply). accepts (q .code)) (sym keptReply)))
+        all-replies old b (inr w) = old b w
+
+      -- a new message is entered on both sides with the same code
+      abbrev kept : Reply
+      kept = taken code body rt r .reply
+
+      abbrev entered : ReceiverBook
+      entered = record { ledger = enter (bodyEntry body) (eqb code 0) (br .ledger); serials = suc (r .serial) ∷ br .serials }
+
+      replied-code : isAccepted (wholeReply (envelopeOf bytes) kept) ≡ eqb code 0
+      unfolding taken
+      replied-code = code-read (envelopeOf bytes) kept ∙ code-accepts code
+
+      first-time : serialOf bytes ≡ suc (r .serial) → received (serialOf bytes) (bodyEntry body) (isAccepted (wholeReply (envelopeOf bytes) kept)) br ≡ entered
+      first-time next =
+          ap (λ (t : Bool). cond t br (record { ledger = enter (bodyEntry body) (isAccepted (wholeReply (envelopeOf bytes) kept)) (br .ledger); serials = serialOf bytes ∷ br .serials })) (ap (λ (n : ℕ). member n (br .serials)) next ∙ next-unseen (r .serial) (br .serials) (j .seen .earlier))
+          ∙ λ i. record { ledger = enter (bodyEntry body) (replied-code i) (br .ledger); serials = next i ∷ br .serials }
+
+      mirrored : Mirrored (taken code body rt r) (gathered code body rt r) (entered .ledger)
+      unfolding taken
+      mirrored =
+          let c = contentOf body in
+          let m = j .receiver in
+          let allowed : eqb code 0 ≡ true → Allowed (effectBy c body rt) (record { counters = r .counters; running = rt }) = λ (t : eqb code 0 ≡ true). received-allowed time body (e .session .parties) rt r (ready .receiving .fits) c (eqb-true code 0 t) in
+          let numbers = numbers-mirror r rt (br .ledger) m body c (eqb code 0) allowed (λ (t : eqb code 0 ≡ true). free-header r rt (br .ledger) m body time (e .session .parties) c (eqb-true code 0 t)) in
+          record {
+            course = course-mirrors r rt (br .ledger) m body c (eqb code 0) allowed;
+            kept = lots-mirror r rt (br .ledger) m body c (eqb code 0) allowed (λ (o : isOpen (r .counters .current) ≡ true). omega (arith, has-room (r .counters .current) (r .counters .lots) (ready .sound .receiving .open-lot) o, ready .sound .places));
+            once = numbers .0;
+            new = numbers .1;
+          }
+
+      linked : serialOf bytes ≡ suc (r .serial) → Link p r (bp .waiting) (bp .ledger) (br .ledger) → Link p (taken code body rt r) (bp .waiting) (bp .ledger) (entered .ledger)
+      unfolding taken
+      linked next (Link.idle w s b) = absurd (omega (arith, next, s, j .messages bytes brought (told .good) (told .way) .0))
+      linked next (Link.taken d w s b) = absurd (omega (arith, next, s, j .messages bytes brought (told .good) (told .way) .0))
+      linked next (Link.sent d w s b) =
+          let reads : bodyEntry body ≡ d = j .messages bytes brought (told .good) (told .way) .1 d (next ∙ sym s) w in
+          Link.taken d w s (λ i. enter (reads i) (sym (code-accepts code) i) (sym b i))
+
+      taken-joined : serialOf bytes ≡ suc (r .serial) → Joined route p pt (taken code body rt r) (gathered code body rt r) bp entered (record { at = x; call = Call.message time bytes line; said = record { number = 0; bytes = wholeReply (envelopeOf bytes) kept } } ∷ trace)
+      unfolding taken member
+      taken-joined next =
+          record {
+            presenter = j .presenter;
+            receiver = mirrored;
+            seen = record { earlier = up-to-next (r .serial) (br .serials) (j .seen .earlier); last-seen = inr (ap (λ (t : Bool). t || member (suc (r .serial)) (br .serials)) (eq-eqb (suc (r .serial)) (suc (r .serial)) refl)) };
+            link = linked next (j .link);
+            messages = all-messages (taken code body rt r) kept next refl;
+            replies =
+                all-replies (taken code body rt r) kept next refl
+                (λ (b : List ℕ) (w : Written b trace) (g : envelopeGood Kind.Reply b ≡ true) (way : envelopeOf b .route ≡ route).
+                let old = j .replies b w g way .0 in
+                (omega (arith, old), λ (s : serialOf b ≡ suc (r .serial)). absurd (omega (arith, old, s))));
+          }
+
+      -- a repeat writes the kept reply once more and enters nothing
+      seen-before : serialOf bytes ≡ r .serial → member (serialOf bytes) (br .serials) ≡ true
+      seen-before same = ap (λ (n : ℕ). member n (br .serials)) same ∙ go (j .seen .last-seen)
+        where
+          go : (r .serial ≡ 0) ⊎ (member (r .serial) (br .serials) ≡ true) → member (r .serial) (br .serials) ≡ true
+          go (inl z) = absurd (omega (arith, z, same, serial-told Kind.Message bytes (told .good) .0))
+          go (inr m) = m
+
+      not-again : serialOf bytes ≡ r .serial → (accepted : Bool) → received (serialOf bytes) (bodyEntry body) accepted br ≡ br
+      not-again same accepted = ap (λ (t : Bool). cond t br (record { ledger = enter (bodyEntry body) accepted (br .ledger); serials = serialOf bytes ∷ br .serials })) (seen-before same)
+
+      repeated-joined : serialOf bytes ≡ r .serial → Joined route p pt r rt bp br (record { at = x; call = Call.message time bytes line; said = record { number = 0; bytes = wholeReply (envelopeOf bytes) (r .reply) } } ∷ trace)
+      repeated-joined same =
+          record { presenter = j .presenter; receiver = j .receiver; seen = j .seen; link = j .link; messages = all-messages r (r .reply) same refl; replies = all-replies r (r .reply) same refl (j .replies) }
+
+    -- which of the two it is
+    last-serial : (bytes : List ℕ) → isNext bytes r ≡ false → isLast bytes r || isNext bytes r ≡ true → serialOf bytes ≡ r .serial
+    last-serial bytes n known = eqb-true (serialOf bytes) (r .serial) (sym (or-false (isLast bytes r)) ∙ ap (λ (t : Bool). isLast bytes r || t) (sym n) ∙ known)
+
+    message-after : (time : ℕ) (bytes line : List ℕ) → Written bytes trace → After (Call.message time bytes line) (receive time bytes (lent Direction.receiving line e) .left .running) (receive time bytes (lent Direction.receiving line e))
+    unfolding receive taken
+    message-after time bytes line brought =
+        let h = lent Direction.receiving line e in
+        either (λ (o : Outcome). After (Call.message time bytes line) (o .left .running) o) (receiveRefusal time bytes h) h _
+        (λ (k : ℕ). refused-after (Call.message time bytes line) k)
+        (λ (z : receiveRefusal time bytes h ≡ 0). go (isNext bytes r) refl (receive-told time bytes h z))
+      where
+        go : (t : Bool) → isNext bytes r ≡ t → ReceiveTold bytes (lent Direction.receiving line e) → let o = cond t (answered bytes (handled time (bodyOf bytes) (lent Direction.receiving line e))) (answered bytes (repeated time (lent Direction.receiving line e))) in After (Call.message time bytes line) (o .left .running) o
+        go true n told =
+            let next = eqb-true (serialOf bytes) (suc (r .serial)) n in
+            let code = codeFor time (bodyOf bytes) (lent Direction.receiving line e) in
+            let after = taken code (bodyOf bytes) rt r in
+            let running = gathered code (bodyOf bytes) rt r in
+            let whole = wholeReply (envelopeOf bytes) (after .reply) in
+            subst (λ (w : List ℕ). Joined route p pt after running bp (receives (Call.message time bytes line) w br) (record { at = x; call = Call.message time bytes line; said = record { number = 0; bytes = w } } ∷ trace)) (sym (first-bytes whole line (fits time bytes line brought told after (after .reply) next refl)))
+            (subst (λ (b : ReceiverBook). Joined route p pt after running bp b (record { at = x; call = Call.message time bytes line; said = record { number = 0; bytes = whole } } ∷ trace)) (sym (first-time time bytes line brought told next)) (taken-joined time bytes line brought told next))
+        go false n told =
+            let same = last-serial bytes n (told .known) in
+            let whole = wholeReply (envelopeOf bytes) (r .reply) in
+            let event : List ℕ → Event = λ (w : List ℕ). record { at = x; call = Call.message time bytes line; said = record { number = 0; bytes = w } } in
+            subst (λ (w : List ℕ). Joined route p pt r rt bp (receives (Call.message time bytes line) w br) (event w ∷ trace)) (sym (first-bytes whole line (fits time bytes line brought told r (r .reply) same refl)))
+            (subst (λ (b : ReceiverBook). Joined route p pt r rt bp b (event whole ∷ trace)) (sym (not-again time bytes line brought told same (isAccepted whole))) (repeated-joined time bytes line brought told same))
+
+    pub receiver-step : (call : Call) → Brought call trace → let d = perform call e in Joined route p pt (d .engine .session .receiving) (d .engine .receiving) bp (cond (eqb (d .said .number) 0) (receives call (d .said .bytes) br) br) (record { at = x; call = call; said = d .said } ∷ trace)
+    unfolding perform meaning sendHeader sendDetail sendLotTotal sendSessionTotal
+    receiver-step (Call.header time moment centre number line) brought = send-after (Call.header time moment centre number line) time _ _ _ line (λ (w : List ℕ). refl)
+    receiver-step (Call.detail time operation part line) brought = send-after (Call.detail time operation part line) time _ _ _ line (λ (w : List ℕ). refl)
+    receiver-step (Call.lotTotal time line) brought = send-after (Call.lotTotal time line) time _ _ _ line (λ (w : List ℕ). refl)
+    receiver-step (Call.sessionTotal time line) brought = send-after (Call.sessionTotal time line) time _ _ _ line (λ (w : List ℕ). refl)
+    receiver-step (Call.message time bytes line) brought = message-after time bytes line brought
+    receiver-step (Call.reply time bytes) brought = reply-after time bytes
+    receiver-step (Call.tick time) brought = tick-after time
+    receiver-step Call.report brought = passed-by route p pt r rt bp br trace j _ (λ (n : 0 ≡ 0). nothing-foreign route)
