@@ -26,13 +26,15 @@ use Rattle.session.specs.Sequence.{isOpen}
 use Rattle.session.specs.Start.{fresh, started, start}
 use Rattle.session.specs.Report.{tally, awaited, report}
 use Rattle.session.specs.Premise.{Direction, PendingSound, Sound}
-use Rattle.session.specs.Ledger.{LedgerLot, Ledger, Entry, blank, enter, closed, sum, lotSum, lotsSum, tallied, numbers, namedLot, namedBy, due, PresenterBook, ReceiverBook}
-use Rattle.session.specs.Ends.{End, other, Call, Engine, Event, World, Step, perform, replaced, act, run, Written, Brought, Possible, presents, receives, presenterBook, receiverBook, engines, withEmpty, begun, Begins}
-use Rattle.session.specs.Claim.{confirmed, counted, reportAt, presentedTally, receivedTally, Level, Ahead, JustReplied, Ready, Agreement}
+use Rattle.session.specs.Ledger.{LedgerLot, Ledger, Entry, blank, enter, closed, sum, lotSum, lotsSum, tallied, numbers}
+use Rattle.session.specs.Engine.{Call, Engine, perform, withEmpty}
+use Rattle.session.specs.Ends.{End, other, Event, World, Step, replaced, act, run, Written, Brought, Possible, engines, begun, Begins}
+use Rattle.session.specs.Books.{namedLot, namedBy, due, PresenterBook, ReceiverBook, presents, receives, presenterBook, receiverBook}
+use Rattle.session.specs.Claim.{oneMore, confirmed, counted, reportAt, presentedTally, receivedTally, Level, Ahead, JustReplied, Ready, Agreement}
 use Rattle.session.proofs.Laws.Parties.{Told, told}
 use Rattle.session.proofs.Laws.Sound.{fresh-sound, start-carried}
 use Rattle.session.proofs.Laws.Calls.{ready-kept, parties-kept}
-use Rattle.session.proofs.Laws.Ledger.{summary, openOf, lotOf, lots-last}
+use Rattle.session.proofs.Laws.Ledger.{summary, openOf, lotOf, lots-last, one-longer}
 use Rattle.session.proofs.Laws.Line.{accepts}
 use Rattle.session.proofs.Laws.Joined.{waitingEffect, Link, Joined}
 use Rattle.session.proofs.Laws.Presenter.{never-none, presenter-step}
@@ -46,20 +48,20 @@ pub record Whole (w : World) : Type 0 where
   pub joined : (p : End) → Joined (outgoing (w .engine p .session .parties)) (w .engine p .session .presenting) (w .engine p .presenting) (w .engine (other p) .session .receiving) (w .engine (other p) .receiving) (presenterBook p (w .trace)) (receiverBook (other p) (w .trace)) (w .trace)
 
 -- a direction seen from a call at its presenting end, and from one at its receiving end
-module _ (x : End) (call : Call) (e f : Engine) (bp : PresenterBook) (br : ReceiverBook) (trace : List Event) (ready : Ready e) (different : e .session .parties .own ≡ e .session .parties .partner → ⊥) (brought : Brought call trace) where
+module _ (x : End) (call : Call) (line : List ℕ) (e f : Engine) (bp : PresenterBook) (br : ReceiverBook) (trace : List Event) (ready : Ready e) (different : e .session .parties .own ≡ e .session .parties .partner → ⊥) (brought : Brought call trace) where
   abbrev d : Engine
-  d = perform call e .engine
+  d = perform call line e .engine
 
   abbrev event : Event
-  event = record { at = x; call = call; said = perform call e .said }
+  event = record { at = x; call = call; said = perform call line e .said }
 
   at-presenter : Joined (outgoing (e .session .parties)) (e .session .presenting) (e .presenting) (f .session .receiving) (f .receiving) bp br trace → Joined (outgoing (d .session .parties)) (d .session .presenting) (d .presenting) (f .session .receiving) (f .receiving) (cond (eqb (event .said .number) 0) (presents call bp) bp) br (event ∷ trace)
-  at-presenter j = subst (λ (p : Parties). Joined (outgoing p) (d .session .presenting) (d .presenting) (f .session .receiving) (f .receiving) (cond (eqb (event .said .number) 0) (presents call bp) bp) br (event ∷ trace)) (sym (parties-kept call e)) (presenter-step x e ready different (f .session .receiving) (f .receiving) bp br trace j call brought)
+  at-presenter j = subst (λ (p : Parties). Joined (outgoing p) (d .session .presenting) (d .presenting) (f .session .receiving) (f .receiving) (cond (eqb (event .said .number) 0) (presents call bp) bp) br (event ∷ trace)) (sym (parties-kept call line e)) (presenter-step x e ready different (f .session .receiving) (f .receiving) bp br trace j call line brought)
 
   at-receiver : outgoing (f .session .parties) ≡ incoming (e .session .parties) → Joined (outgoing (f .session .parties)) (f .session .presenting) (f .presenting) (e .session .receiving) (e .receiving) bp br trace → Joined (outgoing (f .session .parties)) (f .session .presenting) (f .presenting) (d .session .receiving) (d .receiving) bp (cond (eqb (event .said .number) 0) (receives call (event .said .bytes) br) br) (event ∷ trace)
   at-receiver way j =
       subst (λ (route : Route). Joined route (f .session .presenting) (f .presenting) (d .session .receiving) (d .receiving) bp (cond (eqb (event .said .number) 0) (receives call (event .said .bytes) br) br) (event ∷ trace)) (sym way)
-      (receiver-step x e ready different (f .session .presenting) (f .presenting) bp br trace (subst (λ (route : Route). Joined route (f .session .presenting) (f .presenting) (e .session .receiving) (e .receiving) bp br trace) way j) call brought)
+      (receiver-step x e ready different (f .session .presenting) (f .presenting) bp br trace (subst (λ (route : Route). Joined route (f .session .presenting) (f .presenting) (e .session .receiving) (e .receiving) bp br trace) way j) call line brought)
 
 -- what holds of the engine after a call, and of the other end, holds of both
 both-ends : (Q : End → Engine → Type 0) (x : End) (e : Engine) (engine : End → Engine) → Q x e → Q (other x) (engine (other x)) → (y : End) → Q y (replaced x e engine y)
@@ -69,25 +71,25 @@ both-ends Q End.far e engine here there End.near = there
 both-ends Q End.far e engine here there End.far = here
 
 -- every call keeps both directions
-module _ (w : World) (all : Whole w) (call : Call) (brought : Brought call (w .trace)) where
+module _ (w : World) (all : Whole w) (call : Call) (line : List ℕ) (brought : Brought call (w .trace)) where
   abbrev after : End → End → Engine
-  after x = replaced x (perform call (w .engine x) .engine) (w .engine)
+  after x = replaced x (perform call line (w .engine x) .engine) (w .engine)
 
   parties-same : (x y : End) → after x y .session .parties ≡ w .engine y .session .parties
-  parties-same x = both-ends (λ (y : End) (e : Engine). e .session .parties ≡ w .engine y .session .parties) x _ (w .engine) (parties-kept call (w .engine x)) refl
+  parties-same x = both-ends (λ (y : End) (e : Engine). e .session .parties ≡ w .engine y .session .parties) x _ (w .engine) (parties-kept call line (w .engine x)) refl
 
-  stay-joined : (x p : End) → let w' = act x call w in Joined (outgoing (w' .engine p .session .parties)) (w' .engine p .session .presenting) (w' .engine p .presenting) (w' .engine (other p) .session .receiving) (w' .engine (other p) .receiving) (presenterBook p (w' .trace)) (receiverBook (other p) (w' .trace)) (w' .trace)
+  stay-joined : (x p : End) → let w' = act (record { at = x; call = call; line = line }) w in Joined (outgoing (w' .engine p .session .parties)) (w' .engine p .session .presenting) (w' .engine p .presenting) (w' .engine (other p) .session .receiving) (w' .engine (other p) .receiving) (presenterBook p (w' .trace)) (receiverBook (other p) (w' .trace)) (w' .trace)
   unfolding act presenterBook receiverBook
-  stay-joined End.near End.near = at-presenter End.near call _ (w .engine End.far) _ _ (w .trace) (all .ready End.near) (all .different End.near) brought (all .joined End.near)
-  stay-joined End.far End.far = at-presenter End.far call _ (w .engine End.near) _ _ (w .trace) (all .ready End.far) (all .different End.far) brought (all .joined End.far)
-  stay-joined End.near End.far = at-receiver End.near call _ (w .engine End.far) _ _ (w .trace) (all .ready End.near) (all .different End.near) brought (all .ways End.far) (all .joined End.far)
-  stay-joined End.far End.near = at-receiver End.far call _ (w .engine End.near) _ _ (w .trace) (all .ready End.far) (all .different End.far) brought (all .ways End.near) (all .joined End.near)
+  stay-joined End.near End.near = at-presenter End.near call line _ (w .engine End.far) _ _ (w .trace) (all .ready End.near) (all .different End.near) brought (all .joined End.near)
+  stay-joined End.far End.far = at-presenter End.far call line _ (w .engine End.near) _ _ (w .trace) (all .ready End.far) (all .different End.far) brought (all .joined End.far)
+  stay-joined End.near End.far = at-receiver End.near call line _ (w .engine End.far) _ _ (w .trace) (all .ready End.near) (all .different End.near) brought (all .ways End.far) (all .joined End.far)
+  stay-joined End.far End.near = at-receiver End.far call line _ (w .engine End.near) _ _ (w .trace) (all .ready End.far) (all .different End.far) brought (all .ways End.near) (all .joined End.near)
 
-  act-keeps : (x : End) → Whole (act x call w)
+  act-keeps : (x : End) → Whole (act (record { at = x; call = call; line = line }) w)
   unfolding act
   act-keeps x =
       record {
-        ready = both-ends (λ (y : End) (e : Engine). Ready e) x _ (w .engine) (ready-kept call (w .engine x) (all .ready x)) (all .ready (other x));
+        ready = both-ends (λ (y : End) (e : Engine). Ready e) x _ (w .engine) (ready-kept call line (w .engine x) (all .ready x)) (all .ready (other x));
         different = λ (y : End). subst (λ (p : Parties). p .own ≡ p .partner → ⊥) (sym (parties-same x y)) (all .different y);
         ways = λ (y : End). ap outgoing (parties-same x y) ∙ all .ways y ∙ ap incoming (sym (parties-same x (other y)));
         joined = stay-joined x;
@@ -97,7 +99,7 @@ module _ (w : World) (all : Whole w) (call : Call) (brought : Brought call (w .t
 run-keeps : (steps : List Step) (w : World) → Whole w → Possible steps w → Whole (run steps w)
 unfolding run Possible
 run-keeps [] w all possible = all
-run-keeps (s ∷ steps) w all possible = run-keeps steps (act (s .at) (s .call) w) (act-keeps w all (s .call) (possible .0) (s .at)) (possible .1)
+run-keeps (s ∷ steps) w all possible = run-keeps steps (act s w) (act-keeps w all (s .call) (s .line) (possible .0) (s .at)) (possible .1)
 
 -- the beginning
 fresh-joined : (a b : Parties) (route : Route) → let s = fresh a Close.Open in let t = fresh b Close.Open in Joined route (s .presenting) empty (t .receiving) empty (record { ledger = blank; waiting = none }) (record { ledger = blank; serials = [] }) []
@@ -214,7 +216,11 @@ module _ (w : World) (all : Whole w) (p : End) where
         lot = l;
         named = named ∙ names;
         lots = more;
-        totals = ap (λ (t : Tally). t .gathered) received ∙ ap lotsSum more ∙ lots-last (confirmed w p) l ∙ ap (λ (t : Tally). gather (t .gathered) (sum (l .documents))) (sym presented);
+        totals =
+            received
+            ∙ ap tallied more
+            ∙ (λ i. record { lots = one-longer (confirmed w p) l i; gathered = lots-last (confirmed w p) l i })
+            ∙ ap (oneMore (lotSum l)) (sym presented);
       }
 
   agreed : Level w p ⊎ Ahead w p

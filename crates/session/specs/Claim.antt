@@ -1,18 +1,20 @@
 -- Demand 3, 01's 'Both ends together': what holds of a direction, in which one end presents and the other receives, after any list of calls.
 -- The theorem is `agreement` of proofs/Agreement. docs/AGREEMENT.md leads from the demand's sentences to the fields.
-use Prim.Native.Nat.{ℕ}
+use Prim.Native.Nat.{ℕ, suc}
 use mathlib.Core.Path.{_≡_}
 use mathlib.Core.List.{List, [], _∷_, _++_}
 use mathlib.Core.Logic.{_⊎_}
-use mathlib.Core.Option.{some}
+use Rattle.session.specs.declared.counters.Lot.{Lot}
 use Rattle.session.specs.declared.report.Tally.{Tally}
 use Rattle.session.specs.declared.report.Awaited.{Awaited}
 use Rattle.session.specs.declared.report.Report.{Report}
 use Rattle.session.specs.Report.{report}
 use Rattle.session.specs.Running.{gather}
 use Rattle.session.specs.Premise.{Direction, Sound, Carried}
-use Rattle.session.specs.Ledger.{LedgerLot, lotSum, tallied, numbers, Distinct, due}
-use Rattle.session.specs.Ends.{End, other, Call, Engine, Event, World, presenterBook, receiverBook}
+use Rattle.session.specs.Ledger.{LedgerLot, lotSum, tallied, numbers, Distinct}
+use Rattle.session.specs.Engine.{Call, Engine}
+use Rattle.session.specs.Ends.{End, other, Event, World}
+use Rattle.session.specs.Books.{due, presenterBook, receiverBook}
 
 -- counted lots are the receiver's list, confirmed ones the presenter's
 abbrev pub confirmed : World → End → List LedgerLot
@@ -32,6 +34,10 @@ presentedTally w p = reportAt w p .presented
 abbrev pub receivedTally : World → End → Tally
 receivedTally w p = reportAt w (other p) .received
 
+-- totals that are larger by exactly one lot
+abbrev pub oneMore : Lot → Tally → Tally
+oneMore lot t = record { lots = suc (t .lots); gathered = gather (t .gathered) (lot .gathered) }
+
 -- the same lots, with the same documents and operations in the same order, and so the same totals
 pub record Level (w : World) (p : End) : Type 0 where
   pub lots : counted w p ≡ confirmed w p
@@ -42,7 +48,7 @@ pub record Ahead (w : World) (p : End) : Type 0 where
   pub lot : LedgerLot
   pub named : reportAt w p .awaited ≡ Awaited.LotTotal (lotSum lot)
   pub lots : counted w p ≡ confirmed w p ++ lot ∷ []
-  pub totals : receivedTally w p .gathered ≡ gather (presentedTally w p .gathered) (lotSum lot .gathered)
+  pub totals : receivedTally w p ≡ oneMore (lotSum lot) (presentedTally w p)
 
 -- the latest call was a reply call at this end, and was not refused
 pub record JustReplied (w : World) (p : End) : Type 0 where

@@ -14,6 +14,9 @@ pub record Course : Type 0 where
   pub counters : Counters
   pub running : Running
 
+abbrev pub course : Counters → Running → Course
+course c t = record { counters = c; running = t }
+
 -- the same with another lot open, or none
 abbrev pub reopened : OpenLot → Counters → Counters
 reopened lot c = record { current = lot; lots = c .lots; gathered = c .gathered }

@@ -1,11 +1,9 @@
--- 01, 'Both ends together': the books of a direction, one at each end. They are made of what the calls were given and of what they answered,
--- never of a session.
-use Prim.Native.Nat.{ℕ, _+_}
+-- 01, 'Both ends together': a ledger, how a message is entered, and the counts and sums over it. Each direction has one at each end.
+use Prim.Native.Nat.{ℕ}
 use mathlib.Core.Path.{_≡_}
-use mathlib.Core.Bool.{Bool, true, false, _||_, cond}
+use mathlib.Core.Bool.{Bool, true, false}
 use mathlib.Core.List.{List, [], _∷_, _++_, map}
 use mathlib.Core.Option.{Option, none, some}
-use lib.Dec.{eqb}
 use lib.ListN.{length}
 use Rattle.packed.specs.Pieces.{pieces}
 use Rattle.packed.specs.Writing.{packedByte}
@@ -18,7 +16,6 @@ use Rattle.message.specs.Content.{contentOf}
 use Rattle.message.specs.Header.{headerOf}
 use Rattle.session.specs.declared.counters.Lot.{Lot}
 use Rattle.session.specs.declared.report.Tally.{Tally}
-use Rattle.session.specs.declared.report.Awaited.{Awaited}
 use Rattle.session.specs.Running.{Running, empty, gather, detailAdds}
 
 -- a document to the byte, its key included, and its operation as the byte of its group
@@ -109,44 +106,3 @@ numbers ls = map (λ (l : LedgerLot). l .number) ls
 abbrev pub Distinct : List ℕ → Type 0
 Distinct [] = Unit {0}
 Distinct (n ∷ ns) = (member n ns ≡ false) × Distinct ns
-
--- the presenter's book: the ledger, and the message whose reply is still to come
-pub record PresenterBook : Type 0 where
-  pub ledger : Ledger
-  pub waiting : Option Entry
-
--- an unrefused send is waiting; the unrefused reply call enters it
-abbrev pub waitingFor : Entry → PresenterBook → PresenterBook
-waitingFor e b = record { ledger = b .ledger; waiting = some e }
-
-abbrev pub enterWaiting : (accepted : Bool) → Option Entry → Ledger → Ledger
-enterWaiting accepted none b = b
-enterWaiting accepted (some e) b = enter e accepted b
-
-abbrev pub answeredWith : (accepted : Bool) → PresenterBook → PresenterBook
-answeredWith accepted b = record { ledger = enterWaiting accepted (b .waiting) (b .ledger); waiting = none }
-
--- what a report has to name: the open lot while its total waits, or a session total that waits
-abbrev pub namedLot : Option LedgerLot → Awaited
-namedLot none = Awaited.Neither
-namedLot (some l) = Awaited.LotTotal (lotSum l)
-
-abbrev pub namedBy : Option Entry → Option LedgerLot → Awaited
-namedBy (some Entry.endsLot) current = namedLot current
-namedBy (some Entry.endsDirection) current = Awaited.SessionTotal
-namedBy (some (Entry.opens number)) current = Awaited.Neither
-namedBy (some (Entry.adds ds)) current = Awaited.Neither
-namedBy (some Entry.nothing) current = Awaited.Neither
-namedBy none current = Awaited.Neither
-
-abbrev pub due : PresenterBook → Awaited
-due b = namedBy (b .waiting) (b .ledger .current)
-
--- the receiver's book: the ledger, and the serials that were received
-pub record ReceiverBook : Type 0 where
-  pub ledger : Ledger
-  pub serials : List ℕ
-
--- a message is entered when its serial is first received
-abbrev pub received : (serial : ℕ) → Entry → (accepted : Bool) → ReceiverBook → ReceiverBook
-received serial e accepted b = cond (member serial (b .serials)) b (record { ledger = enter e accepted (b .ledger); serials = serial ∷ b .serials })

@@ -14,5 +14,7 @@ pub mod Clock
 pub mod Report
 pub mod Premise
 pub mod Ledger
+pub mod Engine
 pub mod Ends
+pub mod Books
 pub mod Claim

@@ -35,7 +35,7 @@ use Rattle.session.specs.Limits.{passesLot, lotsUsed}
 use Rattle.session.specs.Hours.{receiverLate}
 use Rattle.session.specs.Parties.{representedBy, incoming}
 use Rattle.session.specs.Running.{Running, detailAdds, stated, documentsIn}
-use Rattle.session.specs.Course.{Course, advance, ends, kept}
+use Rattle.session.specs.Course.{Course, course, advance, ends, kept}
 use Rattle.session.specs.Sequence.{headerSequence, openSequence, lotTotalSequence, sessionTotalSequence}
 use Rattle.session.specs.Call.{Held, Outcome, decided, wrote, noRoom, timeRefusal}
 
@@ -99,20 +99,21 @@ effectBy Content.Unknown body running = Effect.Nothing
 abbrev pub codeFor : (time : ℕ) (body : List ℕ) → Held → ℕ
 codeFor time body h = codeBy (contentOf body) time body (h .session .parties) (h .running) (h .session .receiving)
 
--- the receiving direction and the running totals after a message of this code
+-- the course of the direction after a message of this code
+abbrev pub courseAfter : (code : ℕ) (body : List ℕ) → Running → Receiving → Course
+courseAfter code body running r = advance (effectBy (contentOf body) body running) (eqb code 0) (course (r .counters) running)
+
+-- and its record: the serial becomes the last, and the reply is kept
 unfoldable pub taken : (code : ℕ) (body : List ℕ) → Running → Receiving → Receiving
 taken code body running r =
     let effect = effectBy (contentOf body) body running in
     record {
       serial = suc (r .serial);
       reply = record { operation = replyOperation (contentOf body); code = codeOf code };
-      counters = advance effect (eqb code 0) (record { counters = r .counters; running = running }) .counters;
+      counters = courseAfter code body running r .counters;
       ended = r .ended || ends effect (eqb code 0);
       lots = kept effect (eqb code 0) (r .counters .lots) (r .lots);
     }
-
-abbrev pub gathered : (code : ℕ) (body : List ℕ) → Running → Receiving → Running
-gathered code body running r = advance (effectBy (contentOf body) body running) (eqb code 0) (record { counters = r .counters; running = running }) .running
 
 -- a session with another receiving direction, at a time
 abbrev pub hearing : (time : ℕ) → Receiving → Session → Session
@@ -121,20 +122,24 @@ hearing time r s = record { parties = s .parties; presenting = s .presenting; re
 abbrev pub serialOf : List ℕ → ℕ
 serialOf bytes = envelopeOf bytes .serial
 
--- The receiver handles the last serial plus 1; for the last serial only the last seen time moves.
-abbrev pub isNext : (bytes : List ℕ) → Receiving → Bool
-isNext bytes r = eqb (serialOf bytes) (suc (r .serial))
-
 abbrev pub isLast : (bytes : List ℕ) → Receiving → Bool
 isLast bytes r = eqb (serialOf bytes) (r .serial)
 
+abbrev pub isNext : (bytes : List ℕ) → Receiving → Bool
+isNext bytes r = eqb (serialOf bytes) (suc (r .serial))
+
+-- The receiver handles the last serial plus 1; for the last serial, without reading the body, only the last seen time moves.
 abbrev pub handled : (time : ℕ) (body : List ℕ) → Held → Held
 handled time body h =
     let code = codeFor time body h in
-    record { session = hearing time (taken code body (h .running) (h .session .receiving)) (h .session); running = gathered code body (h .running) (h .session .receiving); line = h .line }
+    let r = h .session .receiving in
+    record { session = hearing time (taken code body (h .running) r) (h .session); running = courseAfter code body (h .running) r .running; line = h .line }
 
 abbrev pub repeated : (time : ℕ) → Held → Held
 repeated time h = record { session = hearing time (h .session .receiving) (h .session); running = h .running; line = h .line }
+
+abbrev pub heard : (time : ℕ) (bytes : List ℕ) → Held → Held
+heard time bytes h = cond (isNext bytes (h .session .receiving)) (handled time (bodyOf bytes) h) (repeated time h)
 
 unfoldable pub receiveRefusal : (time : ℕ) (bytes : List ℕ) → Held → ℕ
 receiveRefusal time bytes h =
@@ -149,6 +154,4 @@ abbrev pub answered : (bytes : List ℕ) → Held → Outcome
 answered bytes h = wrote (wholeReply (envelopeOf bytes) (h .session .receiving .reply)) h
 
 unfoldable pub receive : (time : ℕ) (bytes : List ℕ) → Held → Outcome
-receive time bytes h =
-    decided (receiveRefusal time bytes h) h
-    (cond (isNext bytes (h .session .receiving)) (answered bytes (handled time (bodyOf bytes) h)) (answered bytes (repeated time h)))
+receive time bytes h = decided (receiveRefusal time bytes h) h (answered bytes (heard time bytes h))

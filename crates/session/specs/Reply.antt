@@ -17,7 +17,7 @@ use Rattle.session.specs.declared.session.Presenting.{Presenting}
 use Rattle.session.specs.declared.session.Session.{Session}
 use Rattle.session.specs.Parties.{outgoing}
 use Rattle.session.specs.Running.{Running}
-use Rattle.session.specs.Course.{Course, advance, ends}
+use Rattle.session.specs.Course.{Course, course, advance, ends}
 use Rattle.session.specs.Call.{Held, Outcome, decided, silent, timeRefusal}
 use Rattle.session.specs.Sending.{isPending}
 
@@ -49,24 +49,19 @@ replyRefusal time bytes s =
     orelse 22 when not (replyGood (bodyOf bytes))
     orelse 35 when not (isAwaited bytes (s .presenting))
 
--- the course of the presenting direction once the reply to what is pending is known
-abbrev pub told : (accepted : Bool) → Running → Presenting → Course
-told accepted running p = advance (p .pending) accepted (record { counters = p .counters; running = running })
+-- what was pending is counted, with the code that was read
+abbrev pub courseTold : (accepted : Bool) → Running → Presenting → Course
+courseTold accepted running p = advance (p .pending) accepted (course (p .counters) running)
+
+abbrev pub settled : (accepted : Bool) → Running → Presenting → Presenting
+settled accepted running p = record { serial = p .serial; pending = Effect.Nothing; counters = courseTold accepted running p .counters; ended = p .ended || ends (p .pending) accepted }
 
 abbrev pub replied : (time : ℕ) (accepted : Bool) → Held → Held
 replied time accepted h =
-    let p = h .session .presenting in
-    let k = told accepted (h .running) p in
+    let s = h .session in
     record {
-      session =
-          record {
-            parties = h .session .parties;
-            presenting = record { serial = p .serial; pending = Effect.Nothing; counters = k .counters; ended = p .ended || ends (p .pending) accepted };
-            receiving = h .session .receiving;
-            seen = time;
-            close = h .session .close;
-          };
-      running = k .running;
+      session = record { parties = s .parties; presenting = settled accepted (h .running) (s .presenting); receiving = s .receiving; seen = time; close = s .close };
+      running = courseTold accepted (h .running) (s .presenting) .running;
       line = h .line;
     }
 

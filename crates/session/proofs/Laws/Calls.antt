@@ -1,7 +1,7 @@
 -- Laws of all calls: a refused one gives everything back, the directions never touch each other, the parties never change, the premise is kept.
 use mathlib.Core.Path.{_≡_, refl, ap, subst, sym, _∙_}
 use mathlib.Core.Bool.{Bool, true, false, cond, false≢true}
-use mathlib.Core.List.{List}
+use mathlib.Core.List.{List, []}
 use Prim.Native.Nat.{ℕ, zero, suc}
 use native.Mathlib.Omega.{arith}
 use lib.Dec.{eqb}
@@ -13,11 +13,11 @@ use Rattle.session.specs.declared.session.Receiving.{Receiving}
 use Rattle.session.specs.declared.session.Session.{Session}
 use Rattle.session.specs.Call.{Held, Outcome, refused, decided, silent, wrote, timeRefusal, clockRefusal}
 use Rattle.session.specs.Sending.{sendRefusal, send, sendHeader, sendDetail, sendLotTotal, sendSessionTotal}
-use Rattle.session.specs.Receiving.{isNext, receiveRefusal, receive, handled, repeated, answered}
+use Rattle.session.specs.Receiving.{isNext, receiveRefusal, receive, handled, repeated, heard, answered}
 use Rattle.session.specs.Reply.{replyRefusal, takeReply}
 use Rattle.session.specs.Clock.{clock}
 use Rattle.session.specs.Premise.{Direction, PendingCarried, Sound, Carried}
-use Rattle.session.specs.Ends.{Call, Engine, meaning, directionOf, lineOf, lent, given, perform}
+use Rattle.session.specs.Engine.{Call, Engine, meaning, directionOf, lent, given, perform}
 use Rattle.session.specs.Claim.{Ready}
 use Rattle.session.proofs.Laws.Call.{either, unrefused, refused-keeps}
 use Rattle.session.proofs.Laws.Sound.{Good, send-header-keeps, send-detail-keeps, send-lot-total-keeps, send-session-total-keeps, receive-keeps, reply-keeps, clock-keeps}
@@ -29,17 +29,13 @@ pub record Decided (h : Held) (o : Outcome) : Type 0 where
   pub unrefused : done .number ≡ 0
   pub outcome : o ≡ decided refusal h done
 
-answers : (t : Bool) (a b : Outcome) → a .number ≡ 0 → b .number ≡ 0 → cond t a b .number ≡ 0
-answers true a b x y = x
-answers false a b x y = y
-
 pub is-decided : (call : Call) (h : Held) → Decided h (meaning call h)
 unfolding meaning sendHeader sendDetail sendLotTotal sendSessionTotal send receive takeReply clock
-is-decided (Call.header time moment centre number line) h = record { refusal = _; done = _; unrefused = refl; outcome = refl }
-is-decided (Call.detail time operation part line) h = record { refusal = _; done = _; unrefused = refl; outcome = refl }
-is-decided (Call.lotTotal time line) h = record { refusal = _; done = _; unrefused = refl; outcome = refl }
-is-decided (Call.sessionTotal time line) h = record { refusal = _; done = _; unrefused = refl; outcome = refl }
-is-decided (Call.message time bytes line) h = record { refusal = _; done = _; unrefused = answers (isNext bytes (h .session .receiving)) (answered bytes (handled time (bodyOf bytes) h)) (answered bytes (repeated time h)) refl refl; outcome = refl }
+is-decided (Call.header time moment centre number) h = record { refusal = _; done = _; unrefused = refl; outcome = refl }
+is-decided (Call.detail time operation part) h = record { refusal = _; done = _; unrefused = refl; outcome = refl }
+is-decided (Call.lotTotal time) h = record { refusal = _; done = _; unrefused = refl; outcome = refl }
+is-decided (Call.sessionTotal time) h = record { refusal = _; done = _; unrefused = refl; outcome = refl }
+is-decided (Call.message time bytes) h = record { refusal = _; done = _; unrefused = refl; outcome = refl }
 is-decided (Call.reply time bytes) h = record { refusal = _; done = _; unrefused = refl; outcome = refl }
 is-decided (Call.tick time) h = record { refusal = _; done = _; unrefused = refl; outcome = refl }
 is-decided Call.report h = record { refusal = 0; done = silent h; unrefused = refl; outcome = sym (unrefused h (silent h)) }
@@ -76,35 +72,36 @@ Apart Direction.receiving call = (h : Held) (p : Presenting) → call (withPrese
 -- all calls but the clock call, which sees both ends of a close, belong to one direction
 abbrev belongs : Call → Bool
 belongs (Call.tick time) = false
-belongs (Call.header time moment centre number line) = true
-belongs (Call.detail time operation part line) = true
-belongs (Call.lotTotal time line) = true
-belongs (Call.sessionTotal time line) = true
-belongs (Call.message time bytes line) = true
+belongs (Call.header time moment centre number) = true
+belongs (Call.detail time operation part) = true
+belongs (Call.lotTotal time) = true
+belongs (Call.sessionTotal time) = true
+belongs (Call.message time bytes) = true
 belongs (Call.reply time bytes) = true
 belongs Call.report = true
 
 received-apart : (time : ℕ) (bytes : List ℕ) → Apart Direction.receiving (receive time bytes)
 unfolding receive receiveRefusal timeRefusal clockRefusal
 received-apart time bytes h p =
-    let a = answered bytes (handled time (bodyOf bytes) h) in
-    let b = answered bytes (repeated time h) in
-    ap (decided (receiveRefusal time bytes h) (withPresenting p h)) (either-way (isNext bytes (h .session .receiving)) a b) ∙ apart (withPresenting p) (receiveRefusal time bytes h) h (cond (isNext bytes (h .session .receiving)) a b)
+    let next = isNext bytes (h .session .receiving) in
+    let a = handled time (bodyOf bytes) h in
+    let b = repeated time h in
+    ap (λ (after : Held). decided (receiveRefusal time bytes h) (withPresenting p h) (answered bytes after)) (either-way next a b) ∙ apart (withPresenting p) (receiveRefusal time bytes h) h (answered bytes (cond next a b))
   where
-    either-way : (t : Bool) (a b : Outcome) → cond t (changed (withPresenting p) a) (changed (withPresenting p) b) ≡ changed (withPresenting p) (cond t a b)
+    either-way : (t : Bool) (a b : Held) → cond t (withPresenting p a) (withPresenting p b) ≡ withPresenting p (cond t a b)
     either-way true a b = refl
     either-way false a b = refl
 
 pub directions-apart : (call : Call) → belongs call ≡ true → Apart (directionOf call) (meaning call)
 unfolding meaning sendHeader sendDetail sendLotTotal sendSessionTotal send sendRefusal takeReply replyRefusal timeRefusal clockRefusal
-directions-apart (Call.header time moment centre number line) b = λ (h : Held) (r : Receiving). apart (withReceiving r) _ h _
-directions-apart (Call.detail time operation part line) b = λ (h : Held) (r : Receiving). apart (withReceiving r) _ h _
-directions-apart (Call.lotTotal time line) b = λ (h : Held) (r : Receiving). apart (withReceiving r) _ h _
-directions-apart (Call.sessionTotal time line) b = λ (h : Held) (r : Receiving). apart (withReceiving r) _ h _
+directions-apart (Call.header time moment centre number) b = λ (h : Held) (r : Receiving). apart (withReceiving r) _ h _
+directions-apart (Call.detail time operation part) b = λ (h : Held) (r : Receiving). apart (withReceiving r) _ h _
+directions-apart (Call.lotTotal time) b = λ (h : Held) (r : Receiving). apart (withReceiving r) _ h _
+directions-apart (Call.sessionTotal time) b = λ (h : Held) (r : Receiving). apart (withReceiving r) _ h _
 directions-apart (Call.reply time bytes) b = λ (h : Held) (r : Receiving). apart (withReceiving r) _ h _
 directions-apart Call.report b = λ (h : Held) (r : Receiving). refl
 directions-apart (Call.tick time) b = absurd (false≢true b)
-directions-apart (Call.message time bytes line) b = received-apart time bytes
+directions-apart (Call.message time bytes) b = received-apart time bytes
 
 -- The parties never change, and the records of the two directions change in calls of their own alone.
 abbrev pub OtherSide : Direction → (before after : Session) → Type 0
@@ -120,39 +117,42 @@ by-decision h n done p r = either (λ (o : Outcome). Untouched Direction.present
 
 pub untouched : (call : Call) (h : Held) → Untouched (directionOf call) h (meaning call h .left)
 unfolding meaning sendHeader sendDetail sendLotTotal sendSessionTotal send receive takeReply clock
-untouched (Call.header time moment centre number line) h = by-decision h _ _ refl refl
-untouched (Call.detail time operation part line) h = by-decision h _ _ refl refl
-untouched (Call.lotTotal time line) h = by-decision h _ _ refl refl
-untouched (Call.sessionTotal time line) h = by-decision h _ _ refl refl
+untouched (Call.header time moment centre number) h = by-decision h _ _ refl refl
+untouched (Call.detail time operation part) h = by-decision h _ _ refl refl
+untouched (Call.lotTotal time) h = by-decision h _ _ refl refl
+untouched (Call.sessionTotal time) h = by-decision h _ _ refl refl
 untouched (Call.reply time bytes) h = by-decision h _ _ refl refl
 untouched (Call.tick time) h = by-decision h _ _ refl refl
 untouched Call.report h = record { parties = refl; otherSide = refl }
-untouched (Call.message time bytes line) h = either (λ (o : Outcome). Untouched Direction.receiving h (o .left)) (receiveRefusal time bytes h) h _ (λ (k : ℕ). record { parties = refl; otherSide = refl }) (λ (e : receiveRefusal time bytes h ≡ 0). either-way (isNext bytes (h .session .receiving)))
+untouched (Call.message time bytes) h = either (λ (o : Outcome). Untouched Direction.receiving h (o .left)) (receiveRefusal time bytes h) h _ (λ (k : ℕ). record { parties = refl; otherSide = refl }) (λ (e : receiveRefusal time bytes h ≡ 0). same-session (heard time bytes h) _ (either-way (isNext bytes (h .session .receiving))))
   where
-    either-way : (t : Bool) → Untouched Direction.receiving h (cond t (answered bytes (handled time (bodyOf bytes) h)) (answered bytes (repeated time h)) .left)
+    same-session : (a : Held) (line : List ℕ) → Untouched Direction.receiving h a → Untouched Direction.receiving h (record { session = a .session; running = a .running; line = line })
+    same-session a line u = record { parties = u .parties; otherSide = u .otherSide }
+
+    either-way : (t : Bool) → Untouched Direction.receiving h (cond t (handled time (bodyOf bytes) h) (repeated time h))
     either-way true = record { parties = refl; otherSide = refl }
     either-way false = record { parties = refl; otherSide = refl }
 
 -- Every call keeps the premise of its direction.
 pub keeps : (call : Call) (h : Held) → Good (directionOf call) h → Good (directionOf call) (meaning call h .left)
 unfolding meaning
-keeps (Call.header time moment centre number line) h g = send-header-keeps time moment centre number h g
-keeps (Call.detail time operation part line) h g = send-detail-keeps time operation part h g
-keeps (Call.lotTotal time line) h g = send-lot-total-keeps time h g
-keeps (Call.sessionTotal time line) h g = send-session-total-keeps time h g
-keeps (Call.message time bytes line) h g = receive-keeps time bytes h g
+keeps (Call.header time moment centre number) h g = send-header-keeps time moment centre number h g
+keeps (Call.detail time operation part) h g = send-detail-keeps time operation part h g
+keeps (Call.lotTotal time) h g = send-lot-total-keeps time h g
+keeps (Call.sessionTotal time) h g = send-session-total-keeps time h g
+keeps (Call.message time bytes) h g = receive-keeps time bytes h g
 keeps (Call.reply time bytes) h g = reply-keeps time bytes h g
 keeps (Call.tick time) h g = clock-keeps time Direction.presenting h g
 keeps Call.report h g = g
 
 -- so an engine that is ready stays so
-pub ready-kept : (call : Call) (e : Engine) → Ready e → Ready (perform call e .engine)
+pub ready-kept : (call : Call) (line : List ℕ) (e : Engine) → Ready e → Ready (perform call line e .engine)
 unfolding perform
-ready-kept call e r = go (directionOf call) refl
+ready-kept call line e r = go (directionOf call) refl
   where
-    go : (d : Direction) → directionOf call ≡ d → Ready (given d (meaning call (lent d (lineOf call) e) .left) e)
+    go : (d : Direction) → directionOf call ≡ d → Ready (given d (meaning call (lent d line e) .left) e)
     go Direction.presenting way =
-        let h = lent Direction.presenting (lineOf call) e in
+        let h = lent Direction.presenting line e in
         let after = subst (λ (d : Direction). Good d h → Good d (meaning call h .left)) way (keeps call h) (record { sound = r .sound; carried = r .presenting }) in
         let same : meaning call h .left .session .receiving ≡ e .session .receiving = subst (λ (d : Direction). OtherSide d (h .session) (meaning call h .left .session)) way (untouched call h .otherSide) in
         record {
@@ -161,7 +161,7 @@ ready-kept call e r = go (directionOf call) refl
           receiving = record { none-open = λ (q : meaning call h .left .session .receiving .counters .current ≡ OpenLot.None). r .receiving .none-open (ap (λ (x : Receiving). x .counters .current) (sym same) ∙ q); fits = r .receiving .fits; pending = tt };
         }
     go Direction.receiving way =
-        let h = lent Direction.receiving (lineOf call) e in
+        let h = lent Direction.receiving line e in
         let after = subst (λ (d : Direction). Good d h → Good d (meaning call h .left)) way (keeps call h) (record { sound = r .sound; carried = r .receiving }) in
         let same : meaning call h .left .session .presenting ≡ e .session .presenting = subst (λ (d : Direction). OtherSide d (h .session) (meaning call h .left .session)) way (untouched call h .otherSide) in
         record {
@@ -171,27 +171,20 @@ ready-kept call e r = go (directionOf call) refl
         }
 
 -- and its parties stay
-pub parties-kept : (call : Call) (e : Engine) → perform call e .engine .session .parties ≡ e .session .parties
+pub parties-kept : (call : Call) (line : List ℕ) (e : Engine) → perform call line e .engine .session .parties ≡ e .session .parties
 unfolding perform
-parties-kept call e = go (directionOf call) refl
+parties-kept call line e = go (directionOf call) refl
   where
-    go : (d : Direction) → directionOf call ≡ d → given d (meaning call (lent d (lineOf call) e) .left) e .session .parties ≡ e .session .parties
-    go Direction.presenting way = untouched call (lent Direction.presenting (lineOf call) e) .parties
-    go Direction.receiving way = untouched call (lent Direction.receiving (lineOf call) e) .parties
+    go : (d : Direction) → directionOf call ≡ d → given d (meaning call (lent d line e) .left) e .session .parties ≡ e .session .parties
+    go Direction.presenting way = untouched call (lent Direction.presenting line e) .parties
+    go Direction.receiving way = untouched call (lent Direction.receiving line e) .parties
 
 -- A message with a code is not refused: whatever its body, the reply is written.
 pub message-answered : (time : ℕ) (bytes : List ℕ) (h : Held) → receiveRefusal time bytes h ≡ 0 → receive time bytes h .number ≡ 0
 unfolding receive
-message-answered time bytes h e =
-    let next = isNext bytes (h .session .receiving) in
-    let a = answered bytes (handled time (bodyOf bytes) h) in
-    let b = answered bytes (repeated time h) in
-    (λ i. decided (e i) h (cond next a b) .number) ∙ ap (λ (o : Outcome). o .number) (unrefused h (cond next a b)) ∙ answers next a b refl refl
+message-answered time bytes h e = let done = answered bytes (heard time bytes h) in (λ i. decided (e i) h done .number) ∙ ap (λ (o : Outcome). o .number) (unrefused h done)
 
 -- A repeat writes the kept reply again and moves the last seen time alone.
 pub repeat-told : (time : ℕ) (bytes : List ℕ) (h : Held) → receiveRefusal time bytes h ≡ 0 → isNext bytes (h .session .receiving) ≡ false → receive time bytes h ≡ wrote (wholeReply (envelopeOf bytes) (h .session .receiving .reply)) (repeated time h)
 unfolding receive
-repeat-told time bytes h e n =
-    let a = answered bytes (handled time (bodyOf bytes) h) in
-    let b = answered bytes (repeated time h) in
-    (λ i. decided (e i) h (cond (n i) a b)) ∙ unrefused h b
+repeat-told time bytes h e n = (λ i. decided (e i) h (answered bytes (cond (n i) (handled time (bodyOf bytes) h) (repeated time h)))) ∙ unrefused h (answered bytes (repeated time h))

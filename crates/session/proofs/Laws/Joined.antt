@@ -17,8 +17,9 @@ use Rattle.session.specs.declared.session.Receiving.{Receiving}
 use Rattle.session.specs.Running.{Running, empty}
 use Rattle.session.specs.Course.{Course}
 use Rattle.session.specs.Receiving.{acceptedLots}
-use Rattle.session.specs.Ledger.{LedgerLot, Ledger, Entry, PresenterBook, ReceiverBook, enter, lotSum, numbers, Distinct}
+use Rattle.session.specs.Ledger.{LedgerLot, Ledger, Entry, enter, lotSum, numbers, Distinct}
 use Rattle.session.specs.Ends.{Event, Written}
+use Rattle.session.specs.Books.{PresenterBook, ReceiverBook}
 use Rattle.session.proofs.Laws.Ledger.{summary, effectOf}
 use Rattle.session.proofs.Laws.Line.{accepts, MessageFact, ReplyFact, Foreign}
 use Rattle.session.proofs.Laws.Lists.{upTo}

@@ -29,6 +29,9 @@ unfolding lotsSum
 lots-last [] l = plus-zeros (sum (l .documents)) ∙ sym (zeros-plus (sum (l .documents)))
 lots-last (x ∷ ls) l = ap (gather (sum (x .documents))) (lots-last ls l) ∙ sym (plus-assoc (sum (x .documents)) (lotsSum ls) (sum (l .documents)))
 
+pub one-longer : (ls : List LedgerLot) (l : LedgerLot) → length (ls ++ l ∷ []) ≡ suc (length ls)
+one-longer ls l = length-append ls (l ∷ []) ∙ omega arith
+
 -- a detail adds the sum of its documents
 pub detail-sum : (operation : ℕ) (ds : List (List ℕ)) → sum (ofOperation operation ds) ≡ detailAdds operation ds
 unfolding sum totalsOf
@@ -85,7 +88,6 @@ mirrors Entry.endsLot true b h = go (b .current) (h refl)
     go : (current : Option LedgerLot) → isOpen (openOf current) ≡ true → advance (Effect.LotTotal (lotOf current)) true (summary (record { lots = b .lots; current = current })) ≡ summary (enter Entry.endsLot true (record { lots = b .lots; current = current }))
     go none e = absurd (false≢true e)
     go (some l) e =
-        let more : suc (length (b .lots)) ≡ length (b .lots ++ l ∷ []) = sym (length-append (b .lots) (l ∷ []) ∙ omega arith) in
-        λ i. record { counters = record { current = OpenLot.None; lots = more i; gathered = sym (lots-last (b .lots) l) i }; running = empty }
+        λ i. record { counters = record { current = OpenLot.None; lots = sym (one-longer (b .lots) l) i; gathered = sym (lots-last (b .lots) l) i }; running = empty }
 mirrors Entry.endsDirection accepted b h = refl
 mirrors Entry.nothing accepted b h = refl

@@ -41,8 +41,10 @@ use Rattle.session.specs.Receiving.{serialOf, isNext, receiveRefusal, re
 use Rattle.session.specs.Reply.{isAccepted, replyRefusal, replied, takeReply}
 use Rattle.session.specs.Clock.{clock}
 use Rattle.session.specs.Premise.{Direction, PendingSound}
-use Rattle.session.specs.Ledger.{Entry, Ledger, PresenterBook, ReceiverBook, enter, bodyEntry, partEntry, waitingFor, enterWaiting, answeredWith, numbers, Distinct}
-use Rattle.session.specs.Ends.{End, Call, Engine, Event, saidBy, meaning, directionOf, lineOf, lent, given, perform, Written, Brought, presents}
+use Rattle.session.specs.Ledger.{Entry, Ledger, enter, bodyEntry, partEntry, numbers, Distinct}
+use Rattle.session.specs.Engine.{Call, Engine, saidBy, meaning, directionOf, lent, given, perform}
+use Rattle.session.specs.Ends.{End, Event, Written, Brought}
+use Rattle.session.specs.Books.{PresenterBook, ReceiverBook, waitingFor, enterWaiting, answeredWith, presents}
 use Rattle.session.specs.Claim.{Ready}
 use Rattle.session.proofs.Laws.Call.{either, first-bytes}
 use Rattle.session.proofs.Laws.Refusals.{passed, SendTold, send-told, ReceiveTold, receive-told, ReplyTold, reply-told}
@@ -150,9 +152,9 @@ module _ (x : End) (e : Engine) (ready : Ready e) (different : e .session .parti
           (subst (λ (b : PresenterBook). Joined route (sent time effect (e .session) .presenting) pt r rt b br (event ∷ trace)) (sym books) (sent-joined told (fit .0) (fit .1))))
 
     -- a reply enters what waits, with the code that the receiver kept
-    module _ (time : ℕ) (bytes : List ℕ) where
+    module _ (time : ℕ) (bytes line : List ℕ) where
       abbrev replyHeld : Held
-      replyHeld = lent Direction.presenting [] e
+      replyHeld = lent Direction.presenting line e
 
       finds : (d : Entry) → bp .waiting ≡ some d → Finds d (openOf (bp .ledger .current))
       finds d w = go d (subst (λ (f : Effect). PendingSound f (p .counters)) (j .presenter .pending ∙ ap (λ (o : Option Entry). waitingEffect o (bp .ledger)) w) (ready .sound .pending))
@@ -211,28 +213,28 @@ module _ (x : End) (e : Engine) (ready : Ready e) (different : e .session .parti
           passed-by route _ _ r rt _ br trace (replied-joined brought (reply-told time bytes (e .session) z)) _ (λ (n : 0 ≡ 0). nothing-foreign route))
 
     -- what arrives here is of the other direction
-    foreign-reply : (time : ℕ) (bytes line : List ℕ) (reply : Reply) → ReceiveTold bytes (lent Direction.receiving line e) → Joined route p pt r rt bp br (record { at = x; call = Call.message time bytes line; said = record { number = 0; bytes = take (length (wholeReply (envelopeOf bytes) reply)) (sets line 0 (wholeReply (envelopeOf bytes) reply)) } } ∷ trace)
+    foreign-reply : (time : ℕ) (bytes line : List ℕ) (reply : Reply) → ReceiveTold bytes (lent Direction.receiving line e) → Joined route p pt r rt bp br (record { at = x; call = Call.message time bytes; said = record { number = 0; bytes = take (length (wholeReply (envelopeOf bytes) reply)) (sets line 0 (wholeReply (envelopeOf bytes) reply)) } } ∷ trace)
     foreign-reply time bytes line reply told =
         let whole = wholeReply (envelopeOf bytes) reply in
         let room : length whole ≤ length line = omega (arith, told .room, whole-length Kind.Reply (envelopeOf bytes) (writtenReplyBody reply)) in
         passed-by route p pt r rt bp br trace j _ (λ (n : 0 ≡ 0). subst (Foreign route) (sym (first-bytes whole line room)) (reply-foreign (e .session) (ready .sound) different bytes reply (told .good) (told .way)))
 
-    message-after : (time : ℕ) (bytes line : List ℕ) → After (Call.message time bytes line) pt (receive time bytes (lent Direction.receiving line e))
+    message-after : (time : ℕ) (bytes line : List ℕ) → After (Call.message time bytes) pt (receive time bytes (lent Direction.receiving line e))
     unfolding receive
     message-after time bytes line =
         let h = lent Direction.receiving line e in
-        either (After (Call.message time bytes line) pt) (receiveRefusal time bytes h) h _
-        (λ (k : ℕ). refused-after (Call.message time bytes line) k)
+        either (After (Call.message time bytes) pt) (receiveRefusal time bytes h) h _
+        (λ (k : ℕ). refused-after (Call.message time bytes) k)
         (λ (z : receiveRefusal time bytes h ≡ 0). go (isNext bytes (e .session .receiving)) (receive-told time bytes h z))
       where
-        go : (t : Bool) → ReceiveTold bytes (lent Direction.receiving line e) → After (Call.message time bytes line) pt (cond t (answered bytes (handled time (bodyOf bytes) (lent Direction.receiving line e))) (answered bytes (repeated time (lent Direction.receiving line e))))
+        go : (t : Bool) → ReceiveTold bytes (lent Direction.receiving line e) → After (Call.message time bytes) pt (answered bytes (cond t (handled time (bodyOf bytes) (lent Direction.receiving line e)) (repeated time (lent Direction.receiving line e))))
         go true told = foreign-reply time bytes line (handled time (bodyOf bytes) (lent Direction.receiving line e) .session .receiving .reply) told
         go false told = foreign-reply time bytes line (e .session .receiving .reply) told
 
-    tick-after : (time : ℕ) → After (Call.tick time) (clock time (lent Direction.presenting [] e) .left .running) (clock time (lent Direction.presenting [] e))
+    tick-after : (time : ℕ) (line : List ℕ) → After (Call.tick time) (clock time (lent Direction.presenting line e) .left .running) (clock time (lent Direction.presenting line e))
     unfolding clock
-    tick-after time =
-        either (λ (o : Outcome). After (Call.tick time) (o .left .running) o) (clockRefusal time (e .session)) (lent Direction.presenting [] e) _
+    tick-after time line =
+        either (λ (o : Outcome). After (Call.tick time) (o .left .running) o) (clockRefusal time (e .session)) (lent Direction.presenting line e) _
         (λ (k : ℕ). refused-after (Call.tick time) k)
         (λ (z : clockRefusal time (e .session) ≡ 0). passed-by route p pt r rt bp br trace j _ (λ (n : 0 ≡ 0). nothing-foreign route))
 
@@ -250,13 +252,13 @@ module _ (x : End) (e : Engine) (ready : Ready e) (different : e .session .parti
         let own = none-both (presenterCode operation (e .session .parties .partner) part) _ z in
         (ap Effect.Detail (sym (detail-sum (packedByte operation) (pieces documentBytes part))), detail-entry operation part (accepted-part operation (e .session .parties .partner) part (own .0) .0))
 
-    pub presenter-step : (call : Call) → Brought call trace → let d = perform call e in Joined route (d .engine .session .presenting) (d .engine .presenting) r rt (cond (eqb (d .said .number) 0) (presents call bp) bp) br (record { at = x; call = call; said = d .said } ∷ trace)
+    pub presenter-step : (call : Call) (line : List ℕ) → Brought call trace → let d = perform call line e in Joined route (d .engine .session .presenting) (d .engine .presenting) r rt (cond (eqb (d .said .number) 0) (presents call bp) bp) br (record { at = x; call = call; said = d .said } ∷ trace)
     unfolding perform meaning sendHeader sendDetail sendLotTotal sendSessionTotal
-    presenter-step (Call.header time moment centre number line) brought = send-after (Call.header time moment centre number line) time _ _ _ line (Entry.opens number) refl (header-fits time moment centre number)
-    presenter-step (Call.detail time operation part line) brought = send-after (Call.detail time operation part line) time _ _ _ line (partEntry operation part) refl (detail-fits operation part)
-    presenter-step (Call.lotTotal time line) brought = send-after (Call.lotTotal time line) time _ _ _ line Entry.endsLot refl (λ (z : lotTotalStop p ≡ 0). (ap Effect.LotTotal (named-lot (p .counters) pt (bp .ledger) (j .presenter .course)), lot-total-entry route _))
-    presenter-step (Call.sessionTotal time line) brought = send-after (Call.sessionTotal time line) time _ _ _ line Entry.endsDirection refl (λ (z : sessionTotalStop p ≡ 0). (refl, session-total-entry route _))
-    presenter-step (Call.message time bytes line) brought = message-after time bytes line
-    presenter-step (Call.reply time bytes) brought = reply-after time bytes brought
-    presenter-step (Call.tick time) brought = tick-after time
-    presenter-step Call.report brought = passed-by route p pt r rt bp br trace j _ (λ (n : 0 ≡ 0). nothing-foreign route)
+    presenter-step (Call.header time moment centre number) line brought = send-after (Call.header time moment centre number) time _ _ _ line (Entry.opens number) refl (header-fits time moment centre number)
+    presenter-step (Call.detail time operation part) line brought = send-after (Call.detail time operation part) time _ _ _ line (partEntry operation part) refl (detail-fits operation part)
+    presenter-step (Call.lotTotal time) line brought = send-after (Call.lotTotal time) time _ _ _ line Entry.endsLot refl (λ (z : lotTotalStop p ≡ 0). (ap Effect.LotTotal (named-lot (p .counters) pt (bp .ledger) (j .presenter .course)), lot-total-entry route _))
+    presenter-step (Call.sessionTotal time) line brought = send-after (Call.sessionTotal time) time _ _ _ line Entry.endsDirection refl (λ (z : sessionTotalStop p ≡ 0). (refl, session-total-entry route _))
+    presenter-step (Call.message time bytes) line brought = message-after time bytes line
+    presenter-step (Call.reply time bytes) line brought = reply-after time bytes line brought
+    presenter-step (Call.tick time) line brought = tick-after time line
+    presenter-step Call.report line brought = passed-by route p pt r rt bp br trace j _ (λ (n : 0 ≡ 0). nothing-foreign route)

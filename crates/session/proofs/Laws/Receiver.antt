@@ -32,12 +32,14 @@ use Rattle.session.specs.Course.{Course, advance}
 use Rattle.session.specs.Sequence.{isOpen}
 use Rattle.session.specs.Call.{Held, Outcome, clockRefusal}
 use Rattle.session.specs.Sending.{nextEnvelope, sendRefusal, send, sendHeader, sendDetail, sendLotTotal, sendSessionTotal}
-use Rattle.session.specs.Receiving.{serialOf, isNext, isLast, codeFor, effectBy, taken, gathered, receiveRefusal, receive, handled, repeated, answered}
+use Rattle.session.specs.Receiving.{serialOf, isNext, isLast, codeFor, effectBy, courseAfter, taken, receiveRefusal, receive, handled, repeated, heard, answered}
 use Rattle.session.specs.Reply.{isAccepted, replyRefusal, takeReply}
 use Rattle.session.specs.Clock.{clock}
 use Rattle.session.specs.Premise.{Direction, OpenSound}
-use Rattle.session.specs.Ledger.{Entry, Ledger, PresenterBook, ReceiverBook, enter, entryBy, bodyEntry, received}
-use Rattle.session.specs.Ends.{End, Call, Engine, Event, saidBy, meaning, directionOf, lineOf, lent, given, perform, Written, Brought, receives}
+use Rattle.session.specs.Ledger.{Entry, Ledger, enter, entryBy, bodyEntry}
+use Rattle.session.specs.Engine.{Call, Engine, saidBy, meaning, directionOf, lent, given, perform}
+use Rattle.session.specs.Ends.{End, Event, Written, Brought}
+use Rattle.session.specs.Books.{PresenterBook, ReceiverBook, received, receives}
 use Rattle.session.specs.Claim.{Ready}
 use Rattle.session.proofs.Laws.Call.{either, first-bytes}
 use Rattle.session.proofs.Laws.Refusals.{SendTold, send-told, ReceiveTold, receive-told}
@@ -83,17 +85,17 @@ module _ (x : End) (e : Engine) (ready : Ready e) (different : e .session .parti
         subst (λ (b : ReceiverBook). Joined route p pt r rt bp b (record { at = x; call = call; said = record { number = 0; bytes = take (length bytes) (sets line 0 bytes) } } ∷ trace)) (sym (books _))
         (passed-by route p pt r rt bp br trace j _ (λ (n : 0 ≡ 0). subst (Foreign route) (sym (first-bytes bytes line (told .room))) (message-foreign (e .session) (ready .sound) different body (told .more)))))
 
-    reply-after : (time : ℕ) (bytes : List ℕ) → After (Call.reply time bytes) rt (takeReply time bytes (lent Direction.presenting [] e))
+    reply-after : (time : ℕ) (bytes line : List ℕ) → After (Call.reply time bytes) rt (takeReply time bytes (lent Direction.presenting line e))
     unfolding takeReply
-    reply-after time bytes =
-        either (After (Call.reply time bytes) rt) (replyRefusal time bytes (e .session)) (lent Direction.presenting [] e) _
+    reply-after time bytes line =
+        either (After (Call.reply time bytes) rt) (replyRefusal time bytes (e .session)) (lent Direction.presenting line e) _
         (λ (k : ℕ). refused-after (Call.reply time bytes) k)
         (λ (z : replyRefusal time bytes (e .session) ≡ 0). passed-by route p pt r rt bp br trace j _ (λ (n : 0 ≡ 0). nothing-foreign route))
 
-    tick-after : (time : ℕ) → After (Call.tick time) rt (clock time (lent Direction.presenting [] e))
+    tick-after : (time : ℕ) (line : List ℕ) → After (Call.tick time) rt (clock time (lent Direction.presenting line e))
     unfolding clock
-    tick-after time =
-        either (After (Call.tick time) rt) (clockRefusal time (e .session)) (lent Direction.presenting [] e) _
+    tick-after time line =
+        either (After (Call.tick time) rt) (clockRefusal time (e .session)) (lent Direction.presenting line e) _
         (λ (k : ℕ). refused-after (Call.tick time) k)
         (λ (z : clockRefusal time (e .session) ≡ 0). passed-by route p pt r rt bp br trace j _ (λ (n : 0 ≡ 0). nothing-foreign route))
 
@@ -113,7 +115,7 @@ module _ (x : End) (e : Engine) (ready : Ready e) (different : e .session .parti
         whole = wholeReply (envelopeOf bytes) reply
 
         abbrev event : Event
-        event = record { at = x; call = Call.message time bytes line; said = record { number = 0; bytes = whole } }
+        event = record { at = x; call = Call.message time bytes; said = record { number = 0; bytes = whole } }
 
         fits : length whole ≤ length line
         fits = omega (arith, told .room, whole-length Kind.Reply (envelopeOf bytes) (writtenReplyBody reply))
@@ -146,7 +148,7 @@ module _ (x : End) (e : Engine) (ready : Ready e) (different : e .session .parti
           ap (λ (t : Bool). cond t br (record { ledger = enter (bodyEntry body) (isAccepted (wholeReply (envelopeOf bytes) kept)) (br .ledger); serials = serialOf bytes ∷ br .serials })) (ap (λ (n : ℕ). member n (br .serials)) next ∙ next-unseen (r .serial) (br .serials) (j .seen .earlier))
           ∙ λ i. record { ledger = enter (bodyEntry body) (replied-code i) (br .ledger); serials = next i ∷ br .serials }
 
-      mirrored : Mirrored (taken code body rt r) (gathered code body rt r) (entered .ledger)
+      mirrored : Mirrored (taken code body rt r) (courseAfter code body rt r .running) (entered .ledger)
       unfolding taken
       mirrored =
           let c = contentOf body in
@@ -168,7 +170,7 @@ module _ (x : End) (e : Engine) (ready : Ready e) (different : e .session .parti
           let reads : bodyEntry body ≡ d = j .messages bytes brought (told .good) (told .way) .1 d (next ∙ sym s) w in
           Link.taken d w s (λ i. enter (reads i) (sym (code-accepts code) i) (sym b i))
 
-      taken-joined : serialOf bytes ≡ suc (r .serial) → Joined route p pt (taken code body rt r) (gathered code body rt r) bp entered (record { at = x; call = Call.message time bytes line; said = record { number = 0; bytes = wholeReply (envelopeOf bytes) kept } } ∷ trace)
+      taken-joined : serialOf bytes ≡ suc (r .serial) → Joined route p pt (taken code body rt r) (courseAfter code body rt r .running) bp entered (record { at = x; call = Call.message time bytes; said = record { number = 0; bytes = wholeReply (envelopeOf bytes) kept } } ∷ trace)
       unfolding taken member
       taken-joined next =
           record {
@@ -195,7 +197,7 @@ module _ (x : End) (e : Engine) (ready : Ready e) (different : e .session .parti
       not-again : serialOf bytes ≡ r .serial → (accepted : Bool) → received (serialOf bytes) (bodyEntry body) accepted br ≡ br
       not-again same accepted = ap (λ (t : Bool). cond t br (record { ledger = enter (bodyEntry body) accepted (br .ledger); serials = serialOf bytes ∷ br .serials })) (seen-before same)
 
-      repeated-joined : serialOf bytes ≡ r .serial → Joined route p pt r rt bp br (record { at = x; call = Call.message time bytes line; said = record { number = 0; bytes = wholeReply (envelopeOf bytes) (r .reply) } } ∷ trace)
+      repeated-joined : serialOf bytes ≡ r .serial → Joined route p pt r rt bp br (record { at = x; call = Call.message time bytes; said = record { number = 0; bytes = wholeReply (envelopeOf bytes) (r .reply) } } ∷ trace)
       repeated-joined same =
           record { presenter = j .presenter; receiver = j .receiver; seen = j .seen; link = j .link; messages = all-messages r (r .reply) same refl; replies = all-replies r (r .reply) same refl (j .replies) }
 
@@ -203,37 +205,37 @@ module _ (x : End) (e : Engine) (ready : Ready e) (different : e .session .parti
     last-serial : (bytes : List ℕ) → isNext bytes r ≡ false → isLast bytes r || isNext bytes r ≡ true → serialOf bytes ≡ r .serial
     last-serial bytes n known = eqb-true (serialOf bytes) (r .serial) (sym (or-false (isLast bytes r)) ∙ ap (λ (t : Bool). isLast bytes r || t) (sym n) ∙ known)
 
-    message-after : (time : ℕ) (bytes line : List ℕ) → Written bytes trace → After (Call.message time bytes line) (receive time bytes (lent Direction.receiving line e) .left .running) (receive time bytes (lent Direction.receiving line e))
+    message-after : (time : ℕ) (bytes line : List ℕ) → Written bytes trace → After (Call.message time bytes) (receive time bytes (lent Direction.receiving line e) .left .running) (receive time bytes (lent Direction.receiving line e))
     unfolding receive taken
     message-after time bytes line brought =
         let h = lent Direction.receiving line e in
-        either (λ (o : Outcome). After (Call.message time bytes line) (o .left .running) o) (receiveRefusal time bytes h) h _
-        (λ (k : ℕ). refused-after (Call.message time bytes line) k)
+        either (λ (o : Outcome). After (Call.message time bytes) (o .left .running) o) (receiveRefusal time bytes h) h _
+        (λ (k : ℕ). refused-after (Call.message time bytes) k)
         (λ (z : receiveRefusal time bytes h ≡ 0). go (isNext bytes r) refl (receive-told time bytes h z))
       where
-        go : (t : Bool) → isNext bytes r ≡ t → ReceiveTold bytes (lent Direction.receiving line e) → let o = cond t (answered bytes (handled time (bodyOf bytes) (lent Direction.receiving line e))) (answered bytes (repeated time (lent Direction.receiving line e))) in After (Call.message time bytes line) (o .left .running) o
+        go : (t : Bool) → isNext bytes r ≡ t → ReceiveTold bytes (lent Direction.receiving line e) → let o = answered bytes (cond t (handled time (bodyOf bytes) (lent Direction.receiving line e)) (repeated time (lent Direction.receiving line e))) in After (Call.message time bytes) (o .left .running) o
         go true n told =
             let next = eqb-true (serialOf bytes) (suc (r .serial)) n in
             let code = codeFor time (bodyOf bytes) (lent Direction.receiving line e) in
             let after = taken code (bodyOf bytes) rt r in
-            let running = gathered code (bodyOf bytes) rt r in
+            let running = courseAfter code (bodyOf bytes) rt r .running in
             let whole = wholeReply (envelopeOf bytes) (after .reply) in
-            subst (λ (w : List ℕ). Joined route p pt after running bp (receives (Call.message time bytes line) w br) (record { at = x; call = Call.message time bytes line; said = record { number = 0; bytes = w } } ∷ trace)) (sym (first-bytes whole line (fits time bytes line brought told after (after .reply) next refl)))
-            (subst (λ (b : ReceiverBook). Joined route p pt after running bp b (record { at = x; call = Call.message time bytes line; said = record { number = 0; bytes = whole } } ∷ trace)) (sym (first-time time bytes line brought told next)) (taken-joined time bytes line brought told next))
+            subst (λ (w : List ℕ). Joined route p pt after running bp (receives (Call.message time bytes) w br) (record { at = x; call = Call.message time bytes; said = record { number = 0; bytes = w } } ∷ trace)) (sym (first-bytes whole line (fits time bytes line brought told after (after .reply) next refl)))
+            (subst (λ (b : ReceiverBook). Joined route p pt after running bp b (record { at = x; call = Call.message time bytes; said = record { number = 0; bytes = whole } } ∷ trace)) (sym (first-time time bytes line brought told next)) (taken-joined time bytes line brought told next))
         go false n told =
             let same = last-serial bytes n (told .known) in
             let whole = wholeReply (envelopeOf bytes) (r .reply) in
-            let event : List ℕ → Event = λ (w : List ℕ). record { at = x; call = Call.message time bytes line; said = record { number = 0; bytes = w } } in
-            subst (λ (w : List ℕ). Joined route p pt r rt bp (receives (Call.message time bytes line) w br) (event w ∷ trace)) (sym (first-bytes whole line (fits time bytes line brought told r (r .reply) same refl)))
+            let event : List ℕ → Event = λ (w : List ℕ). record { at = x; call = Call.message time bytes; said = record { number = 0; bytes = w } } in
+            subst (λ (w : List ℕ). Joined route p pt r rt bp (receives (Call.message time bytes) w br) (event w ∷ trace)) (sym (first-bytes whole line (fits time bytes line brought told r (r .reply) same refl)))
             (subst (λ (b : ReceiverBook). Joined route p pt r rt bp b (event whole ∷ trace)) (sym (not-again time bytes line brought told same (isAccepted whole))) (repeated-joined time bytes line brought told same))
 
-    pub receiver-step : (call : Call) → Brought call trace → let d = perform call e in Joined route p pt (d .engine .session .receiving) (d .engine .receiving) bp (cond (eqb (d .said .number) 0) (receives call (d .said .bytes) br) br) (record { at = x; call = call; said = d .said } ∷ trace)
+    pub receiver-step : (call : Call) (line : List ℕ) → Brought call trace → let d = perform call line e in Joined route p pt (d .engine .session .receiving) (d .engine .receiving) bp (cond (eqb (d .said .number) 0) (receives call (d .said .bytes) br) br) (record { at = x; call = call; said = d .said } ∷ trace)
     unfolding perform meaning sendHeader sendDetail sendLotTotal sendSessionTotal
-    receiver-step (Call.header time moment centre number line) brought = send-after (Call.header time moment centre number line) time _ _ _ line (λ (w : List ℕ). refl)
-    receiver-step (Call.detail time operation part line) brought = send-after (Call.detail time operation part line) time _ _ _ line (λ (w : List ℕ). refl)
-    receiver-step (Call.lotTotal time line) brought = send-after (Call.lotTotal time line) time _ _ _ line (λ (w : List ℕ). refl)
-    receiver-step (Call.sessionTotal time line) brought = send-after (Call.sessionTotal time line) time _ _ _ line (λ (w : List ℕ). refl)
-    receiver-step (Call.message time bytes line) brought = message-after time bytes line brought
-    receiver-step (Call.reply time bytes) brought = reply-after time bytes
-    receiver-step (Call.tick time) brought = tick-after time
-    receiver-step Call.report brought = passed-by route p pt r rt bp br trace j _ (λ (n : 0 ≡ 0). nothing-foreign route)
+    receiver-step (Call.header time moment centre number) line brought = send-after (Call.header time moment centre number) time _ _ _ line (λ (w : List ℕ). refl)
+    receiver-step (Call.detail time operation part) line brought = send-after (Call.detail time operation part) time _ _ _ line (λ (w : List ℕ). refl)
+    receiver-step (Call.lotTotal time) line brought = send-after (Call.lotTotal time) time _ _ _ line (λ (w : List ℕ). refl)
+    receiver-step (Call.sessionTotal time) line brought = send-after (Call.sessionTotal time) time _ _ _ line (λ (w : List ℕ). refl)
+    receiver-step (Call.message time bytes) line brought = message-after time bytes line brought
+    receiver-step (Call.reply time bytes) line brought = reply-after time bytes line
+    receiver-step (Call.tick time) line brought = tick-after time line
+    receiver-step Call.report line brought = passed-by route p pt r rt bp br trace j _ (λ (n : 0 ≡ 0). nothing-foreign route)

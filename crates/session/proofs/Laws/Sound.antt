@@ -50,8 +50,8 @@ use Rattle.session.specs.Sequence.{isOpen, isThis, headerSequence, openS
 use Rattle.session.specs.Start.{noLots, fresh, started, start}
 use Rattle.session.specs.Call.{Held, Outcome, decided, clockRefusal}
 use Rattle.session.specs.Sending.{isPending, sendRefusal, sent, send, headerStop, detailStop, lotTotalStop, sessionTotalStop, partAdds, openNumber, openLot, sendHeader, sendDetail, sendLotTotal, sendSessionTotal, nextEnvelope}
-use Rattle.session.specs.Receiving.{acceptedLots, numberUsed, headerCode, detailCode, lotTotalCode, codeBy, effectBy, codeFor, taken, gathered, isNext, isLast, serialOf, receive, receiveRefusal, handled, repeated, answered}
-use Rattle.session.specs.Reply.{replyRefusal, isAccepted, told, replied, takeReply}
+use Rattle.session.specs.Receiving.{acceptedLots, numberUsed, headerCode, detailCode, lotTotalCode, codeBy, effectBy, codeFor, taken, isNext, serialOf, receive, receiveRefusal, handled, repeated, heard}
+use Rattle.session.specs.Reply.{replyRefusal, isAccepted, takeReply}
 use Rattle.session.specs.Clock.{ticked, clock}
 use Rattle.session.specs.Premise.{Fits, CountersSound, OpenSound, PendingSound, PendingCarried, PartiesSound, Sound, Direction, Carried}
 use Rattle.session.proofs.Laws.Parties.{told as parties-told}
@@ -168,10 +168,10 @@ module _ (t : Running) (p : Presenting) (fits : Fits lotDocuments t) where
 
 -- and so do the receiver's
 module _ (time : ℕ) (body : List ℕ) (parties : Parties) (t : Running) (r : Receiving) (fits : Fits lotDocuments t) where
-  abbrev heard : Course
-  heard = record { counters = r .counters; running = t }
+  abbrev receiving-here : Course
+  receiving-here = record { counters = r .counters; running = t }
 
-  pub received-allowed : (c : Content) → codeBy c time body parties t r ≡ 0 → Allowed (effectBy c body t) heard
+  pub received-allowed : (c : Content) → codeBy c time body parties t r ≡ 0 → Allowed (effectBy c body t) receiving-here
   unfolding codeBy effectBy headerCode detailCode lotTotalCode lotTotalSequence
   received-allowed Content.Header e =
       let read = none-both (bodyCode (header (incoming parties)) body) _ e in
@@ -223,7 +223,7 @@ send-keeps time code effect body h g allowed =
     let known = send-told time code bytes h e in
     let a = allowed (known .unstopped) in
     record {
-      sound = record { parties = g .sound .parties; sent = known .more; received = g .sound .received; presenting = g .sound .presenting; receiving = g .sound .receiving; pending = a .sound; places = g .sound .places };
+      sound = record { parties = g .sound .parties; sent = omega (arith, known .more); received = g .sound .received; presenting = g .sound .presenting; receiving = g .sound .receiving; pending = a .sound; places = g .sound .places };
       carried = record { none-open = g .carried .none-open; fits = g .carried .fits; pending = a .carried };
     })
 
@@ -294,10 +294,13 @@ unfolding receive
 receive-keeps time bytes h g =
     either (λ (o : Outcome). Good Direction.receiving (o .left)) (receiveRefusal time bytes h) h _
     (λ (k : ℕ). g)
-    (λ (e : receiveRefusal time bytes h ≡ 0). go (isNext bytes (h .session .receiving)) refl (receive-told time bytes h e))
+    (λ (e : receiveRefusal time bytes h ≡ 0). same-good (heard time bytes h) _ (go (isNext bytes (h .session .receiving)) refl (receive-told time bytes h e)))
   where
-    go : (t : Bool) → isNext bytes (h .session .receiving) ≡ t → ReceiveTold bytes h → Good Direction.receiving (cond t (answered bytes (handled time (bodyOf bytes) h)) (answered bytes (repeated time h)) .left)
-    go true n known = let after = handled-keeps time bytes h g known n in record { sound = after .sound; carried = after .carried }
+    same-good : (a : Held) (line : List ℕ) → Good Direction.receiving a → Good Direction.receiving (record { session = a .session; running = a .running; line = line })
+    same-good a line g = record { sound = g .sound; carried = g .carried }
+
+    go : (t : Bool) → isNext bytes (h .session .receiving) ≡ t → ReceiveTold bytes h → Good Direction.receiving (cond t (handled time (bodyOf bytes) h) (repeated time h))
+    go true n known = handled-keeps time bytes h g known n
     go false n known =
         record {
           sound = record { parties = g .sound .parties; sent = g .sound .sent; received = g .sound .received; presenting = g .sound .presenting; receiving = g .sound .receiving; pending = g .sound .pending; places = g .sound .places };
