@@ -12,29 +12,26 @@ use Rattle.packed.specs.Every.{every}
 use Rattle.codes.proofs.Laws.Chain.{none-test}
 use Rattle.message.specs.declared.route.Route.{Route}
 use Rattle.session.specs.declared.counters.OpenLot.{OpenLot}
-use Rattle.session.specs.declared.counters.Counters.{Counters}
 use Rattle.session.specs.declared.effect.Effect.{Effect}
 use Rattle.session.specs.declared.parties.Parties.{Parties}
-use Rattle.session.specs.declared.report.Tally.{Tally}
 use Rattle.session.specs.declared.report.Awaited.{Awaited}
 use Rattle.session.specs.declared.session.Close.{Close}
-use Rattle.session.specs.declared.session.Session.{Session}
 use Rattle.session.specs.Parties.{partiesGood, partiesOf, nobody, outgoing, incoming}
-use Rattle.session.specs.Running.{empty, gather}
+use Rattle.session.specs.Running.{empty}
 use Rattle.session.specs.Course.{Course}
 use Rattle.session.specs.Sequence.{isOpen}
 use Rattle.session.specs.Start.{fresh, started, start}
 use Rattle.session.specs.Report.{tally, awaited, report}
-use Rattle.session.specs.Premise.{Direction, PendingSound, Sound}
-use Rattle.session.specs.Ledger.{LedgerLot, Ledger, Entry, blank, enter, closed, sum, lotSum, lotsSum, tallied, numbers}
+use Rattle.session.specs.Premise.{Direction, PendingSound}
+use Rattle.session.specs.Ledger.{LedgerLot, Ledger, Entry, blank, enter, closed, lotSum, lotsSum, tallied}
 use Rattle.session.specs.Engine.{Call, Engine, perform, withEmpty}
-use Rattle.session.specs.Ends.{End, other, Event, World, Step, replaced, act, run, Written, Brought, Possible, engines, begun, Begins}
+use Rattle.session.specs.Ends.{End, other, Event, World, Step, replaced, act, run, Brought, Possible, engines, begun, Begins}
 use Rattle.session.specs.Books.{namedLot, namedBy, due, PresenterBook, ReceiverBook, presents, receives, presenterBook, receiverBook}
 use Rattle.session.specs.Claim.{oneMore, confirmed, counted, reportAt, presentedTally, receivedTally, Level, Ahead, JustReplied, Ready, Agreement}
 use Rattle.session.proofs.Laws.Parties.{Told, told}
 use Rattle.session.proofs.Laws.Sound.{fresh-sound, start-carried}
 use Rattle.session.proofs.Laws.Calls.{ready-kept, parties-kept}
-use Rattle.session.proofs.Laws.Ledger.{summary, openOf, lotOf, lots-last, one-longer}
+use Rattle.session.proofs.Laws.Ledger.{openOf, lotOf, lots-last, one-longer}
 use Rattle.session.proofs.Laws.Line.{accepts}
 use Rattle.session.proofs.Laws.Joined.{waitingEffect, Link, Joined}
 use Rattle.session.proofs.Laws.Presenter.{never-none, presenter-step}

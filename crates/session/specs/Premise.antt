@@ -1,6 +1,6 @@
 -- The one premise of a call (01, 'Centres and directions'): the state and the running totals are those that a start and the calls since
 -- have left. A start gives a sound session, and every call keeps both parts: the laws of proofs/Laws/Sound.
-use Prim.Native.Nat.{ℕ, _+_, _*_, _≤_, _<_}
+use Prim.Native.Nat.{ℕ, _*_, _≤_, _<_}
 use mathlib.Core.Path.{_≡_}
 use mathlib.Core.Bool.{true}
 use lib.ListN.{length}

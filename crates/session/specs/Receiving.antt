@@ -14,8 +14,6 @@ use Rattle.detail.specs.Groups.{documents}
 use Rattle.detail.specs.Codes.{receiverCode}
 use Rattle.message.specs.declared.content.Content.{Content}
 use Rattle.message.specs.declared.envelope.Kind.{Kind}
-use Rattle.message.specs.declared.reply.Reply.{Reply}
-use Rattle.message.specs.declared.total.Total.{Total}
 use Rattle.message.specs.Limits.{envelopeBytes, replyBytes}
 use Rattle.message.specs.Route.{sameRoute}
 use Rattle.message.specs.Envelope.{envelopeGood, envelopeOf, bodyOf}
@@ -26,7 +24,6 @@ use Rattle.message.specs.Total.{lotTotal, lotTotalFields, sessionTotal, session
 use Rattle.message.specs.Reply.{replyOperation}
 use Rattle.message.specs.Line.{wholeReply}
 use Rattle.session.specs.declared.counters.Lot.{Lot}
-use Rattle.session.specs.declared.counters.Counters.{Counters}
 use Rattle.session.specs.declared.effect.Effect.{Effect}
 use Rattle.session.specs.declared.parties.Parties.{Parties}
 use Rattle.session.specs.declared.session.Receiving.{Receiving}

@@ -23,7 +23,7 @@ use Rattle.session.specs.declared.session.Session.{Session}
 use Rattle.session.specs.Limits.{passesLot, lotsUsed}
 use Rattle.session.specs.Hours.{presenterLate}
 use Rattle.session.specs.Parties.{outgoing}
-use Rattle.session.specs.Running.{Running, gather, detailAdds, stated, documentsIn}
+use Rattle.session.specs.Running.{Running, detailAdds, stated, documentsIn}
 use Rattle.session.specs.Sequence.{headerSequence, openSequence, sessionTotalSequence}
 use Rattle.session.specs.Call.{Held, Outcome, decided, wrote, noRoom, timeRefusal}
 

@@ -8,7 +8,6 @@ use Rattle.codes.specs.Refusal.{refusalNumber}
 use Rattle.codes.specs.declared.reply.Code.{Code}
 use Rattle.message.specs.declared.reply.Operation.{Operation}
 use Rattle.session.specs.declared.counters.OpenLot.{OpenLot}
-use Rattle.session.specs.declared.counters.Lot.{Lot}
 use Rattle.session.specs.declared.counters.Counters.{Counters}
 use Rattle.session.specs.declared.effect.Effect.{Effect}
 use Rattle.session.specs.declared.parties.Parties.{Parties}

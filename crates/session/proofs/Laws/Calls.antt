@@ -1,10 +1,9 @@
 -- Laws of all calls: a refused one gives everything back, the directions never touch each other, the parties never change, the premise is kept.
 use mathlib.Core.Path.{_≡_, refl, ap, subst, sym, _∙_}
 use mathlib.Core.Bool.{Bool, true, false, cond, false≢true}
-use mathlib.Core.List.{List, []}
+use mathlib.Core.List.{List}
 use Prim.Native.Nat.{ℕ, zero, suc}
 use native.Mathlib.Omega.{arith}
-use lib.Dec.{eqb}
 use Rattle.message.specs.Envelope.{envelopeOf, bodyOf}
 use Rattle.message.specs.Line.{wholeReply}
 use Rattle.session.specs.declared.counters.OpenLot.{OpenLot}
@@ -16,7 +15,7 @@ use Rattle.session.specs.Sending.{sendRefusal, send, sendHeader, sendDet
 use Rattle.session.specs.Receiving.{isNext, receiveRefusal, receive, handled, repeated, heard, answered}
 use Rattle.session.specs.Reply.{replyRefusal, takeReply}
 use Rattle.session.specs.Clock.{clock}
-use Rattle.session.specs.Premise.{Direction, PendingCarried, Sound, Carried}
+use Rattle.session.specs.Premise.{Direction, PendingCarried}
 use Rattle.session.specs.Engine.{Call, Engine, meaning, directionOf, lent, given, perform}
 use Rattle.session.specs.Claim.{Ready}
 use Rattle.session.proofs.Laws.Call.{either, unrefused, refused-keeps}

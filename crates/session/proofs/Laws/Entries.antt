@@ -1,17 +1,13 @@
 -- What a presenter sends reads at the other end as the entry that it waits with, keys and all.
-use mathlib.Core.Path.{_≡_, refl, ap, sym, _∙_}
+use mathlib.Core.Path.{_≡_, refl, ap, _∙_}
 use mathlib.Core.Bool.{true}
 use mathlib.Core.List.{List}
 use mathlib.Core.Option.{Option, none, some}
 use Prim.Native.Nat.{ℕ, _<_, _^_}
 use native.Mathlib.Omega.{arith}
 use lib.ListN.{length}
-use Rattle.packed.specs.Pieces.{pieces}
 use Rattle.packed.specs.Writing.{packedByte}
-use Rattle.codes.specs.Body.{operationOf}
-use Rattle.document.specs.Limits.{documentBytes}
 use Rattle.detail.specs.Codes.{sendable}
-use Rattle.detail.specs.Groups.{documents}
 use Rattle.detail.specs.Writing.{written}
 use Rattle.detail.proofs.Laws.Codes.{sendable-part}
 use Rattle.detail.proofs.Laws.Writing.{documents-written, operation-written}
@@ -20,21 +16,20 @@ use Rattle.message.specs.declared.route.Route.{Route}
 use Rattle.message.specs.declared.content.Content.{Content}
 use Rattle.message.specs.declared.header.Header.{Header}
 use Rattle.message.specs.declared.total.Total.{Total}
-use Rattle.message.specs.Content.{byOperation, contentOf}
+use Rattle.message.specs.Content.{byOperation}
 use Rattle.codes.specs.Field.{tableTakes}
 use Rattle.message.specs.Header.{headerFields, headerValues, headerOf, sendable as headerSendable}
-use Rattle.message.specs.Line.{Body, bodyBytes, bodyContent}
+use Rattle.message.specs.Line.{Body, bodyBytes}
 use Rattle.message.proofs.Laws.Content.{detail-told}
 use Rattle.message.proofs.Laws.Header.{header-told, in-range}
 use Rattle.message.proofs.Laws.Line.{content-told}
 use Rattle.session.specs.declared.counters.Counters.{Counters}
 use Rattle.session.specs.declared.counters.Lot.{Lot}
-use Rattle.session.specs.declared.effect.Effect.{Effect}
 use Rattle.session.specs.Running.{Running}
 use Rattle.session.specs.Course.{Course}
-use Rattle.session.specs.Sending.{openNumber, openLot, partAdds}
+use Rattle.session.specs.Sending.{openNumber, openLot}
 use Rattle.session.specs.Ledger.{LedgerLot, Ledger, Entry, entryBy, bodyEntry, partEntry, ofOperation}
-use Rattle.session.proofs.Laws.Ledger.{summary, openOf, runningOf, lotOf, detail-sum}
+use Rattle.session.proofs.Laws.Ledger.{summary, openOf, runningOf, lotOf}
 
 header-read : (route : Route) (h : Header) → tableTakes (headerFields route) (headerValues route h) ≡ true → headerOf (bodyBytes route (Body.opening h)) ≡ h
 unfolding bodyBytes

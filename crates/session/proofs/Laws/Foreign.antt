@@ -1,8 +1,8 @@
 -- What one end writes is of one direction only: its messages go from own to partner, its replies answer what came from partner to own.
-use mathlib.Core.Path.{_≡_, ap, sym, subst, _∙_}
+use mathlib.Core.Path.{_≡_, ap, sym, _∙_}
 use mathlib.Core.Bool.{true}
 use mathlib.Core.List.{List}
-use Prim.Native.Nat.{ℕ, suc, _<_}
+use Prim.Native.Nat.{ℕ, _<_}
 use native.Mathlib.Omega.{arith}
 use Rattle.codes.specs.Field.{tableTakes}
 use Rattle.message.specs.declared.route.Route.{Route}
@@ -16,7 +16,7 @@ use Rattle.message.proofs.Laws.Envelope.{serial-told, in-range}
 use Rattle.session.specs.declared.session.Session.{Session}
 use Rattle.session.specs.Parties.{outgoing, incoming}
 use Rattle.session.specs.Sending.{nextEnvelope}
-use Rattle.session.specs.Premise.{PartiesSound, Sound}
+use Rattle.session.specs.Premise.{Sound}
 use Rattle.session.proofs.Laws.Line.{Foreign, message-is-none, reply-is-none, route-told}
 
 module _ (s : Session) (sound : Sound s) where

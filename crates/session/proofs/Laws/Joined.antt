@@ -1,8 +1,8 @@
 -- How the two ends of a direction stand to each other: the invariant of the agreement. Each end's counters mirror its own book; the books are
 -- equal, or the receiver's has what the presenter still waits for; and the line holds nothing that could surprise either.
-use mathlib.Core.Path.{_≡_, refl, ap, sym, subst, _∙_}
+use mathlib.Core.Path.{_≡_, ap, subst}
 use mathlib.Core.Bool.{Bool, true, false, cond}
-use mathlib.Core.List.{List, [], _∷_, map}
+use mathlib.Core.List.{List, _∷_, map}
 use mathlib.Core.Logic.{_⊎_, inl, inr}
 use mathlib.Core.Option.{Option, none, some}
 use Prim.Native.Nat.{ℕ, suc}

@@ -6,12 +6,10 @@ use mathlib.Core.Option.{Option, none, some}
 use Prim.Native.Nat.{ℕ, suc, _+_}
 use native.Mathlib.Omega.{arith}
 use lib.ListN.{length, length-append}
-use Rattle.amounts.specs.Totals.{plus}
 use Rattle.amounts.proofs.Laws.Totals.{plus-zeros, zeros-plus, plus-assoc}
 use Rattle.document.specs.Amounts.{documentTotals, totalsOf}
 use Rattle.session.specs.declared.counters.OpenLot.{OpenLot}
 use Rattle.session.specs.declared.counters.Lot.{Lot}
-use Rattle.session.specs.declared.counters.Counters.{Counters}
 use Rattle.session.specs.declared.effect.Effect.{Effect}
 use Rattle.session.specs.Running.{Running, empty, gather, detailAdds}
 use Rattle.session.specs.Course.{Course, advance}

@@ -1,15 +1,15 @@
 -- What the line tells: whose message or reply some written bytes are, and what they bring.
-use mathlib.Core.Path.{_≡_, refl, ap, sym, subst, _∙_}
+use mathlib.Core.Path.{_≡_, ap, _∙_}
 use mathlib.Core.Bool.{Bool, true, false, true≢false, false≢true}
 use mathlib.Core.List.{List, [], _++_}
-use mathlib.Core.Option.{Option, none, some}
-use Prim.Native.Nat.{ℕ, suc, _≤_, _<_, _^_}
+use mathlib.Core.Option.{Option, some}
+use Prim.Native.Nat.{ℕ, _≤_}
 use native.Mathlib.Omega.{arith}
 use lib.Dec.{eqb}
 use Rattle.packed.specs.Part.{byteAt}
 use Rattle.packed.specs.Number.{byteValue}
 use Rattle.codes.specs.declared.reply.Code.{Code}
-use Rattle.codes.specs.Reply.{codeNumber, codeByte}
+use Rattle.codes.specs.Reply.{codeNumber}
 use Rattle.codes.proofs.Laws.Reply.{code-value}
 use Rattle.codes.specs.Field.{tableTakes}
 use Rattle.message.specs.declared.route.Route.{Route}
@@ -22,7 +22,6 @@ use Rattle.message.specs.Reply.{writtenReplyBody}
 use Rattle.message.specs.Line.{message, wholeReply}
 use Rattle.message.proofs.Laws.Envelope.{in-range, envelope-told, body-told, kind-told}
 use Rattle.session.specs.declared.parties.Parties.{Parties}
-use Rattle.session.specs.Parties.{outgoing, incoming}
 use Rattle.session.specs.Receiving.{serialOf}
 use Rattle.session.specs.Reply.{isAccepted}
 use Rattle.session.specs.Premise.{PartiesSound}

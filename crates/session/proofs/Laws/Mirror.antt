@@ -3,14 +3,11 @@ use mathlib.Core.Path.{_≡_, refl, ap, sym, subst, _∙_}
 use mathlib.Core.Bool.{Bool, true, false, false≢true}
 use mathlib.Core.List.{List, [], _∷_, _++_, map}
 use mathlib.Core.Option.{Option, none, some}
-use Prim.Native.Nat.{ℕ, suc, _<_}
-use native.Mathlib.Omega.{arith}
-use lib.Dec.{eqb, lit<}
-use lib.ListN.{length, take, set}
+use Prim.Native.Nat.{ℕ, _<_}
+use lib.Dec.{lit<}
+use lib.ListN.{length, take}
 use lib.Seq.{take-suc-set}
-use borrow.Author.Tests.{eqb-true}
 use Rattle.codes.specs.Body.{operationOf}
-use Rattle.codes.specs.Chain.{_when_, _orelse_}
 use Rattle.codes.proofs.Laws.Chain.{none-both}
 use Rattle.document.specs.Entities.{member}
 use Rattle.detail.specs.Groups.{documents}
@@ -23,10 +20,9 @@ use Rattle.session.specs.declared.counters.Lot.{Lot}
 use Rattle.session.specs.declared.effect.Effect.{Effect}
 use Rattle.session.specs.declared.parties.Parties.{Parties}
 use Rattle.session.specs.declared.session.Receiving.{Receiving}
-use Rattle.session.specs.Limits.{mostLots}
 use Rattle.session.specs.Hours.{receiverLate}
 use Rattle.session.specs.Parties.{incoming}
-use Rattle.session.specs.Running.{Running, empty}
+use Rattle.session.specs.Running.{Running}
 use Rattle.session.specs.Course.{Course, advance, kept}
 use Rattle.session.specs.Sequence.{isOpen, headerSequence}
 use Rattle.session.specs.Sending.{openNumber}

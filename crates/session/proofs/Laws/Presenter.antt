@@ -2,7 +2,7 @@
 use mathlib.Core.Path.{_≡_, refl, ap, sym, subst, _∙_}
 use mathlib.Core.Bool.{Bool, true, false, not, cond, false≢true}
 use mathlib.Core.List.{List, [], _∷_}
-use mathlib.Core.Logic.{_⊎_, inl, inr}
+use mathlib.Core.Logic.{inl, inr}
 use mathlib.Core.Option.{Option, none, some}
 use Prim.Native.Nat.{ℕ, suc, _≤_, _<_}
 use native.Mathlib.Omega.{arith}
@@ -11,7 +11,6 @@ use lib.ListN.{length, take}
 use lib.Seq.{sets}
 use borrow.Author.Tests.{not-false}
 use Rattle.amounts.proofs.Laws.Totals.{plus-zeros}
-use Rattle.codes.specs.Chain.{_when_, _orelse_}
 use Rattle.codes.proofs.Laws.Chain.{none-both}
 use Rattle.detail.specs.Codes.{presenterCode}
 use Rattle.detail.specs.Writing.{written}
@@ -36,13 +35,13 @@ use Rattle.session.specs.Running.{Running}
 use Rattle.session.specs.Course.{Course, advance}
 use Rattle.session.specs.Sequence.{isOpen}
 use Rattle.session.specs.Call.{Held, Outcome, clockRefusal}
-use Rattle.session.specs.Sending.{isPending, nextEnvelope, sendRefusal, sent, send, headerStop, detailStop, lotTotalStop, sessionTotalStop, partAdds, openLot, sendHeader, sendDetail, sendLotTotal, sendSessionTotal}
+use Rattle.session.specs.Sending.{isPending, nextEnvelope, sendRefusal, sent, send, headerStop, detailStop, lotTotalStop, sessionTotalStop, partAdds, sendHeader, sendDetail, sendLotTotal, sendSessionTotal}
 use Rattle.session.specs.Receiving.{serialOf, isNext, receiveRefusal, receive, handled, repeated, answered}
 use Rattle.session.specs.Reply.{isAccepted, replyRefusal, replied, takeReply}
 use Rattle.session.specs.Clock.{clock}
 use Rattle.session.specs.Premise.{Direction, PendingSound}
 use Rattle.session.specs.Ledger.{Entry, Ledger, enter, bodyEntry, partEntry, numbers, Distinct}
-use Rattle.session.specs.Engine.{Call, Engine, saidBy, meaning, directionOf, lent, given, perform}
+use Rattle.session.specs.Engine.{Call, Engine, saidBy, meaning, lent, perform}
 use Rattle.session.specs.Ends.{End, Event, Written, Brought}
 use Rattle.session.specs.Books.{PresenterBook, ReceiverBook, waitingFor, enterWaiting, answeredWith, presents}
 use Rattle.session.specs.Claim.{Ready}
@@ -50,7 +49,7 @@ use Rattle.session.proofs.Laws.Call.{either, first-bytes}
 use Rattle.session.proofs.Laws.Refusals.{passed, SendTold, send-told, ReceiveTold, receive-told, ReplyTold, reply-told}
 use Rattle.session.proofs.Laws.Ledger.{summary, openOf, Finds, effectOf, detail-sum, mirrors}
 use Rattle.session.proofs.Laws.Line.{accepts, MessageFact, ReplyFact, Foreign, message-is-none, nothing-foreign, serial-read}
-use Rattle.session.proofs.Laws.Joined.{waitingEffect, PresenterSide, Link, Joined, passed-by, refused-by, not-entered}
+use Rattle.session.proofs.Laws.Joined.{waitingEffect, Link, Joined, passed-by, refused-by, not-entered}
 use Rattle.session.proofs.Laws.Foreign.{next-fits, reply-foreign}
 use Rattle.session.proofs.Laws.Entries.{header-entry, detail-entry, lot-total-entry, session-total-entry, named-lot}
 

@@ -3,14 +3,12 @@ use mathlib.Core.Path.{_≡_, refl, ap, sym, subst, _∙_}
 use mathlib.Core.Bool.{Bool, true, false, _||_, cond, or-false, false≢true}
 use mathlib.Core.List.{List, [], _∷_}
 use mathlib.Core.Logic.{_⊎_, inl, inr}
-use mathlib.Core.Option.{Option, none, some}
 use Prim.Native.Nat.{ℕ, suc, _≤_, _<_}
 use native.Mathlib.Omega.{arith}
 use lib.Dec.{eqb}
 use lib.ListN.{length, take}
 use lib.Seq.{sets}
 use borrow.Author.Tests.{eqb-true, eq-eqb}
-use Rattle.codes.specs.Reply.{codeOf}
 use Rattle.codes.proofs.Laws.Reply.{accepts as code-accepts}
 use Rattle.document.specs.Entities.{member}
 use Rattle.message.specs.declared.route.Route.{Route}
@@ -28,25 +26,24 @@ use Rattle.session.specs.declared.session.Receiving.{Receiving}
 use Rattle.session.specs.Limits.{mostLots}
 use Rattle.session.specs.Parties.{incoming}
 use Rattle.session.specs.Running.{Running}
-use Rattle.session.specs.Course.{Course, advance}
 use Rattle.session.specs.Sequence.{isOpen}
 use Rattle.session.specs.Call.{Held, Outcome, clockRefusal}
 use Rattle.session.specs.Sending.{nextEnvelope, sendRefusal, send, sendHeader, sendDetail, sendLotTotal, sendSessionTotal}
-use Rattle.session.specs.Receiving.{serialOf, isNext, isLast, codeFor, effectBy, courseAfter, taken, receiveRefusal, receive, handled, repeated, heard, answered}
+use Rattle.session.specs.Receiving.{serialOf, isNext, isLast, codeFor, effectBy, courseAfter, taken, receiveRefusal, receive, handled, repeated, answered}
 use Rattle.session.specs.Reply.{isAccepted, replyRefusal, takeReply}
 use Rattle.session.specs.Clock.{clock}
 use Rattle.session.specs.Premise.{Direction, OpenSound}
-use Rattle.session.specs.Ledger.{Entry, Ledger, enter, entryBy, bodyEntry}
-use Rattle.session.specs.Engine.{Call, Engine, saidBy, meaning, directionOf, lent, given, perform}
+use Rattle.session.specs.Ledger.{enter, bodyEntry}
+use Rattle.session.specs.Engine.{Call, Engine, saidBy, meaning, lent, perform}
 use Rattle.session.specs.Ends.{End, Event, Written, Brought}
 use Rattle.session.specs.Books.{PresenterBook, ReceiverBook, received, receives}
 use Rattle.session.specs.Claim.{Ready}
 use Rattle.session.proofs.Laws.Call.{either, first-bytes}
-use Rattle.session.proofs.Laws.Refusals.{SendTold, send-told, ReceiveTold, receive-told}
+use Rattle.session.proofs.Laws.Refusals.{send-told, ReceiveTold, receive-told}
 use Rattle.session.proofs.Laws.Sound.{Allowed, received-allowed}
 use Rattle.session.proofs.Laws.Line.{accepts, MessageFact, ReplyFact, Foreign, reply-is-none, nothing-foreign, serial-read, code-read}
 use Rattle.session.proofs.Laws.Lists.{next-unseen, up-to-next}
-use Rattle.session.proofs.Laws.Joined.{Mirrored, Seen, Link, Joined, passed-by, refused-by, not-entered}
+use Rattle.session.proofs.Laws.Joined.{Mirrored, Link, Joined, passed-by, refused-by, not-entered}
 use Rattle.session.proofs.Laws.Mirror.{course-mirrors, lots-mirror, numbers-mirror, free-header}
 use Rattle.session.proofs.Laws.Foreign.{message-foreign, reply-fits}
 

@@ -1,8 +1,8 @@
 -- What a call that is not refused tells: every test of its chain passed.
-use mathlib.Core.Path.{_≡_, sym, _∙_}
-use mathlib.Core.Bool.{Bool, true, false, not, _&&_, _||_}
+use mathlib.Core.Path.{_≡_}
+use mathlib.Core.Bool.{Bool, true, false, not, _||_}
 use mathlib.Core.List.{List}
-use Prim.Native.Nat.{ℕ, suc, _+_, _≤_, _<_}
+use Prim.Native.Nat.{ℕ, _+_, _≤_, _<_}
 use lib.Dec.{eqb, leb, lit<}
 use lib.ListN.{length}
 use borrow.Author.Tests.{leb-false, ltb-false, eqb-true, not-false}
@@ -11,7 +11,6 @@ use Rattle.codes.specs.Body.{operationOf}
 use Rattle.codes.specs.Chain.{_when_, _orelse_}
 use Rattle.codes.proofs.Laws.Chain.{none-test, none-both}
 use Rattle.message.specs.declared.envelope.Kind.{Kind}
-use Rattle.message.specs.declared.route.Route.{Route}
 use Rattle.message.specs.Limits.{largestSerial, envelopeBytes, replyBytes}
 use Rattle.message.specs.Route.{sameRoute}
 use Rattle.message.specs.Envelope.{envelopeGood, envelopeOf, bodyOf}

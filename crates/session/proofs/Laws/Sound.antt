@@ -1,10 +1,10 @@
 -- The premise is kept: a start gives a sound session with empty running totals, and every call keeps both parts, whatever its arguments.
 use mathlib.Core.Path.{_≡_, refl, ap, sym, subst, _∙_}
-use mathlib.Core.Bool.{Bool, true, false, not, _||_, cond, false≢true}
-use mathlib.Core.List.{List, []}
+use mathlib.Core.Bool.{Bool, true, false, not, cond, false≢true}
+use mathlib.Core.List.{List}
 use Prim.Native.Nat.{ℕ, suc, _+_, _*_, _≤_, _<_}
 use native.Mathlib.Omega.{arith}
-use lib.Dec.{eqb, leb, ltb, lit<}
+use lib.Dec.{eqb, leb, lit<}
 use lib.ListN.{length, length-set, length-replicate}
 use borrow.Author.Tests.{leb-true, leb-false, ltb-false, eqb-true, not-false}
 use Rattle.packed.specs.Every.{every}
@@ -12,7 +12,6 @@ use Rattle.packed.specs.Pieces.{pieces}
 use Rattle.packed.specs.Writing.{packedByte}
 use Rattle.packed.proofs.Laws.Told.{both, three}
 use Rattle.codes.specs.Body.{operationOf}
-use Rattle.codes.specs.Chain.{_when_, _orelse_}
 use Rattle.codes.proofs.Laws.Chain.{none-test, none-both}
 use Rattle.document.specs.Limits.{documentBytes}
 use Rattle.document.specs.Fields.{amountsGood}
@@ -23,9 +22,9 @@ use Rattle.detail.specs.Groups.{documents}
 use Rattle.detail.proofs.Laws.Codes.{accepted-part, accepted-amounts}
 use Rattle.message.specs.declared.content.Content.{Content}
 use Rattle.message.specs.declared.envelope.Kind.{Kind}
-use Rattle.message.specs.Limits.{largestSerial, largestNumber}
+use Rattle.message.specs.Limits.{largestNumber}
 use Rattle.message.specs.Layout.{bodyCode}
-use Rattle.message.specs.Envelope.{envelopeGood, envelopeOf, bodyOf}
+use Rattle.message.specs.Envelope.{bodyOf}
 use Rattle.message.specs.Content.{contentOf}
 use Rattle.message.specs.Header.{timeOfDay, orderNumber, header, headerOf, sendable}
 use Rattle.message.specs.Line.{message}
@@ -34,13 +33,11 @@ use Rattle.message.proofs.Laws.Envelope.{serial-told}
 use Rattle.message.proofs.Laws.Header.{order-told}
 use Rattle.session.specs.declared.counters.OpenLot.{OpenLot}
 use Rattle.session.specs.declared.counters.Lot.{Lot}
-use Rattle.session.specs.declared.counters.Counters.{Counters}
 use Rattle.session.specs.declared.effect.Effect.{Effect}
 use Rattle.session.specs.declared.parties.Parties.{Parties}
 use Rattle.session.specs.declared.session.Close.{Close}
 use Rattle.session.specs.declared.session.Presenting.{Presenting}
 use Rattle.session.specs.declared.session.Receiving.{Receiving}
-use Rattle.session.specs.declared.session.Session.{Session}
 use Rattle.session.specs.Limits.{lotDocuments, mostLots, passesLot, lotsUsed}
 use Rattle.session.specs.Hours.{presenterLate, receiverLate}
 use Rattle.session.specs.Parties.{incoming, representedBy, partiesGood, partiesOf, nobody}
@@ -48,15 +45,15 @@ use Rattle.session.specs.Running.{Running, empty, gather, detailAdds, do
 use Rattle.session.specs.Course.{Course, advance, kept}
 use Rattle.session.specs.Sequence.{isOpen, isThis, headerSequence, openSequence, lotTotalSequence}
 use Rattle.session.specs.Start.{noLots, fresh, started, start}
-use Rattle.session.specs.Call.{Held, Outcome, decided, clockRefusal}
-use Rattle.session.specs.Sending.{isPending, sendRefusal, sent, send, headerStop, detailStop, lotTotalStop, sessionTotalStop, partAdds, openNumber, openLot, sendHeader, sendDetail, sendLotTotal, sendSessionTotal, nextEnvelope}
+use Rattle.session.specs.Call.{Held, Outcome, clockRefusal}
+use Rattle.session.specs.Sending.{sendRefusal, sent, send, headerStop, detailStop, lotTotalStop, sessionTotalStop, partAdds, openNumber, openLot, sendHeader, sendDetail, sendLotTotal, sendSessionTotal, nextEnvelope}
 use Rattle.session.specs.Receiving.{acceptedLots, numberUsed, headerCode, detailCode, lotTotalCode, codeBy, effectBy, codeFor, taken, isNext, serialOf, receive, receiveRefusal, handled, repeated, heard}
 use Rattle.session.specs.Reply.{replyRefusal, isAccepted, takeReply}
 use Rattle.session.specs.Clock.{ticked, clock}
 use Rattle.session.specs.Premise.{Fits, CountersSound, OpenSound, PendingSound, PendingCarried, PartiesSound, Sound, Direction, Carried}
 use Rattle.session.proofs.Laws.Parties.{told as parties-told}
 use Rattle.session.proofs.Laws.Call.{either}
-use Rattle.session.proofs.Laws.Refusals.{passed, SendTold, send-told, ReceiveTold, receive-told, ReplyTold, reply-told}
+use Rattle.session.proofs.Laws.Refusals.{passed, send-told, ReceiveTold, receive-told}
 
 -- amounts of digits fit, and add
 documents-fit : (operation receiving : ℕ) (ds : List (List ℕ)) → every (amountsGood operation receiving) ds ≡ true → Fits (length ds) (totalsOf ds)

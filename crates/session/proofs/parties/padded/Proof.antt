@@ -1,11 +1,11 @@
 -- `padded` writes from the first place on. The invariant: with the entities that are still to come, the places are what they are to be. The
 -- measure is what is left.
 use mathlib.Core.Path.{_≡_, refl, ap, sym, _∙_}
-use Prim.Native.Nat.{_+_, _-_, _≤_}
+use Prim.Native.Nat.{_-_, _≤_}
 use native.Mathlib.Numerals.{add-one}
 use native.Mathlib.Omega.{arith}
 use borrow.Author.Needs.{needs}
-use lib.ListN.{length, drop, replicate, length-set, drop-of-length-le}
+use lib.ListN.{length, drop, length-set, drop-of-length-le}
 use lib.Seq.{sets, drop-cons}
 use Rattle.session.specs.Parties.{padded}
 use Rattle.document.specs.Limits.{mostRepresented}

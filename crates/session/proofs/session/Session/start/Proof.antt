@@ -5,7 +5,7 @@ use Rattle.codes.specs.Chain.{_when_}
 use Rattle.session.specs.declared.parties.Parties.{Parties}
 use Rattle.session.specs.declared.session.Close.{Close}
 use Rattle.session.specs.declared.session.Session.{Session}
-use Rattle.session.specs.Parties.{partiesGood, partiesOf, nobody}
+use Rattle.session.specs.Parties.{partiesGood, nobody}
 use Rattle.session.specs.Start.{Begun, fresh, started, start}
 use Rattle.session.proofs.Laws.Parties.{told}
 use borrow.Author.Needs.{needs}
