@@ -1,3 +1,6 @@
--- The laws that crates above cite.
+-- The laws that crates above cite, the theorem about both ends, the starred cases, and runs computed to their end.
 pub mod Laws
 pub mod Agreement
+pub mod Examples
+pub mod Cases
+pub mod Runs

@@ -1,4 +1,4 @@
--- 01, 'Course of a direction': the limits on a direction.
+-- 01, 'Centres and directions', 'Layouts' and 'Course of a direction': the limits that a session has to do with.
 use Prim.Native.Nat.{ℕ}
 use mathlib.Core.Bool.{Bool}
 use lib.Dec.{leb, ltb}
@@ -10,6 +10,20 @@ lotDocuments = 2600
 -- the most accepted lots of a direction
 abbrev pub mostLots : ℕ
 mostLots = 64
+
+-- the largest amounts of a document
+abbrev pub largestNominal : ℕ
+largestNominal = 999999999999
+
+abbrev pub largestCommission : ℕ
+largestCommission = 99999999
+
+-- the largest number of six digits, as DDMMYY is; and 29 February as DDMM
+abbrev pub largestDate : ℕ
+largestDate = 999999
+
+abbrev pub leapDay : ℕ
+leapDay = 2902
 
 -- so many documents are too many for a lot
 abbrev pub passesLot : ℕ → Bool

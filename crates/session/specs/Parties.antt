@@ -10,10 +10,11 @@ use Rattle.document.specs.Rules.{dayAndMonth}
 use Rattle.document.specs.Entities.{isEntity, entitiesGood}
 use Rattle.message.specs.declared.route.Route.{Route}
 use Rattle.session.specs.declared.parties.Parties.{Parties}
+use Rattle.session.specs.Limits.{largestDate, leapDay}
 
 -- a day of the years 2000 to 2099 as DDMMYY; of these every fourth, from 2000 on, has a 29 February
 unfoldable pub realDate : ℕ → Bool
-realDate date = leb date 999999 && dayAndMonth (date / 100) && (not (eqb (date / 100) 2902) || eqb (date % 4) 0)
+realDate date = leb date largestDate && dayAndMonth (date / 100) && (not (eqb (date / 100) leapDay) || eqb (date % 4) 0)
 
 -- what a start accepts: a real date, and two different entities
 unfoldable pub partiesGood : (date own partner : ℕ) (represented : List ℕ) → Bool

@@ -11,16 +11,9 @@ use Rattle.session.specs.declared.counters.Counters.{Counters}
 use Rattle.session.specs.declared.effect.Effect.{Effect}
 use Rattle.session.specs.declared.parties.Parties.{Parties}
 use Rattle.session.specs.declared.session.Session.{Session}
-use Rattle.session.specs.Limits.{lotDocuments, mostLots}
+use Rattle.session.specs.Limits.{lotDocuments, mostLots, largestNominal, largestCommission, largestDate}
 use Rattle.session.specs.Running.{Running, empty, gather, documentsIn}
 use Rattle.session.specs.Sequence.{isOpen}
-
--- the largest amounts of a document
-abbrev pub largestNominal : ℕ
-largestNominal = 999999999999
-
-abbrev pub largestCommission : ℕ
-largestCommission = 99999999
 
 -- amounts of at most so many documents
 pub record Fits (most : ℕ) (r : Running) : Type 0 where
@@ -47,7 +40,7 @@ PendingSound (Effect.LotTotal lot) c = c .current ≡ OpenLot.Numbered (lot .num
 PendingSound Effect.SessionTotal c = Unit {0}
 
 pub record PartiesSound (p : Parties) : Type 0 where
-  pub date : p .date < 1000000
+  pub date : p .date ≤ largestDate
   pub own : p .own ≤ largestEntity
   pub partner : p .partner ≤ largestEntity
   pub represented : p .count ≤ mostRepresented

@@ -12,10 +12,11 @@ use Rattle.packed.proofs.Laws.Told.{both, three}
 use Rattle.document.specs.Limits.{largestEntity, mostRepresented}
 use Rattle.document.specs.Rules.{dayAndMonth}
 use Rattle.document.specs.Entities.{isEntity, entitiesGood}
+use Rattle.session.specs.Limits.{largestDate, leapDay}
 use Rattle.session.specs.Parties.{realDate, partiesGood}
 
 pub record Told (d o p : ℕ) (r : List ℕ) : Type 0 where
-  pub date : d < 1000000
+  pub date : d ≤ largestDate
   pub own : o ≤ largestEntity
   pub partner : p ≤ largestEntity
   pub represented : length r ≤ mostRepresented
@@ -26,10 +27,10 @@ unfolding partiesGood realDate
 told date own partner represented e =
     let pair = both (realDate date && entitiesGood own represented && isEntity partner) (not (eqb own partner)) e in
     let all = three (realDate date) (entitiesGood own represented) (isEntity partner) (pair .0) in
-    let day = three (leb date 999999) (dayAndMonth (date / 100)) (not (eqb (date / 100) 2902) || eqb (date % 4) 0) (all .0) in
+    let day = three (leb date largestDate) (dayAndMonth (date / 100)) (not (eqb (date / 100) leapDay) || eqb (date % 4) 0) (all .0) in
     let served = three (isEntity own) (leb (length represented) mostRepresented) (every isEntity represented) (all .1) in
     record {
-      date = omega (arith, leb-true date 999999 (day .0));
+      date = leb-true date largestDate (day .0);
       own = leb-true own largestEntity (served .0);
       partner = leb-true partner largestEntity (all .2);
       represented = leb-true (length represented) mostRepresented (served .1);

@@ -4,6 +4,7 @@ use mathlib.Core.Bool.{not, _&&_, _||_}
 use Prim.Native.Nat.{_/_, _%_}
 use lib.Dec.{eqb}
 use borrow.Author.Tests.{le-leb, lt-leb}
+use Rattle.session.specs.Limits.{largestDate, leapDay}
 use Rattle.session.specs.Parties.{realDate}
 use borrow.Author.Needs.{needs}
 use Rattle.session.proofs.parties.real_date.Statement.{statement}
@@ -11,7 +12,7 @@ use Rattle.session.proofs.parties.real_date.Tie as tie
 
 returns : tie.Need-returns
 unfolding realDate
-returns c = rw (lt-leb (c .before .args .date) 999999 (c .if1 .taken))
+returns c = rw (lt-leb (c .before .args .date) largestDate (c .if1 .taken))
 
 cast-day-and-month : tie.Need-cast-day-and-month
 cast-day-and-month c = search needs
@@ -23,7 +24,7 @@ returns-2 : tie.Need-returns-2
 unfolding realDate
 returns-2 c =
     let date = c .before .before .args .date in
-    λ i. sym (le-leb date 999999 (c .before .if1 .left)) i && c .day-and-month .ensures i && (not (eqb (date / 100) 2902) || eqb (date % 4) 0)
+    λ i. sym (le-leb date largestDate (c .before .if1 .left)) i && c .day-and-month .ensures i && (not (eqb (date / 100) leapDay) || eqb (date % 4) 0)
 
 pub real-date-spec : {M : Type 1} → statement M
 real-date-spec = tie.close (tie.spec returns cast-day-and-month day-and-month-requires returns-2)

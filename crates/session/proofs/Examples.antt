@@ -1,0 +1,101 @@
+-- An evening for the examples: the near end is entity 0081, the far end entity 0072, the date 14 March 2028, and nobody is represented.
+-- Here are its messages, replies and calls, and the names of all definitions that an example computes with.
+use Prim.Native.Nat.{ℕ}
+use mathlib.Core.List.{List, flatMap}
+use lib.ListN.{replicate}
+use Rattle.packed.specs.Every.{every, anyOf}
+use Rattle.packed.specs.Digits.{isDigits}
+use Rattle.packed.specs.Number.{byteValue, number}
+use Rattle.packed.specs.Pieces.{cut}
+use Rattle.packed.specs.Writing.{packedByte, packedBytes}
+use Rattle.amounts.specs.declared.Totals.{Totals}
+use Rattle.codes.specs.declared.reply.Code.{Code}
+use Rattle.codes.specs.Chain.{_when_, _orelse_}
+use Rattle.codes.specs.Field.{earning, tableWritten}
+use Rattle.codes.specs.Numbered.{numbered}
+use Rattle.codes.specs.Reply.{codes, codeByte, codeOf, readCode, knownCode}
+use Rattle.document.specs.Amounts.{nominal, commission, totalsOf}
+use Rattle.document.specs.Drawee.{drawee, draweeServed}
+use Rattle.document.specs.Entities.{member}
+use Rattle.document.specs.Fields.{documentFields, fieldsGood, amountsGood}
+use Rattle.document.specs.Rules.{monthDays}
+use Rattle.detail.specs.Codes as DetailCodes
+use Rattle.detail.specs.Groups as Groups
+use Rattle.detail.specs.Writing.{written}
+use Rattle.message.specs.declared.envelope.Envelope.{Envelope}
+use Rattle.message.specs.declared.route.Route.{Route}
+use Rattle.message.specs.Content.{byOperation, contentOf}
+use Rattle.message.specs.Envelope.{envelopeFields, envelopeGood}
+use Rattle.message.specs.Header.{headerFields, sendable}
+use Rattle.message.specs.Layout.{shapeGood, bodyCode}
+use Rattle.message.specs.Line.{Body, bodyBytes, message, wholeReply}
+use Rattle.message.specs.Reply.{operationByte, replyOperation, replyGood}
+use Rattle.message.specs.Total.{lotTotalFields, sessionTotalFields}
+use Rattle.session.specs.Parties.{realDate, partiesGood, padded}
+use Rattle.session.specs.Start.{fresh, start}
+use Rattle.session.specs.Course.{advance, kept}
+use Rattle.session.specs.Sequence.{headerSequence, openSequence, lotTotalSequence, sessionTotalSequence}
+use Rattle.session.specs.Call.{decided, clockRefusal, timeRefusal}
+use Rattle.session.specs.Sending.{sendRefusal, send, headerStop, detailStop, lotTotalStop, sessionTotalStop, sendHeader, sendDetail, sendLotTotal, sendSessionTotal}
+use Rattle.session.specs.Receiving.{headerCode, detailCode, lotTotalCode, sessionTotalCode, codeBy, effectBy, taken, receiveRefusal, receive}
+use Rattle.session.specs.Reply.{isAwaited, replyRefusal, takeReply}
+use Rattle.session.specs.Clock.{clock}
+use Rattle.session.specs.Report.{report}
+use Rattle.session.specs.Ledger.{enter, entryBy, sum, lotsSum}
+use Rattle.session.specs.Engine.{Call, meaning, perform}
+use Rattle.session.specs.Ends.{End, act, run, begun}
+use Rattle.session.specs.Books.{presenterBook, receiverBook}
+
+-- whoever unfolds this unfolds them all
+unfoldable pub computing : Unit {0}
+unfolding flatMap every anyOf isDigits byteValue number cut packedByte packedBytes _when_ _orelse_ earning tableWritten numbered codes codeByte codeOf readCode knownCode nominal commission totalsOf drawee draweeServed member documentFields fieldsGood amountsGood monthDays DetailCodes.receiverCode DetailCodes.sendable DetailCodes.presenterCode Groups.groups Groups.groupGood Groups.shapeGood Groups.oneOperation Groups.documents written byOperation envelopeFields envelopeGood headerFields sendable shapeGood bodyCode bodyBytes operationByte replyGood lotTotalFields sessionTotalFields realDate partiesGood padded fresh start advance kept headerSequence openSequence lotTotalSequence sessionTotalSequence decided clockRefusal timeRefusal sendRefusal send headerStop detailStop lotTotalStop sessionTotalStop sendHeader sendDetail sendLotTotal sendSessionTotal headerCode detailCode lotTotalCode sessionTotalCode codeBy effectBy taken receiveRefusal receive isAwaited replyRefusal takeReply clock report enter entryBy sum lotsSum meaning perform act run presenterBook receiverBook begun
+computing = tt
+
+-- the way in which an end presents
+abbrev pub way : End → Route
+way End.near = record { date = 140328; presenting = 81; receiving = 72 }
+way End.far = record { date = 140328; presenting = 72; receiving = 81 }
+
+-- a message by what it says
+pub data Sent : Type 0 where
+  header : (number : ℕ) → Sent
+  detail : (operation : ℕ) (part : List ℕ) → Sent
+  lotTotal : (number : ℕ) → Totals → Sent
+  sessionTotal : (lots : ℕ) → Totals → Sent
+
+-- every header says 21:00:00.00 and centre 1
+abbrev pub moment : ℕ
+moment = 21000000
+
+abbrev pub bodyFrom : End → Sent → List ℕ
+bodyFrom p (Sent.header number) = bodyBytes (way p) (Body.opening (record { time = moment; centre = 1; number = number }))
+bodyFrom p (Sent.detail operation part) = written (packedByte operation) part
+bodyFrom p (Sent.lotTotal number stated) = bodyBytes (way p) (Body.lotEnding (record { number = number; stated = stated }))
+bodyFrom p (Sent.sessionTotal lots stated) = bodyBytes (way p) (Body.sessionEnding (record { number = lots; stated = stated }))
+
+-- the whole message that an end presents with a serial, and a reply to it
+abbrev pub envelopeFrom : End → (serial : ℕ) → Envelope
+envelopeFrom p serial = record { route = way p; serial = serial }
+
+abbrev pub messageFrom : End → (serial : ℕ) → Sent → List ℕ
+messageFrom p serial x = message (envelopeFrom p serial) (bodyFrom p x)
+
+abbrev pub replyTo : End → (serial : ℕ) → Sent → Code → List ℕ
+replyTo p serial x code = wholeReply (envelopeFrom p serial) (record { operation = replyOperation (contentOf (bodyFrom p x)); code = code })
+
+-- a line buffer, longer than any message here
+abbrev pub buffer : List ℕ
+buffer = replicate 300 0xEE
+
+-- the calls of a message at a time: its presenter sends it, the other end receives it, the presenter takes the reply
+abbrev pub sending : (time : ℕ) → Sent → Call
+sending time (Sent.header number) = Call.header time moment 1 number
+sending time (Sent.detail operation part) = Call.detail time operation part
+sending time (Sent.lotTotal number stated) = Call.lotTotal time
+sending time (Sent.sessionTotal lots stated) = Call.sessionTotal time
+
+abbrev pub receiving : (time : ℕ) → End → (serial : ℕ) → Sent → Call
+receiving time p serial x = Call.message time (messageFrom p serial x)
+
+abbrev pub replied : (time : ℕ) → End → (serial : ℕ) → Sent → Code → Call
+replied time p serial x code = Call.reply time (replyTo p serial x code)

@@ -1,0 +1,249 @@
+-- The agreement of both ends (specs/Claim) is not idle: four lists of calls that the line allows, and what each leads to. Lots of both operations
+-- are counted both ways; a lot is named that the other end has counted, one that it has not, and one when both have closed.
+use mathlib.Core.Path.{_≡_, refl}
+use mathlib.Core.Bool.{Bool, true, false, false≢true, _&&_, _||_, cond}
+use mathlib.Core.List.{List, [], _∷_, _++_}
+use mathlib.Core.Logic.{_⊎_, inl, inr, ⊎-elim}
+use Prim.Native.Nat.{ℕ, suc}
+use lib.Dec.{eqb}
+use lib.ListN.{replicate}
+use borrow.Author.Tests.{eqb-true}
+use Rattle.packed.specs.Part.{byteAt}
+use Rattle.packed.proofs.Laws.Told.{both}
+use Rattle.amounts.specs.declared.Totals.{Totals}
+use Rattle.amounts.specs.Totals.{totals, zeros}
+use Rattle.codes.specs.declared.reply.Code.{Code}
+use Rattle.codes.specs.Field.{tableWritten}
+use Rattle.document.specs.Fields.{documentFields}
+use Rattle.document.specs.Operation.{presented, returned}
+use Rattle.message.specs.declared.envelope.Kind.{Kind}
+use Rattle.message.specs.Envelope.{kindByte}
+use Rattle.session.specs.declared.report.Tally.{Tally}
+use Rattle.session.specs.declared.report.Awaited.{Awaited}
+use Rattle.session.specs.declared.session.Close.{Close}
+use Rattle.session.specs.Hours.{close}
+use Rattle.session.specs.Reply.{replyCode}
+use Rattle.session.specs.Ledger.{LedgerLot, ofOperation}
+use Rattle.session.specs.Engine.{Call}
+use Rattle.session.specs.Ends.{End, other, Event, World, Step, act, run, Written, Brought, Possible, begun}
+use Rattle.session.specs.Claim.{confirmed, counted, reportAt, presentedTally, receivedTally}
+use Rattle.session.proofs.Examples.{computing, buffer, Sent, sending, receiving, replied}
+
+-- whether bytes are those of an unrefused call, and so whether a list of calls is possible
+abbrev sameBytes : List ℕ → List ℕ → Bool
+sameBytes [] [] = true
+sameBytes [] (b ∷ bs) = false
+sameBytes (a ∷ rest) [] = false
+sameBytes (a ∷ rest) (b ∷ bs) = eqb a b && sameBytes rest bs
+
+abbrev isWritten : List ℕ → List Event → Bool
+isWritten bytes [] = false
+isWritten bytes (e ∷ earlier) = eqb (e .said .number) 0 && sameBytes (e .said .bytes) bytes || isWritten bytes earlier
+
+abbrev isBrought : Call → List Event → Bool
+isBrought (Call.message time bytes) trace = isWritten bytes trace
+isBrought (Call.reply time bytes) trace = isWritten bytes trace
+isBrought (Call.header time moment centre number) trace = true
+isBrought (Call.detail time operation part) trace = true
+isBrought (Call.lotTotal time) trace = true
+isBrought (Call.sessionTotal time) trace = true
+isBrought (Call.tick time) trace = true
+isBrought Call.report trace = true
+
+abbrev isPossible : List Step → World → Bool
+isPossible [] w = true
+isPossible (s ∷ steps) w = isBrought (s .call) (w .trace) && isPossible steps (act s w)
+
+-- where the tests hold, so it is
+same-bytes : (one two : List ℕ) → sameBytes one two ≡ true → one ≡ two
+same-bytes [] [] e = refl
+same-bytes [] (b ∷ bs) e = absurd (false≢true e)
+same-bytes (a ∷ rest) [] e = absurd (false≢true e)
+same-bytes (a ∷ rest) (b ∷ bs) e =
+    let h = both (eqb a b) (sameBytes rest bs) e in
+    cc (eqb-true a b (h .0), same-bytes rest bs (h .1))
+
+either : (a b : Bool) → a || b ≡ true → (a ≡ true) ⊎ (b ≡ true)
+either true b e = inl refl
+either false b e = inr e
+
+written : (bytes : List ℕ) (trace : List Event) → isWritten bytes trace ≡ true → Written bytes trace
+written bytes [] e = absurd (false≢true e)
+written bytes (x ∷ earlier) e =
+    let here = eqb (x .said .number) 0 in
+    let same = sameBytes (x .said .bytes) bytes in
+    ⊎-elim (λ h. let t = both here same h in inl (eqb-true (x .said .number) 0 (t .0), same-bytes (x .said .bytes) bytes (t .1))) (λ r. inr (written bytes earlier r))
+    (either (here && same) (isWritten bytes earlier) e)
+
+brought : (call : Call) (trace : List Event) → isBrought call trace ≡ true → Brought call trace
+brought (Call.message time bytes) trace e = written bytes trace e
+brought (Call.reply time bytes) trace e = written bytes trace e
+brought (Call.header time moment centre number) trace e = tt
+brought (Call.detail time operation part) trace e = tt
+brought (Call.lotTotal time) trace e = tt
+brought (Call.sessionTotal time) trace e = tt
+brought (Call.tick time) trace e = tt
+brought Call.report trace e = tt
+
+possible : (steps : List Step) (w : World) → isPossible steps w ≡ true → Possible steps w
+unfolding Possible
+possible [] w e = tt
+possible (s ∷ steps) w e =
+    let next = act s w in
+    let h = both (isBrought (s .call) (w .trace)) (isPossible steps next) e in
+    (brought (s .call) (w .trace) (h .0), possible steps next (h .1))
+
+-- how a direction stands: the lots of both ends, the totals in their reports, and what else the presenter's report shows
+record Standing : Type 0 where
+  counted : List LedgerLot
+  confirmed : List LedgerLot
+  received : Tally
+  presented : Tally
+  awaited : Awaited
+  close : Close
+
+abbrev standing : World → End → Standing
+standing w p =
+    record {
+      counted = counted w p;
+      confirmed = confirmed w p;
+      received = receivedTally w p;
+      presented = presentedTally w p;
+      awaited = reportAt w p .awaited;
+      close = reportAt w p .close;
+    }
+
+-- the numbers of the refused calls, and the codes of the replies that were written, the latest first
+abbrev refusals : List Event → List ℕ
+refusals [] = []
+refusals (e ∷ earlier) = cond (eqb (e .said .number) 0) (refusals earlier) (e .said .number ∷ refusals earlier)
+
+abbrev codes : List Event → List ℕ
+codes [] = []
+codes (e ∷ earlier) = cond (eqb (byteAt 1 (e .said .bytes)) (kindByte Kind.Reply)) (replyCode (e .said .bytes) ∷ codes earlier) (codes earlier)
+
+-- and both of them, beside what the calls answered
+record Shown : Type 0 where
+  refused : List ℕ
+  replies : List ℕ
+  near : Standing
+  far : Standing
+
+abbrev shown : World → Shown
+shown w = record { refused = refusals (w .trace); replies = codes (w .trace); near = standing w End.near; far = standing w End.far }
+
+-- both ends, just started
+abbrev justStarted : World
+justStarted = begun 140328 81 72 (λ (x : End). [])
+
+-- calls that can be made, and what they lead to
+record Leads (steps : List Step) (to : Shown) : Type 0 where
+  possible : Possible steps justStarted
+  leads : shown (run steps justStarted) ≡ to
+
+-- a message is sent, it arrives, and a reply to it does
+abbrev sent : End → Sent → Step
+sent p x = record { at = p; call = sending 80000 x; line = buffer }
+
+abbrev arrived : End → (serial : ℕ) → Sent → Step
+arrived p serial x = record { at = other p; call = receiving 80000 p serial x; line = buffer }
+
+abbrev answered : (time : ℕ) → End → (serial : ℕ) → Sent → Code → Step
+answered time p serial x code = record { at = p; call = replied time p serial x code; line = buffer }
+
+-- messages of an end, from a serial on, that get through and are accepted
+abbrev exchanged : End → (serial : ℕ) → List Sent → List Step
+exchanged p serial [] = []
+exchanged p serial (x ∷ xs) = sent p x ∷ arrived p serial x ∷ answered 80000 p serial x Code.Accepted ∷ exchanged p (suc serial) xs
+
+-- both clocks reach 23:30
+abbrev closed : List Step
+closed = record { at = End.near; call = Call.tick close; line = buffer } ∷ record { at = End.far; call = Call.tick close; line = buffer } ∷ []
+
+-- a document for an entity, which is its drawee too
+abbrev document : (entity nominal commission : ℕ) → List ℕ
+document entity nominal commission =
+    tableWritten (documentFields presented entity)
+    (1 ∷ 0 ∷ 2434157 ∷ 1403 ∷ 81 ∷ 110 ∷ 28 ∷ entity ∷ 8 ∷ 810110 ∷ nominal ∷ entity ∷ 110 ∷ 123456 ∷ 1 ∷ 1 ∷ commission ∷ 0 ∷ [])
+
+abbrev tally : (lots : ℕ) → Totals → Tally
+tally lots t = record { lots = lots; gathered = t }
+
+-- the same lots at both ends, and nothing awaited
+abbrev level : List LedgerLot → Tally → Close → Standing
+level lots t close = record { counted = lots; confirmed = lots; received = t; presented = t; awaited = Awaited.Neither; close = close }
+
+-- Lots of presented documents and of returns go both ways, then both session totals, and both ends close in order.
+abbrev near7 : LedgerLot
+near7 = record { number = 7; documents = ofOperation presented (document 72 15000 30 ∷ document 72 22000 45 ∷ []) ++ ofOperation returned (document 72 7000 0 ∷ []) }
+
+abbrev near8 : LedgerLot
+near8 = record { number = 8; documents = ofOperation returned (document 72 500 1 ∷ []) }
+
+abbrev far7 : LedgerLot
+far7 = record { number = 7; documents = ofOperation returned (document 81 9000 10 ∷ []) ++ ofOperation presented (document 81 1000 2 ∷ []) }
+
+abbrev full : List Step
+full =
+    exchanged End.near 1 (Sent.header 7 ∷ Sent.detail 30 (document 72 15000 30 ++ document 72 22000 45) ∷ [])
+    ++ exchanged End.far 1 (Sent.header 7 ∷ Sent.detail 40 (document 81 9000 10) ∷ Sent.detail 30 (document 81 1000 2) ∷ [])
+    ++ exchanged End.near 3 (Sent.detail 40 (document 72 7000 0) ∷ Sent.lotTotal 7 (totals 3 44000 75) ∷ Sent.header 8 ∷ Sent.detail 40 (document 72 500 1) ∷ [])
+    ++ exchanged End.far 4 (Sent.lotTotal 7 (totals 2 10000 12) ∷ Sent.sessionTotal 1 (totals 2 10000 12) ∷ [])
+    ++ exchanged End.near 7 (Sent.lotTotal 8 (totals 1 500 1) ∷ Sent.sessionTotal 2 (totals 4 44500 76) ∷ [])
+    ++ closed
+
+both-ways : Leads full (record {
+  refused = [];
+  replies = replicate 13 0;
+  near = level (near7 ∷ near8 ∷ []) (tally 2 (totals 4 44500 76)) Close.Ordered;
+  far = level (far7 ∷ []) (tally 1 (totals 2 10000 12)) Close.Ordered;
+})
+unfolding computing
+both-ways = record { possible = possible full justStarted refl; leads = refl }
+
+-- lots of one document each, with the same totals
+abbrev one : Totals
+one = totals 1 15000 30
+
+abbrev lot : (number : ℕ) → LedgerLot
+lot n = record { number = n; documents = ofOperation presented (document 72 15000 30 ∷ []) }
+
+abbrev opening : (number : ℕ) → List Sent
+opening n = Sent.header n ∷ Sent.detail 30 (document 72 15000 30) ∷ []
+
+-- the presenter's report names the lot
+abbrev naming : (number : ℕ) → Awaited
+naming n = Awaited.LotTotal (record { number = n; gathered = one })
+
+-- The total of a lot arrives twice, and no reply comes back.
+abbrev lost : List Step
+lost = exchanged End.near 1 (opening 7) ++ sent End.near (Sent.lotTotal 7 one) ∷ arrived End.near 3 (Sent.lotTotal 7 one) ∷ arrived End.near 3 (Sent.lotTotal 7 one) ∷ []
+
+abbrev ahead : Close → Standing
+ahead close = record { counted = lot 7 ∷ []; confirmed = []; received = tally 1 one; presented = tally 0 zeros; awaited = naming 7; close = close }
+
+named-and-counted : Leads lost (record { refused = []; replies = replicate 4 0; near = ahead Close.Open; far = level [] (tally 0 zeros) Close.Open })
+unfolding computing
+named-and-counted = record { possible = possible lost justStarted refl; leads = refl }
+
+-- A second lot has the totals of the first: the receiver replies 04, and the reply is lost.
+abbrev duplicate : List Step
+duplicate =
+    exchanged End.near 1 (opening 7 ++ Sent.lotTotal 7 one ∷ opening 8) ++ sent End.near (Sent.lotTotal 8 one) ∷ arrived End.near 6 (Sent.lotTotal 8 one) ∷ []
+
+named-not-counted : Leads duplicate (record {
+  refused = [];
+  replies = 4 ∷ replicate 5 0;
+  near = record { counted = lot 7 ∷ []; confirmed = lot 7 ∷ []; received = tally 1 one; presented = tally 1 one; awaited = naming 8; close = Close.Open };
+  far = level [] (tally 0 zeros) Close.Open;
+})
+unfolding computing
+named-not-counted = record { possible = possible duplicate justStarted refl; leads = refl }
+
+-- After the close the lost reply comes, and is refused with 32.
+abbrev late : List Step
+late = lost ++ closed ++ answered close End.near 3 (Sent.lotTotal 7 one) Code.Accepted ∷ record { at = End.near; call = Call.report; line = buffer } ∷ []
+
+named-after-close : Leads late (record { refused = 32 ∷ []; replies = replicate 4 0; near = ahead Close.Forced; far = level [] (tally 0 zeros) Close.Forced })
+unfolding computing
+named-after-close = record { possible = possible late justStarted refl; leads = refl }
