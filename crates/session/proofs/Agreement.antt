@@ -29,13 +29,13 @@ use Rattle.session.specs.Ends.{End, other, Event, World, Step, replaced,
 use Rattle.session.specs.Books.{namedLot, namedBy, due, PresenterBook, ReceiverBook, presents, receives, presenterBook, receiverBook}
 use Rattle.session.specs.Claim.{oneMore, confirmed, counted, reportAt, presentedTally, receivedTally, Level, Ahead, JustReplied, Ready, Agreement}
 use Rattle.session.proofs.Laws.Parties.{Told, told}
-use Rattle.session.proofs.Laws.Sound.{fresh-sound, start-carried}
-use Rattle.session.proofs.Laws.Calls.{ready-kept, parties-kept}
 use Rattle.session.proofs.Laws.Ledger.{openOf, lotOf, lots-last, one-longer}
 use Rattle.session.proofs.Laws.Line.{accepts}
 use Rattle.session.proofs.Laws.Joined.{waitingEffect, Link, Joined}
 use Rattle.session.proofs.Laws.Presenter.{never-none, presenter-step}
 use Rattle.session.proofs.Laws.Receiver.{receiver-step}
+use Rattle.session.proofs.Laws.Sound.{fresh-sound, start-carried}
+use Rattle.session.proofs.Laws.Calls.{ready-kept, parties-kept}
 
 -- both directions joined, and both ends ready
 pub record Whole (w : World) : Type 0 where

@@ -1,12 +1,13 @@
 -- Laws of what the calls mean, one file a notion.
 pub mod Parties
 pub mod Call
-pub mod Ledger
 pub mod Refusals
+pub mod Allowed
 pub mod Sound
 pub mod Calls
-pub mod Line
+pub mod Ledger
 pub mod Lists
+pub mod Line
 pub mod Joined
 pub mod Mirror
 pub mod Foreign

@@ -58,11 +58,13 @@ sent time effect s =
       close = s .close;
     }
 
+-- what a send does: the message stands in the line buffer, and nothing is added yet
+abbrev pub posted : (time : ℕ) → Effect → (body : List ℕ) → Held → Outcome
+posted time effect body h = wrote (message (nextEnvelope (h .session)) body) (record { session = sent time effect (h .session); running = h .running; line = h .line })
+
 -- a message of this body, which the presenter's own code may stop
 unfoldable pub send : (time code : ℕ) → Effect → (body : List ℕ) → Held → Outcome
-send time code effect body h =
-    let bytes = message (nextEnvelope (h .session)) body in
-    decided (sendRefusal time code bytes h) h (wrote bytes (record { session = sent time effect (h .session); running = h .running; line = h .line }))
+send time code effect body h = decided (sendRefusal time code (message (nextEnvelope (h .session)) body) h) h (posted time effect body h)
 
 -- the codes that a presenter applies to itself: never 04, 06, 08, nor that no detail was accepted
 unfoldable pub headerStop : (time moment centre number : ℕ) → Presenting → ℕ

@@ -29,7 +29,7 @@ use Rattle.session.specs.Sending.{openNumber}
 use Rattle.session.specs.Receiving.{acceptedLots, numberUsed, headerCode, codeBy, effectBy}
 use Rattle.session.specs.Ledger.{Document, LedgerLot, Ledger, Entry, longer, closed, enter, entryBy, ofOperation, sum, lotSum, numbers, Distinct}
 use Rattle.session.proofs.Laws.Refusals.{passed}
-use Rattle.session.proofs.Laws.Sound.{Allowed}
+use Rattle.session.proofs.Laws.Allowed.{Allowed}
 use Rattle.session.proofs.Laws.Ledger.{summary, openOf, runningOf, effectOf, lotOf, detail-sum, mirrors}
 use Rattle.session.proofs.Laws.Lists.{distinct-last, numbers-last, sums-last, number-free}
 use Rattle.session.proofs.Laws.Joined.{NewNumber, Mirrored}

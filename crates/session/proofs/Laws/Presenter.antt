@@ -34,11 +34,11 @@ use Rattle.session.specs.Parties.{outgoing}
 use Rattle.session.specs.Running.{Running}
 use Rattle.session.specs.Course.{Course, advance}
 use Rattle.session.specs.Sequence.{isOpen}
-use Rattle.session.specs.Call.{Held, Outcome, clockRefusal}
-use Rattle.session.specs.Sending.{isPending, nextEnvelope, sendRefusal, sent, send, headerStop, detailStop, lotTotalStop, sessionTotalStop, partAdds, sendHeader, sendDetail, sendLotTotal, sendSessionTotal}
+use Rattle.session.specs.Call.{Held, Outcome, clockRefusal, silent}
+use Rattle.session.specs.Sending.{posted, isPending, nextEnvelope, sendRefusal, sent, send, headerStop, detailStop, lotTotalStop, sessionTotalStop, partAdds, sendHeader, sendDetail, sendLotTotal, sendSessionTotal}
 use Rattle.session.specs.Receiving.{serialOf, isNext, receiveRefusal, receive, handled, repeated, answered}
 use Rattle.session.specs.Reply.{isAccepted, replyRefusal, replied, takeReply}
-use Rattle.session.specs.Clock.{clock}
+use Rattle.session.specs.Clock.{ticked, clock}
 use Rattle.session.specs.Premise.{Direction, PendingSound}
 use Rattle.session.specs.Ledger.{Entry, Ledger, enter, bodyEntry, partEntry, numbers, Distinct}
 use Rattle.session.specs.Engine.{Call, Engine, saidBy, meaning, lent, perform}
@@ -142,7 +142,7 @@ module _ (x : End) (e : Engine) (ready : Ready e) (different : e .session .parti
       send-after : (presents call bp ≡ waitingFor entry bp) → (code ≡ 0 → (effect ≡ waitingEffect (some entry) (bp .ledger)) × (bodyEntry body ≡ entry)) → After call (send time code effect body h .left .running) (send time code effect body h)
       unfolding send
       send-after books fits =
-          either (λ (o : Outcome). After call (o .left .running) o) (sendRefusal time code bytes h) h _
+          either (λ (o : Outcome). After call (o .left .running) o) (sendRefusal time code bytes h) h (posted time effect body h)
           (λ (k : ℕ). refused-after call k)
           (λ (z : sendRefusal time code bytes h ≡ 0).
           let told = send-told time code bytes h z in
@@ -227,13 +227,13 @@ module _ (x : End) (e : Engine) (ready : Ready e) (different : e .session .parti
         (λ (z : receiveRefusal time bytes h ≡ 0). go (isNext bytes (e .session .receiving)) (receive-told time bytes h z))
       where
         go : (t : Bool) → ReceiveTold bytes (lent Direction.receiving line e) → After (Call.message time bytes) pt (answered bytes (cond t (handled time (bodyOf bytes) (lent Direction.receiving line e)) (repeated time (lent Direction.receiving line e))))
-        go true told = foreign-reply time bytes line (handled time (bodyOf bytes) (lent Direction.receiving line e) .session .receiving .reply) told
-        go false told = foreign-reply time bytes line (e .session .receiving .reply) told
+        go true told = foreign-reply time bytes line _ told
+        go false told = foreign-reply time bytes line _ told
 
     tick-after : (time : ℕ) (line : List ℕ) → After (Call.tick time) (clock time (lent Direction.presenting line e) .left .running) (clock time (lent Direction.presenting line e))
     unfolding clock
     tick-after time line =
-        either (λ (o : Outcome). After (Call.tick time) (o .left .running) o) (clockRefusal time (e .session)) (lent Direction.presenting line e) _
+        either (λ (o : Outcome). After (Call.tick time) (o .left .running) o) (clockRefusal time (e .session)) (lent Direction.presenting line e) (silent (record { session = ticked time (e .session); running = pt; line = line }))
         (λ (k : ℕ). refused-after (Call.tick time) k)
         (λ (z : clockRefusal time (e .session) ≡ 0). passed-by route p pt r rt bp br trace j _ (λ (n : 0 ≡ 0). nothing-foreign route))
 

@@ -40,7 +40,7 @@ use Rattle.session.specs.Books.{PresenterBook, ReceiverBook, received, r
 use Rattle.session.specs.Claim.{Ready}
 use Rattle.session.proofs.Laws.Call.{either, first-bytes}
 use Rattle.session.proofs.Laws.Refusals.{send-told, ReceiveTold, receive-told}
-use Rattle.session.proofs.Laws.Sound.{Allowed, received-allowed}
+use Rattle.session.proofs.Laws.Allowed.{Allowed, received-allowed}
 use Rattle.session.proofs.Laws.Line.{accepts, MessageFact, ReplyFact, Foreign, reply-is-none, nothing-foreign, serial-read, code-read}
 use Rattle.session.proofs.Laws.Lists.{next-unseen, up-to-next}
 use Rattle.session.proofs.Laws.Joined.{Mirrored, Link, Joined, passed-by, refused-by, not-entered}
