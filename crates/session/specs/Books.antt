@@ -65,16 +65,16 @@ sameEnd End.far End.far = true
 sameEnd End.near End.far = false
 sameEnd End.far End.near = false
 
-abbrev pub counts : End → Event → Bool
-counts x e = sameEnd (e .at) x && eqb (e .said .number) 0
+abbrev pub entersAt : End → Event → Bool
+entersAt x e = sameEnd (e .at) x && eqb (e .said .number) 0
 
 unfoldable pub presenterBook : End → List Event → PresenterBook
 presenterBook x [] = record { ledger = blank; waiting = none }
-presenterBook x (e ∷ earlier) = cond (counts x e) (presents (e .call) (presenterBook x earlier)) (presenterBook x earlier)
+presenterBook x (e ∷ earlier) = cond (entersAt x e) (presents (e .call) (presenterBook x earlier)) (presenterBook x earlier)
 
 unfoldable pub receiverBook : End → List Event → ReceiverBook
 receiverBook x [] = record { ledger = blank; serials = [] }
-receiverBook x (e ∷ earlier) = cond (counts x e) (receives (e .call) (e .said .bytes) (receiverBook x earlier)) (receiverBook x earlier)
+receiverBook x (e ∷ earlier) = cond (entersAt x e) (receives (e .call) (e .said .bytes) (receiverBook x earlier)) (receiverBook x earlier)
 
 -- what a report has to name: the open lot while its total waits, or a session total that waits
 abbrev pub namedLot : Option LedgerLot → Awaited

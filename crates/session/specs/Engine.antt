@@ -53,9 +53,9 @@ abbrev pub lent : Direction → (line : List ℕ) → Engine → Held
 lent Direction.presenting line e = record { session = e .session; running = e .presenting; line = line }
 lent Direction.receiving line e = record { session = e .session; running = e .receiving; line = line }
 
-abbrev pub given : Direction → Held → Engine → Engine
-given Direction.presenting h e = record { session = h .session; presenting = h .running; receiving = e .receiving }
-given Direction.receiving h e = record { session = h .session; presenting = e .presenting; receiving = h .running }
+abbrev pub givenBack : Direction → Held → Engine → Engine
+givenBack Direction.presenting h e = record { session = h .session; presenting = h .running; receiving = e .receiving }
+givenBack Direction.receiving h e = record { session = h .session; presenting = e .presenting; receiving = h .running }
 
 -- what a call says: its number, and the whole message or reply that it wrote
 pub record Said : Type 0 where
@@ -74,7 +74,7 @@ pub record Done : Type 0 where
 unfoldable pub perform : Call → (line : List ℕ) → Engine → Done
 perform call line e =
     let o = meaning call (lent (directionOf call) line e) in
-    record { said = saidBy o; engine = given (directionOf call) (o .left) e }
+    record { said = saidBy o; engine = givenBack (directionOf call) (o .left) e }
 
 -- a session with running totals zero
 abbrev pub withEmpty : Session → Engine

@@ -53,14 +53,14 @@ replyRefusal time bytes s =
 abbrev pub courseTold : (accepted : Bool) → Running → Presenting → Course
 courseTold accepted running p = advance (p .pending) accepted (course (p .counters) running)
 
-abbrev pub settled : (accepted : Bool) → Running → Presenting → Presenting
-settled accepted running p = record { serial = p .serial; pending = Effect.Nothing; counters = courseTold accepted running p .counters; ended = p .ended || ends (p .pending) accepted }
+abbrev pub afterReply : (accepted : Bool) → Running → Presenting → Presenting
+afterReply accepted running p = record { serial = p .serial; pending = Effect.Nothing; counters = courseTold accepted running p .counters; ended = p .ended || ends (p .pending) accepted }
 
 abbrev pub replied : (time : ℕ) (accepted : Bool) → Held → Held
 replied time accepted h =
     let s = h .session in
     record {
-      session = record { parties = s .parties; presenting = settled accepted (h .running) (s .presenting); receiving = s .receiving; seen = time; close = s .close };
+      session = record { parties = s .parties; presenting = afterReply accepted (h .running) (s .presenting); receiving = s .receiving; seen = time; close = s .close };
       running = courseTold accepted (h .running) (s .presenting) .running;
       line = h .line;
     }

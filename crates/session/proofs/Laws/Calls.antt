@@ -16,7 +16,7 @@ use Rattle.session.specs.Receiving.{isNext, receiveRefusal, receive, han
 use Rattle.session.specs.Reply.{replyRefusal, takeReply}
 use Rattle.session.specs.Clock.{clock}
 use Rattle.session.specs.Premise.{Direction, PendingCarried}
-use Rattle.session.specs.Engine.{Call, Engine, meaning, directionOf, lent, given, perform}
+use Rattle.session.specs.Engine.{Call, Engine, meaning, directionOf, lent, givenBack, perform}
 use Rattle.session.specs.Claim.{Ready}
 use Rattle.session.proofs.Laws.Call.{either, unrefused, refused-keeps}
 use Rattle.session.proofs.Laws.Sound.{Good, send-header-keeps, send-detail-keeps, send-lot-total-keeps, send-session-total-keeps, receive-keeps, reply-keeps, clock-keeps}
@@ -41,13 +41,13 @@ is-decided Call.report h = record { refusal = 0; done = silent h; unrefused = re
 
 -- A refused call gives back what it was lent.
 pub gives-back : (call : Call) (h : Held) → (meaning call h .number ≡ 0 → ⊥) → meaning call h ≡ refused (meaning call h .number) h
-gives-back call h given = let d = is-decided call h in go (d .refusal) (d .done) (d .unrefused) (meaning call h) (d .outcome) given
+gives-back call h number = let d = is-decided call h in go (d .refusal) (d .done) (d .unrefused) (meaning call h) (d .outcome) number
   where
     go : (n : ℕ) (done : Outcome) → done .number ≡ 0 → (o : Outcome) → o ≡ decided n h done → (o .number ≡ 0 → ⊥) → o ≡ refused (o .number) h
-    go zero done u o e given = absurd (given (ap (λ (p : Outcome). p .number) (e ∙ unrefused h done) ∙ u))
-    go (suc k) done u o e given = e ∙ refused-keeps (suc k) h done (λ (z : suc k ≡ 0). omega arith) ∙ λ i. refused (sym (ap (λ (p : Outcome). p .number) (e ∙ refused-keeps (suc k) h done (λ (z : suc k ≡ 0). omega arith))) i) h
+    go zero done u o e number = absurd (number (ap (λ (p : Outcome). p .number) (e ∙ unrefused h done) ∙ u))
+    go (suc k) done u o e number = e ∙ refused-keeps (suc k) h done (λ (z : suc k ≡ 0). omega arith) ∙ λ i. refused (sym (ap (λ (p : Outcome). p .number) (e ∙ refused-keeps (suc k) h done (λ (z : suc k ≡ 0). omega arith))) i) h
 
--- what holds of whatever a call was lent, and of what it does where it is not refused, holds of what it leaves
+-- what a call is lent, with another record of one direction
 abbrev withReceiving : Receiving → Held → Held
 withReceiving r h = record { session = record { parties = h .session .parties; presenting = h .session .presenting; receiving = r; seen = h .session .seen; close = h .session .close }; running = h .running; line = h .line }
 
@@ -149,7 +149,7 @@ pub ready-kept : (call : Call) (line : List ℕ) (e : Engine) → Ready e → Re
 unfolding perform
 ready-kept call line e r = go (directionOf call) refl
   where
-    go : (d : Direction) → directionOf call ≡ d → Ready (given d (meaning call (lent d line e) .left) e)
+    go : (d : Direction) → directionOf call ≡ d → Ready (givenBack d (meaning call (lent d line e) .left) e)
     go Direction.presenting way =
         let h = lent Direction.presenting line e in
         let after = subst (λ (d : Direction). Good d h → Good d (meaning call h .left)) way (keeps call h) (record { sound = r .sound; carried = r .presenting }) in
@@ -174,7 +174,7 @@ pub parties-kept : (call : Call) (line : List ℕ) (e : Engine) → perform call
 unfolding perform
 parties-kept call line e = go (directionOf call) refl
   where
-    go : (d : Direction) → directionOf call ≡ d → given d (meaning call (lent d line e) .left) e .session .parties ≡ e .session .parties
+    go : (d : Direction) → directionOf call ≡ d → givenBack d (meaning call (lent d line e) .left) e .session .parties ≡ e .session .parties
     go Direction.presenting way = untouched call (lent Direction.presenting line e) .parties
     go Direction.receiving way = untouched call (lent Direction.receiving line e) .parties
 

@@ -88,6 +88,10 @@ module _ (x : End) (e : Engine) (ready : Ready e) (different : e .session .parti
   pt = e .presenting
 
   module _ (j : Joined route p pt r rt bp br trace) where
+    -- what is pending, where an entry waits
+    pending-is : (d : Entry) → bp .waiting ≡ some d → p .pending ≡ waitingEffect (some d) (bp .ledger)
+    pending-is d w = j .presenter .pending ∙ ap (λ (o : Option Entry). waitingEffect o (bp .ledger)) w
+
     -- the ends after a call with this outcome, in which the running totals are the call's own or not
     abbrev After : Call → Running → Outcome → Type 0
     After call t o = Joined route (o .left .session .presenting) t r rt (cond (eqb (o .number) 0) (presents call bp) bp) br (record { at = x; call = call; said = saidBy o } ∷ trace)
@@ -117,10 +121,13 @@ module _ (x : End) (e : Engine) (ready : Ready e) (different : e .session .parti
             replies = all-replies;
           }
         where
+          waits : (d : Entry) → bp .waiting ≡ some d → ⊥
+          waits d w = false≢true (sym (told .idle) ∙ ap isPending (pending-is d w) ∙ pending-some d (bp .ledger))
+
           linked : Link p r (bp .waiting) (bp .ledger) (br .ledger) → Link (sent time effect (e .session) .presenting) r (some entry) (bp .ledger) (br .ledger)
           linked (Link.idle w s b) = Link.sent entry refl (ap suc s) b
-          linked (Link.sent d w s b) = absurd (false≢true (sym (told .idle) ∙ ap isPending (j .presenter .pending ∙ ap (λ (o : Option Entry). waitingEffect o (bp .ledger)) w) ∙ pending-some d (bp .ledger)))
-          linked (Link.taken d w s b) = absurd (false≢true (sym (told .idle) ∙ ap isPending (j .presenter .pending ∙ ap (λ (o : Option Entry). waitingEffect o (bp .ledger)) w) ∙ pending-some d (bp .ledger)))
+          linked (Link.sent d w s b) = absurd (waits d w)
+          linked (Link.taken d w s b) = absurd (waits d w)
 
           all-messages : (b : List ℕ) → Written b (event ∷ trace) → MessageFact route (suc (p .serial)) (some entry) b
           all-messages b (inl w) =
@@ -156,7 +163,7 @@ module _ (x : End) (e : Engine) (ready : Ready e) (different : e .session .parti
       replyHeld = lent Direction.presenting line e
 
       finds : (d : Entry) → bp .waiting ≡ some d → Finds d (openOf (bp .ledger .current))
-      finds d w = go d (subst (λ (f : Effect). PendingSound f (p .counters)) (j .presenter .pending ∙ ap (λ (o : Option Entry). waitingEffect o (bp .ledger)) w) (ready .sound .pending))
+      finds d w = go d (subst (λ (f : Effect). PendingSound f (p .counters)) (pending-is d w) (ready .sound .pending))
         where
           same-open : p .counters .current ≡ openOf (bp .ledger .current)
           same-open = ap (λ (k : Course). k .counters .current) (j .presenter .course)
@@ -171,7 +178,7 @@ module _ (x : End) (e : Engine) (ready : Ready e) (different : e .session .parti
       entered : (d : Entry) (accepted : Bool) → bp .waiting ≡ some d → advance (p .pending) accepted (record { counters = p .counters; running = pt }) ≡ summary (enter d accepted (bp .ledger))
       unfolding advance enter
       entered d accepted w =
-          (λ i. advance ((j .presenter .pending ∙ ap (λ (o : Option Entry). waitingEffect o (bp .ledger)) w) i) accepted (j .presenter .course i)) ∙ same d accepted (mirrors d accepted (bp .ledger) (λ (h : accepted ≡ true). finds d w))
+          (λ i. advance ((pending-is d w) i) accepted (j .presenter .course i)) ∙ same d accepted (mirrors d accepted (bp .ledger) (λ (h : accepted ≡ true). finds d w))
         where
           same : (d : Entry) (accepted : Bool) → advance (effectOf d (bp .ledger)) accepted (summary (bp .ledger)) ≡ summary (enter d accepted (bp .ledger)) → advance (waitingEffect (some d) (bp .ledger)) accepted (summary (bp .ledger)) ≡ summary (enter d accepted (bp .ledger))
           same (Entry.opens number) accepted h = h
