@@ -4,7 +4,7 @@ use mathlib.Core.Path.{_≡_, refl, ap, sym, subst, _∙_}
 use mathlib.Core.Bool.{Bool, true, false, not, cond, false≢true}
 use mathlib.Core.List.{List, [], _∷_, _++_}
 use mathlib.Core.Logic.{_⊎_, inl, inr}
-use mathlib.Core.Option.{Option, none, some}
+use mathlib.Core.Option.{Option, none, some, Option·none-ne-some}
 use Prim.Native.Nat.{ℕ}
 use lib.Dec.{eqb, lit<}
 use borrow.Author.Tests.{not-false}
@@ -32,7 +32,7 @@ use Rattle.session.proofs.Laws.Parties.{Told, told}
 use Rattle.session.proofs.Laws.Ledger.{openOf, lotOf, lots-last, one-longer}
 use Rattle.session.proofs.Laws.Line.{accepts}
 use Rattle.session.proofs.Laws.Joined.{waitingEffect, Link, Joined}
-use Rattle.session.proofs.Laws.Presenter.{never-none, presenter-step}
+use Rattle.session.proofs.Laws.Presenter.{presenter-step}
 use Rattle.session.proofs.Laws.Receiver.{receiver-step}
 use Rattle.session.proofs.Laws.Sound.{fresh-sound, start-carried}
 use Rattle.session.proofs.Laws.Calls.{ready-kept, parties-kept}
@@ -254,8 +254,8 @@ module _ (w : World) (all : Whole w) (p : End) where
 
       go : Link (e .session .presenting) (f .session .receiving) (bp .waiting) (bp .ledger) (br .ledger) → Level w p
       go (Link.idle h s b) = level (ap (λ (l : Ledger). l .lots) (sym b))
-      go (Link.sent d h s b) = never-none d (sym waits ∙ h)
-      go (Link.taken d h s b) = never-none d (sym waits ∙ h)
+      go (Link.sent d h s b) = absurd (Option·none-ne-some d (sym waits ∙ h))
+      go (Link.taken d h s b) = absurd (Option·none-ne-some d (sym waits ∙ h))
 
   agree : Agreement w p
   agree =

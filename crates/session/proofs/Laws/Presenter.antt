@@ -3,7 +3,7 @@ use mathlib.Core.Path.{_≡_, refl, ap, sym, subst, _∙_}
 use mathlib.Core.Bool.{Bool, true, false, not, cond, false≢true}
 use mathlib.Core.List.{List, [], _∷_}
 use mathlib.Core.Logic.{inl, inr}
-use mathlib.Core.Option.{Option, none, some}
+use mathlib.Core.Option.{Option, none, some, Option·some-injective, Option·none-ne-some}
 use Prim.Native.Nat.{ℕ, suc, _≤_, _<_}
 use native.Mathlib.Omega.{arith}
 use lib.Dec.{eqb, lit<}
@@ -59,23 +59,6 @@ pending-some (Entry.adds ds) b = refl
 pending-some Entry.endsLot b = refl
 pending-some Entry.endsDirection b = refl
 pending-some Entry.nothing b = refl
-
--- the entry in an option, or another
-entryIn : Entry → Option Entry → Entry
-entryIn d none = d
-entryIn d (some e) = e
-
-same-entry : (a b : Entry) → some a ≡ some b → a ≡ b
-unfolding entryIn
-same-entry a b e = ap (entryIn a) e
-
-isNone : Option Entry → Bool
-isNone none = true
-isNone (some e) = false
-
-pub never-none : (e : Entry) {A : Type 0} → none ≡ some e → A
-unfolding isNone
-never-none e h = absurd (false≢true (sym (ap isNone h)))
 
 module _ (x : End) (e : Engine) (ready : Ready e) (different : e .session .parties .own ≡ e .session .parties .partner → ⊥) (r : Receiving) (rt : Running) (bp : PresenterBook) (br : ReceiverBook) (trace : List Event) where
   abbrev route : Route
@@ -134,7 +117,7 @@ module _ (x : End) (e : Engine) (ready : Ready e) (different : e .session .parti
               subst (MessageFact route (suc (p .serial)) (some entry)) (w .1)
               (λ (g : envelopeGood Kind.Message bytes ≡ true) (way : envelopeOf bytes .route ≡ route). (
                 omega (arith, serial-read Kind.Message (nextEnvelope (e .session)) body (next-fits (e .session) (ready .sound) (told .more))),
-                λ (d : Entry) (s : serialOf bytes ≡ suc (p .serial)) (same : some entry ≡ some d). ap bodyEntry (body-told Kind.Message (nextEnvelope (e .session)) body) ∙ reads ∙ same-entry entry d same,
+                λ (d : Entry) (s : serialOf bytes ≡ suc (p .serial)) (same : some entry ≡ some d). ap bodyEntry (body-told Kind.Message (nextEnvelope (e .session)) body) ∙ reads ∙ Option·some-injective entry d same,
               ))
           all-messages b (inr w) =
               λ (g : envelopeGood Kind.Message b ≡ true) (way : envelopeOf b .route ≡ route).
@@ -206,7 +189,7 @@ module _ (x : End) (e : Engine) (ready : Ready e) (different : e .session .parti
                 link = Link.idle refl s level;
                 messages =
                     λ (b : List ℕ) (w : Written b trace) (g : envelopeGood Kind.Message b ≡ true) (way : envelopeOf b .route ≡ route).
-                    (j .messages b w g way .0, λ (f : Entry) (q : serialOf b ≡ p .serial) (waits : none ≡ some f). never-none f waits);
+                    (j .messages b w g way .0, λ (f : Entry) (q : serialOf b ≡ p .serial) (waits : none ≡ some f). absurd (Option·none-ne-some f waits));
                 replies = j .replies;
               }
 
