@@ -16,7 +16,7 @@ use Rattle.session.specs.declared.effect.Effect.{Effect}
 use Rattle.session.specs.declared.parties.Parties.{Parties}
 use Rattle.session.specs.declared.report.Awaited.{Awaited}
 use Rattle.session.specs.declared.session.Close.{Close}
-use Rattle.session.specs.Parties.{partiesGood, partiesOf, nobody, outgoing, incoming}
+use Rattle.session.specs.Parties.{partiesGood, partiesOf, nobody, presentingRoute, receivingRoute}
 use Rattle.session.specs.Running.{empty}
 use Rattle.session.specs.Course.{Course}
 use Rattle.session.specs.Sequence.{isOpen}
@@ -26,7 +26,7 @@ use Rattle.session.specs.Premise.{Direction, PendingSound}
 use Rattle.session.specs.Ledger.{LedgerLot, Ledger, Entry, blank, enter, closed, lotSum, lotsSum, tallied}
 use Rattle.session.specs.Engine.{Call, Engine, perform, withEmpty}
 use Rattle.session.specs.Ends.{End, other, Event, World, Step, replaced, act, run, Brought, Possible, engines, begun, Begins}
-use Rattle.session.specs.Books.{namedLot, namedBy, due, PresenterBook, ReceiverBook, presents, receives, presenterBook, receiverBook}
+use Rattle.session.specs.Entering.{namedLot, namedBy, due, Confirming, Counting, presents, receives, confirmingAt, countingAt}
 use Rattle.session.specs.Claim.{oneMore, confirmed, counted, reportAt, presentedTally, receivedTally, Level, Ahead, JustReplied, Ready, Agreement}
 use Rattle.session.proofs.Laws.Parties.{Told, told}
 use Rattle.session.proofs.Laws.Ledger.{openOf, lotOf, lots-last, one-longer}
@@ -34,28 +34,28 @@ use Rattle.session.proofs.Laws.Line.{accepts}
 use Rattle.session.proofs.Laws.Joined.{waitingEffect, Link, Joined}
 use Rattle.session.proofs.Laws.Presenter.{presenter-step}
 use Rattle.session.proofs.Laws.Receiver.{receiver-step}
-use Rattle.session.proofs.Laws.Sound.{fresh-sound, start-carried}
-use Rattle.session.proofs.Laws.Calls.{ready-kept, parties-kept}
+use Rattle.session.proofs.Laws.Sound.{fresh-sound, fresh-carried}
+use Rattle.session.proofs.Laws.EveryCall.{ready-kept, parties-kept}
 
 -- both directions joined, and both ends ready
 pub record Whole (w : World) : Type 0 where
   pub ready : (x : End) → Ready (w .engine x)
   pub different : (x : End) → w .engine x .session .parties .own ≡ w .engine x .session .parties .partner → ⊥
-  pub ways : (x : End) → outgoing (w .engine x .session .parties) ≡ incoming (w .engine (other x) .session .parties)
-  pub joined : (p : End) → Joined (outgoing (w .engine p .session .parties)) (w .engine p .session .presenting) (w .engine p .presenting) (w .engine (other p) .session .receiving) (w .engine (other p) .receiving) (presenterBook p (w .trace)) (receiverBook (other p) (w .trace)) (w .trace)
+  pub ways : (x : End) → presentingRoute (w .engine x .session .parties) ≡ receivingRoute (w .engine (other x) .session .parties)
+  pub joined : (p : End) → Joined (presentingRoute (w .engine p .session .parties)) (w .engine p .session .presenting) (w .engine p .presenting) (w .engine (other p) .session .receiving) (w .engine (other p) .receiving) (confirmingAt p (w .trace)) (countingAt (other p) (w .trace)) (w .trace)
 
 -- a direction seen from a call at its presenting end, and from one at its receiving end
-module _ (x : End) (call : Call) (line : List ℕ) (e f : Engine) (bp : PresenterBook) (br : ReceiverBook) (trace : List Event) (ready : Ready e) (different : e .session .parties .own ≡ e .session .parties .partner → ⊥) (brought : Brought call trace) where
+module _ (x : End) (call : Call) (line : List ℕ) (e f : Engine) (bp : Confirming) (br : Counting) (trace : List Event) (ready : Ready e) (different : e .session .parties .own ≡ e .session .parties .partner → ⊥) (brought : Brought call trace) where
   abbrev d : Engine
   d = perform call line e .engine
 
   abbrev event : Event
   event = record { at = x; call = call; said = perform call line e .said }
 
-  at-presenter : Joined (outgoing (e .session .parties)) (e .session .presenting) (e .presenting) (f .session .receiving) (f .receiving) bp br trace → Joined (outgoing (d .session .parties)) (d .session .presenting) (d .presenting) (f .session .receiving) (f .receiving) (cond (eqb (event .said .number) 0) (presents call bp) bp) br (event ∷ trace)
-  at-presenter j = subst (λ (p : Parties). Joined (outgoing p) (d .session .presenting) (d .presenting) (f .session .receiving) (f .receiving) (cond (eqb (event .said .number) 0) (presents call bp) bp) br (event ∷ trace)) (sym (parties-kept call line e)) (presenter-step x e ready different (f .session .receiving) (f .receiving) bp br trace j call line brought)
+  at-presenter : Joined (presentingRoute (e .session .parties)) (e .session .presenting) (e .presenting) (f .session .receiving) (f .receiving) bp br trace → Joined (presentingRoute (d .session .parties)) (d .session .presenting) (d .presenting) (f .session .receiving) (f .receiving) (cond (eqb (event .said .number) 0) (presents call bp) bp) br (event ∷ trace)
+  at-presenter j = subst (λ (p : Parties). Joined (presentingRoute p) (d .session .presenting) (d .presenting) (f .session .receiving) (f .receiving) (cond (eqb (event .said .number) 0) (presents call bp) bp) br (event ∷ trace)) (sym (parties-kept call line e)) (presenter-step x e ready different (f .session .receiving) (f .receiving) bp br trace j call line brought)
 
-  at-receiver : outgoing (f .session .parties) ≡ incoming (e .session .parties) → Joined (outgoing (f .session .parties)) (f .session .presenting) (f .presenting) (e .session .receiving) (e .receiving) bp br trace → Joined (outgoing (f .session .parties)) (f .session .presenting) (f .presenting) (d .session .receiving) (d .receiving) bp (cond (eqb (event .said .number) 0) (receives call (event .said .bytes) br) br) (event ∷ trace)
+  at-receiver : presentingRoute (f .session .parties) ≡ receivingRoute (e .session .parties) → Joined (presentingRoute (f .session .parties)) (f .session .presenting) (f .presenting) (e .session .receiving) (e .receiving) bp br trace → Joined (presentingRoute (f .session .parties)) (f .session .presenting) (f .presenting) (d .session .receiving) (d .receiving) bp (cond (eqb (event .said .number) 0) (receives call (event .said .bytes) br) br) (event ∷ trace)
   at-receiver way j =
       subst (λ (route : Route). Joined route (f .session .presenting) (f .presenting) (d .session .receiving) (d .receiving) bp (cond (eqb (event .said .number) 0) (receives call (event .said .bytes) br) br) (event ∷ trace)) (sym way)
       (receiver-step x e ready different (f .session .presenting) (f .presenting) bp br trace (subst (λ (route : Route). Joined route (f .session .presenting) (f .presenting) (e .session .receiving) (e .receiving) bp br trace) way j) call line brought)
@@ -75,8 +75,8 @@ module _ (w : World) (all : Whole w) (call : Call) (line : List ℕ) (brought : 
   parties-same : (x y : End) → after x y .session .parties ≡ w .engine y .session .parties
   parties-same x = both-ends (λ (y : End) (e : Engine). e .session .parties ≡ w .engine y .session .parties) x _ (w .engine) (parties-kept call line (w .engine x)) refl
 
-  stay-joined : (x p : End) → let w' = act (record { at = x; call = call; line = line }) w in Joined (outgoing (w' .engine p .session .parties)) (w' .engine p .session .presenting) (w' .engine p .presenting) (w' .engine (other p) .session .receiving) (w' .engine (other p) .receiving) (presenterBook p (w' .trace)) (receiverBook (other p) (w' .trace)) (w' .trace)
-  unfolding act presenterBook receiverBook
+  stay-joined : (x p : End) → let w' = act (record { at = x; call = call; line = line }) w in Joined (presentingRoute (w' .engine p .session .parties)) (w' .engine p .session .presenting) (w' .engine p .presenting) (w' .engine (other p) .session .receiving) (w' .engine (other p) .receiving) (confirmingAt p (w' .trace)) (countingAt (other p) (w' .trace)) (w' .trace)
+  unfolding act confirmingAt countingAt
   stay-joined End.near End.near = at-presenter End.near call line _ (w .engine End.far) _ _ (w .trace) (all .ready End.near) (all .different End.near) brought (all .joined End.near)
   stay-joined End.far End.far = at-presenter End.far call line _ (w .engine End.near) _ _ (w .trace) (all .ready End.far) (all .different End.far) brought (all .joined End.far)
   stay-joined End.near End.far = at-receiver End.near call line _ (w .engine End.far) _ _ (w .trace) (all .ready End.near) (all .different End.near) brought (all .ways End.far) (all .joined End.far)
@@ -88,7 +88,7 @@ module _ (w : World) (all : Whole w) (call : Call) (line : List ℕ) (brought : 
       record {
         ready = both-ends (λ (y : End) (e : Engine). Ready e) x _ (w .engine) (ready-kept call line (w .engine x) (all .ready x)) (all .ready (other x));
         different = λ (y : End). subst (λ (p : Parties). p .own ≡ p .partner → ⊥) (sym (parties-same x y)) (all .different y);
-        ways = λ (y : End). ap outgoing (parties-same x y) ∙ all .ways y ∙ ap incoming (sym (parties-same x (other y)));
+        ways = λ (y : End). ap presentingRoute (parties-same x y) ∙ all .ways y ∙ ap receivingRoute (sym (parties-same x (other y)));
         joined = stay-joined x;
       }
 
@@ -116,8 +116,8 @@ fresh-ready date own partner represented t =
     let parties = partiesOf date own partner represented in
     record {
       sound = fresh-sound parties Close.Open (record { date = t .date; own = t .own; partner = t .partner; represented = t .represented });
-      presenting = start-carried parties Close.Open Direction.presenting;
-      receiving = start-carried parties Close.Open Direction.receiving;
+      presenting = fresh-carried parties Close.Open Direction.presenting;
+      receiving = fresh-carried parties Close.Open Direction.receiving;
     }
 
 just-started : (date own partner : ℕ) (represented : List ℕ) → start date own partner represented .number ≡ 0 → Told date own partner represented × (started date own partner represented ≡ start date own partner represented .session)
@@ -131,7 +131,7 @@ two-ends Q a b here there End.near = here
 two-ends Q a b here there End.far = there
 
 begun-whole : (date one two : ℕ) (represented : End → List ℕ) → Begins date one two represented → Whole (begun date one two represented)
-unfolding begun fresh presenterBook receiverBook
+unfolding begun fresh confirmingAt countingAt
 begun-whole date one two represented begins =
     let near = just-started date one two (represented End.near) (begins .near) in
     let far = just-started date two one (represented End.far) (begins .far) in
@@ -140,11 +140,11 @@ begun-whole date one two represented begins =
     world : World
     world = record { engine = engines (withEmpty (started date one two (represented End.near))) (withEmpty (started date two one (represented End.far))); trace = [] }
 
-    ways : (x : End) → outgoing (world .engine x .session .parties) ≡ incoming (world .engine (other x) .session .parties)
+    ways : (x : End) → presentingRoute (world .engine x .session .parties) ≡ receivingRoute (world .engine (other x) .session .parties)
     ways End.near = refl
     ways End.far = refl
 
-    joined : (p : End) → Joined (outgoing (world .engine p .session .parties)) (world .engine p .session .presenting) (world .engine p .presenting) (world .engine (other p) .session .receiving) (world .engine (other p) .receiving) (presenterBook p []) (receiverBook (other p) []) []
+    joined : (p : End) → Joined (presentingRoute (world .engine p .session .parties)) (world .engine p .session .presenting) (world .engine p .presenting) (world .engine (other p) .session .receiving) (world .engine (other p) .receiving) (confirmingAt p []) (countingAt (other p) []) []
     joined End.near = fresh-joined (partiesOf date one two (represented End.near)) (partiesOf date two one (represented End.far)) _
     joined End.far = fresh-joined (partiesOf date two one (represented End.far)) (partiesOf date one two (represented End.near)) _
 
@@ -158,8 +158,8 @@ begun-whole date one two represented begins =
         }
 
 -- after a reply call that was not refused nothing waits
-none-after : (p : End) (time : ℕ) (bytes said : List ℕ) (earlier : List Event) → presenterBook p (record { at = p; call = Call.reply time bytes; said = record { number = 0; bytes = said } } ∷ earlier) .waiting ≡ none
-unfolding presenterBook
+none-after : (p : End) (time : ℕ) (bytes said : List ℕ) (earlier : List Event) → confirmingAt p (record { at = p; call = Call.reply time bytes; said = record { number = 0; bytes = said } } ∷ earlier) .waiting ≡ none
+unfolding confirmingAt
 none-after End.near time bytes said earlier = refl
 none-after End.far time bytes said earlier = refl
 
@@ -171,11 +171,11 @@ module _ (w : World) (all : Whole w) (p : End) where
   abbrev f : Engine
   f = w .engine (other p)
 
-  abbrev bp : PresenterBook
-  bp = presenterBook p (w .trace)
+  abbrev bp : Confirming
+  bp = confirmingAt p (w .trace)
 
-  abbrev br : ReceiverBook
-  br = receiverBook (other p) (w .trace)
+  abbrev br : Counting
+  br = countingAt (other p) (w .trace)
 
   presented : presentedTally w p ≡ tallied (confirmed w p)
   unfolding report
@@ -198,11 +198,11 @@ module _ (w : World) (all : Whole w) (p : End) where
 
       go : (waiting : Option Entry) → PendingSound (waitingEffect waiting (bp .ledger)) (e .session .presenting .counters) → awaited (waitingEffect waiting (bp .ledger)) ≡ namedBy waiting (bp .ledger .current)
       go none s = refl
-      go (some (Entry.opens number)) s = refl
-      go (some (Entry.adds ds)) s = refl
-      go (some Entry.endsLot) s = lot (bp .ledger .current) (sym same-open ∙ s)
-      go (some Entry.endsDirection) s = refl
-      go (some Entry.nothing) s = refl
+      go (some (Entry.header number)) s = refl
+      go (some (Entry.detail ds)) s = refl
+      go (some Entry.lotTotal) s = lot (bp .ledger .current) (sym same-open ∙ s)
+      go (some Entry.sessionTotal) s = refl
+      go (some Entry.unknown) s = refl
 
   level : counted w p ≡ confirmed w p → Level w p
   level same = record { lots = same; totals = received ∙ ap tallied same ∙ sym presented }
@@ -227,19 +227,19 @@ module _ (w : World) (all : Whole w) (p : End) where
       lots-of : {a b : Ledger} → a ≡ b → a .lots ≡ b .lots
       lots-of h = ap (λ (l : Ledger). l .lots) h
 
-      ended : (current : Option LedgerLot) → bp .waiting ≡ some Entry.endsLot → bp .ledger .current ≡ current → counted w p ≡ closed (confirmed w p) current → Level w p ⊎ Ahead w p
+      ended : (current : Option LedgerLot) → bp .waiting ≡ some Entry.lotTotal → bp .ledger .current ≡ current → counted w p ≡ closed (confirmed w p) current → Level w p ⊎ Ahead w p
       ended none w c h = inl (level h)
       ended (some l) w c h = inr (ahead l (λ i. namedBy (w i) (c i)) h)
 
       entered : (d : Entry) (accepted : Bool) → bp .waiting ≡ some d → br .ledger ≡ enter d accepted (bp .ledger) → Level w p ⊎ Ahead w p
-      entered (Entry.opens number) true w h = inl (level (lots-of h))
-      entered (Entry.opens number) false w h = inl (level (lots-of h))
-      entered (Entry.adds ds) true w h = inl (level (lots-of h))
-      entered (Entry.adds ds) false w h = inl (level (lots-of h))
-      entered Entry.endsLot true w h = ended (bp .ledger .current) w refl (lots-of h)
-      entered Entry.endsLot false w h = inl (level (lots-of h))
-      entered Entry.endsDirection accepted w h = inl (level (lots-of h))
-      entered Entry.nothing accepted w h = inl (level (lots-of h))
+      entered (Entry.header number) true w h = inl (level (lots-of h))
+      entered (Entry.header number) false w h = inl (level (lots-of h))
+      entered (Entry.detail ds) true w h = inl (level (lots-of h))
+      entered (Entry.detail ds) false w h = inl (level (lots-of h))
+      entered Entry.lotTotal true w h = ended (bp .ledger .current) w refl (lots-of h)
+      entered Entry.lotTotal false w h = inl (level (lots-of h))
+      entered Entry.sessionTotal accepted w h = inl (level (lots-of h))
+      entered Entry.unknown accepted w h = inl (level (lots-of h))
 
       go : Link (e .session .presenting) (f .session .receiving) (bp .waiting) (bp .ledger) (br .ledger) → Level w p ⊎ Ahead w p
       go (Link.idle w s b) = inl (level (lots-of (sym b)))
@@ -250,7 +250,7 @@ module _ (w : World) (all : Whole w) (p : End) where
   settled just = (named ∙ ap (λ (o : Option Entry). namedBy o (bp .ledger .current)) waits, go (all .joined p .link))
     where
       waits : bp .waiting ≡ none
-      waits = ap (λ (trace : List Event). presenterBook p trace .waiting) (just .latest) ∙ none-after p (just .time) (just .bytes) (just .said) (just .earlier)
+      waits = ap (λ (trace : List Event). confirmingAt p trace .waiting) (just .latest) ∙ none-after p (just .time) (just .bytes) (just .said) (just .earlier)
 
       go : Link (e .session .presenting) (f .session .receiving) (bp .waiting) (bp .ledger) (br .ledger) → Level w p
       go (Link.idle h s b) = level (ap (λ (l : Ledger). l .lots) (sym b))

@@ -35,20 +35,20 @@ use Rattle.session.specs.Parties.{realDate, partiesGood, padded}
 use Rattle.session.specs.Start.{fresh, start}
 use Rattle.session.specs.Course.{advance, kept}
 use Rattle.session.specs.Sequence.{headerSequence, openSequence, lotTotalSequence, sessionTotalSequence}
-use Rattle.session.specs.Call.{decided, clockRefusal, timeRefusal}
+use Rattle.session.specs.Outcome.{decided, clockRefusal, timeRefusal}
 use Rattle.session.specs.Sending.{sendRefusal, send, headerStop, detailStop, lotTotalStop, sessionTotalStop, sendHeader, sendDetail, sendLotTotal, sendSessionTotal}
-use Rattle.session.specs.Receiving.{headerCode, detailCode, lotTotalCode, sessionTotalCode, codeBy, effectBy, taken, receiveRefusal, receive}
+use Rattle.session.specs.Receiving.{headerCode, detailCode, lotTotalCode, sessionTotalCode, codeBy, effectBy, receivingAfter, receiveRefusal, receive}
 use Rattle.session.specs.Reply.{isAwaited, replyRefusal, takeReply}
 use Rattle.session.specs.Clock.{clock}
 use Rattle.session.specs.Report.{report}
 use Rattle.session.specs.Ledger.{enter, entryBy, sum, lotsSum}
 use Rattle.session.specs.Engine.{Call, meaning, perform}
 use Rattle.session.specs.Ends.{End, act, run, begun}
-use Rattle.session.specs.Books.{presenterBook, receiverBook}
+use Rattle.session.specs.Entering.{confirmingAt, countingAt}
 
 -- whoever unfolds this unfolds them all
 unfoldable pub computing : Unit {0}
-unfolding flatMap every anyOf isDigits byteValue number cut packedByte packedBytes _when_ _orelse_ earning tableWritten numbered codes codeByte codeOf readCode knownCode nominal commission totalsOf drawee draweeServed member documentFields fieldsGood amountsGood monthDays DetailCodes.receiverCode DetailCodes.sendable DetailCodes.presenterCode Groups.groups Groups.groupGood Groups.shapeGood Groups.oneOperation Groups.documents written byOperation envelopeFields envelopeGood headerFields sendable shapeGood bodyCode bodyBytes operationByte replyGood lotTotalFields sessionTotalFields realDate partiesGood padded fresh start advance kept headerSequence openSequence lotTotalSequence sessionTotalSequence decided clockRefusal timeRefusal sendRefusal send headerStop detailStop lotTotalStop sessionTotalStop sendHeader sendDetail sendLotTotal sendSessionTotal headerCode detailCode lotTotalCode sessionTotalCode codeBy effectBy taken receiveRefusal receive isAwaited replyRefusal takeReply clock report enter entryBy sum lotsSum meaning perform act run presenterBook receiverBook begun
+unfolding flatMap every anyOf isDigits byteValue number cut packedByte packedBytes _when_ _orelse_ earning tableWritten numbered codes codeByte codeOf readCode knownCode nominal commission totalsOf drawee draweeServed member documentFields fieldsGood amountsGood monthDays DetailCodes.receiverCode DetailCodes.sendable DetailCodes.presenterCode Groups.groups Groups.groupGood Groups.shapeGood Groups.oneOperation Groups.documents written byOperation envelopeFields envelopeGood headerFields sendable shapeGood bodyCode bodyBytes operationByte replyGood lotTotalFields sessionTotalFields realDate partiesGood padded fresh start advance kept headerSequence openSequence lotTotalSequence sessionTotalSequence decided clockRefusal timeRefusal sendRefusal send headerStop detailStop lotTotalStop sessionTotalStop sendHeader sendDetail sendLotTotal sendSessionTotal headerCode detailCode lotTotalCode sessionTotalCode codeBy effectBy receivingAfter receiveRefusal receive isAwaited replyRefusal takeReply clock report enter entryBy sum lotsSum meaning perform act run confirmingAt countingAt begun
 computing = tt
 
 -- the way in which an end presents
@@ -95,7 +95,7 @@ sending time (Sent.lotTotal number stated) = Call.lotTotal time
 sending time (Sent.sessionTotal lots stated) = Call.sessionTotal time
 
 abbrev pub receiving : (time : ℕ) → End → (serial : ℕ) → Sent → Call
-receiving time p serial x = Call.message time (messageFrom p serial x)
+receiving time p serial x = Call.receive time (messageFrom p serial x)
 
 abbrev pub replied : (time : ℕ) → End → (serial : ℕ) → Sent → Code → Call
 replied time p serial x code = Call.reply time (replyTo p serial x code)

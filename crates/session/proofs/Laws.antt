@@ -1,10 +1,10 @@
 -- Laws of what the calls mean, one file a notion.
 pub mod Parties
-pub mod Call
+pub mod Decided
 pub mod Refusals
 pub mod Allowed
 pub mod Sound
-pub mod Calls
+pub mod EveryCall
 pub mod Ledger
 pub mod Lists
 pub mod Line

@@ -41,13 +41,13 @@ isWritten bytes [] = false
 isWritten bytes (e ∷ earlier) = eqb (e .said .number) 0 && sameBytes (e .said .bytes) bytes || isWritten bytes earlier
 
 abbrev isBrought : Call → List Event → Bool
-isBrought (Call.message time bytes) trace = isWritten bytes trace
+isBrought (Call.receive time bytes) trace = isWritten bytes trace
 isBrought (Call.reply time bytes) trace = isWritten bytes trace
 isBrought (Call.header time moment centre number) trace = true
 isBrought (Call.detail time operation part) trace = true
 isBrought (Call.lotTotal time) trace = true
 isBrought (Call.sessionTotal time) trace = true
-isBrought (Call.tick time) trace = true
+isBrought (Call.clock time) trace = true
 isBrought Call.report trace = true
 
 abbrev isPossible : List Step → World → Bool
@@ -76,13 +76,13 @@ written bytes (x ∷ earlier) e =
     (either (here && same) (isWritten bytes earlier) e)
 
 brought : (call : Call) (trace : List Event) → isBrought call trace ≡ true → Brought call trace
-brought (Call.message time bytes) trace e = written bytes trace e
+brought (Call.receive time bytes) trace e = written bytes trace e
 brought (Call.reply time bytes) trace e = written bytes trace e
 brought (Call.header time moment centre number) trace e = tt
 brought (Call.detail time operation part) trace e = tt
 brought (Call.lotTotal time) trace e = tt
 brought (Call.sessionTotal time) trace e = tt
-brought (Call.tick time) trace e = tt
+brought (Call.clock time) trace e = tt
 brought Call.report trace e = tt
 
 possible : (steps : List Step) (w : World) → isPossible steps w ≡ true → Possible steps w
@@ -158,7 +158,7 @@ exchanged p serial (x ∷ xs) = sent p x ∷ arrived p serial x ∷ answered 800
 
 -- both clocks reach 23:30
 abbrev closed : List Step
-closed = record { at = End.near; call = Call.tick close; line = buffer } ∷ record { at = End.far; call = Call.tick close; line = buffer } ∷ []
+closed = record { at = End.near; call = Call.clock close; line = buffer } ∷ record { at = End.far; call = Call.clock close; line = buffer } ∷ []
 
 -- a document for an entity, which is its drawee too
 abbrev document : (entity nominal commission : ℕ) → List ℕ

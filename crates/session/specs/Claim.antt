@@ -14,14 +14,14 @@ use Rattle.session.specs.Premise.{Direction, Sound, Carried}
 use Rattle.session.specs.Ledger.{LedgerLot, lotSum, tallied, numbers, Distinct}
 use Rattle.session.specs.Engine.{Call, Engine}
 use Rattle.session.specs.Ends.{End, other, Event, World}
-use Rattle.session.specs.Books.{due, presenterBook, receiverBook}
+use Rattle.session.specs.Entering.{due, confirmingAt, countingAt}
 
 -- counted lots are the receiver's list, confirmed ones the presenter's
 abbrev pub confirmed : World → End → List LedgerLot
-confirmed w p = presenterBook p (w .trace) .ledger .lots
+confirmed w p = confirmingAt p (w .trace) .ledger .lots
 
 abbrev pub counted : World → End → List LedgerLot
-counted w p = receiverBook (other p) (w .trace) .ledger .lots
+counted w p = countingAt (other p) (w .trace) .ledger .lots
 
 -- the report at an end
 abbrev pub reportAt : World → End → Report
@@ -74,7 +74,7 @@ pub record Agreement (w : World) (p : End) : Type 0 where
   pub presented : presentedTally w p ≡ tallied (confirmed w p)
   pub received : receivedTally w p ≡ tallied (counted w p)
   -- 'it names the presenter's open lot exactly from the unrefused send of its total until the unrefused reply call for it'
-  pub named : reportAt w p .awaited ≡ due (presenterBook p (w .trace))
+  pub named : reportAt w p .awaited ≡ due (confirmingAt p (w .trace))
   -- 'demand 3's last sentence holds right after that call': nothing is named, and the ends are level
   pub settled : JustReplied w p → (reportAt w p .awaited ≡ Awaited.Neither) × Level w p
   -- the theorem is about the engine that runs: the premise of every call holds at both ends

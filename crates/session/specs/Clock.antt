@@ -4,7 +4,7 @@ use mathlib.Core.Bool.{_&&_, cond}
 use Rattle.session.specs.declared.session.Close.{Close}
 use Rattle.session.specs.declared.session.Session.{Session}
 use Rattle.session.specs.Hours.{atClose}
-use Rattle.session.specs.Call.{Held, Outcome, decided, silent, clockRefusal}
+use Rattle.session.specs.Outcome.{Held, Outcome, decided, silent, clockRefusal}
 
 -- in order if both session totals are accepted as this centre knows, else forced
 abbrev pub closing : Session → Close

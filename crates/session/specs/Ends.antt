@@ -55,13 +55,13 @@ Written bytes (e ∷ earlier) = ((e .said .number ≡ 0) × (e .said .bytes ≡ 
 
 -- the line brings such bytes alone; all other arguments are free
 abbrev pub Brought : Call → List Event → Type 0
-Brought (Call.message time bytes) trace = Written bytes trace
+Brought (Call.receive time bytes) trace = Written bytes trace
 Brought (Call.reply time bytes) trace = Written bytes trace
 Brought (Call.header time moment centre number) trace = Unit {0}
 Brought (Call.detail time operation part) trace = Unit {0}
 Brought (Call.lotTotal time) trace = Unit {0}
 Brought (Call.sessionTotal time) trace = Unit {0}
-Brought (Call.tick time) trace = Unit {0}
+Brought (Call.clock time) trace = Unit {0}
 Brought Call.report trace = Unit {0}
 
 unfoldable pub Possible : List Step → World → Type 0

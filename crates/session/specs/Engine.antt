@@ -4,11 +4,11 @@ use mathlib.Core.List.{List}
 use lib.ListN.{take}
 use Rattle.session.specs.declared.session.Session.{Session}
 use Rattle.session.specs.Running.{Running, empty}
-use Rattle.session.specs.Call.{Held, Outcome, silent}
+use Rattle.session.specs.Outcome.{Held, Outcome, silent}
 use Rattle.session.specs.Sending.{sendHeader, sendDetail, sendLotTotal, sendSessionTotal}
-use Rattle.session.specs.Receiving.{receive}
+use Rattle.session.specs.Receiving as Receiving
 use Rattle.session.specs.Reply.{takeReply}
-use Rattle.session.specs.Clock.{clock}
+use Rattle.session.specs.Clock as Clock
 use Rattle.session.specs.Premise.{Direction}
 
 -- every call on a running session, with its arguments
@@ -17,9 +17,9 @@ pub data Call : Type 0 where
   detail : (time operation : ℕ) (part : List ℕ) → Call
   lotTotal : (time : ℕ) → Call
   sessionTotal : (time : ℕ) → Call
-  message : (time : ℕ) (bytes : List ℕ) → Call
+  receive : (time : ℕ) (bytes : List ℕ) → Call
   reply : (time : ℕ) (bytes : List ℕ) → Call
-  tick : (time : ℕ) → Call
+  clock : (time : ℕ) → Call
   report : Call
 
 -- what each of them means
@@ -28,20 +28,20 @@ meaning (Call.header time moment centre number) h = sendHeader time moment centr
 meaning (Call.detail time operation part) h = sendDetail time operation part h
 meaning (Call.lotTotal time) h = sendLotTotal time h
 meaning (Call.sessionTotal time) h = sendSessionTotal time h
-meaning (Call.message time bytes) h = receive time bytes h
+meaning (Call.receive time bytes) h = Receiving.receive time bytes h
 meaning (Call.reply time bytes) h = takeReply time bytes h
-meaning (Call.tick time) h = clock time h
+meaning (Call.clock time) h = Clock.clock time h
 meaning Call.report h = silent h
 
 -- the direction whose running totals it gets and leaves
 abbrev pub directionOf : Call → Direction
-directionOf (Call.message time bytes) = Direction.receiving
+directionOf (Call.receive time bytes) = Direction.receiving
 directionOf (Call.header time moment centre number) = Direction.presenting
 directionOf (Call.detail time operation part) = Direction.presenting
 directionOf (Call.lotTotal time) = Direction.presenting
 directionOf (Call.sessionTotal time) = Direction.presenting
 directionOf (Call.reply time bytes) = Direction.presenting
-directionOf (Call.tick time) = Direction.presenting
+directionOf (Call.clock time) = Direction.presenting
 directionOf Call.report = Direction.presenting
 
 pub record Engine : Type 0 where

@@ -37,11 +37,11 @@ blank = record { lots = []; current = none }
 
 -- a message as the ledger sees it
 pub data Entry : Type 0 where
-  opens : (number : ℕ) → Entry
-  adds : List Document → Entry
-  endsLot : Entry
-  endsDirection : Entry
-  nothing : Entry
+  header : (number : ℕ) → Entry
+  detail : List Document → Entry
+  lotTotal : Entry
+  sessionTotal : Entry
+  unknown : Entry
 
 -- the open lot with more documents
 abbrev pub longer : List Document → Option LedgerLot → Option LedgerLot
@@ -55,16 +55,16 @@ closed lots (some l) = lots ++ l ∷ []
 
 unfoldable pub enter : Entry → (accepted : Bool) → Ledger → Ledger
 -- On 00 a header opens a lot, a detail adds its documents in order, a lot total moves the open lot to the list's end.
-enter (Entry.opens number) true b = record { lots = b .lots; current = some (record { number = number; documents = [] }) }
-enter (Entry.adds ds) true b = record { lots = b .lots; current = longer ds (b .current) }
-enter Entry.endsLot true b = record { lots = closed (b .lots) (b .current); current = none }
+enter (Entry.header number) true b = record { lots = b .lots; current = some (record { number = number; documents = [] }) }
+enter (Entry.detail ds) true b = record { lots = b .lots; current = longer ds (b .current) }
+enter Entry.lotTotal true b = record { lots = closed (b .lots) (b .current); current = none }
 -- On another code a lot total drops the open lot.
-enter Entry.endsLot false b = record { lots = b .lots; current = none }
+enter Entry.lotTotal false b = record { lots = b .lots; current = none }
 -- Else the book stays.
-enter (Entry.opens number) false b = b
-enter (Entry.adds ds) false b = b
-enter Entry.endsDirection accepted b = b
-enter Entry.nothing accepted b = b
+enter (Entry.header number) false b = b
+enter (Entry.detail ds) false b = b
+enter Entry.sessionTotal accepted b = b
+enter Entry.unknown accepted b = b
 
 -- documents of one operation
 abbrev pub ofOperation : (operation : ℕ) → List (List ℕ) → List Document
@@ -72,14 +72,14 @@ ofOperation operation ds = map (λ (d : List ℕ). record { operation = operatio
 
 -- what a part is sent as, and what a body was received as
 abbrev pub partEntry : (operation : ℕ) (part : List ℕ) → Entry
-partEntry operation part = Entry.adds (ofOperation (packedByte operation) (pieces documentBytes part))
+partEntry operation part = Entry.detail (ofOperation (packedByte operation) (pieces documentBytes part))
 
 unfoldable pub entryBy : Content → (body : List ℕ) → Entry
-entryBy Content.Header body = Entry.opens (headerOf body .number)
-entryBy Content.Detail body = Entry.adds (ofOperation (operationOf body) (documents body))
-entryBy Content.LotTotal body = Entry.endsLot
-entryBy Content.SessionTotal body = Entry.endsDirection
-entryBy Content.Unknown body = Entry.nothing
+entryBy Content.Header body = Entry.header (headerOf body .number)
+entryBy Content.Detail body = Entry.detail (ofOperation (operationOf body) (documents body))
+entryBy Content.LotTotal body = Entry.lotTotal
+entryBy Content.SessionTotal body = Entry.sessionTotal
+entryBy Content.Unknown body = Entry.unknown
 
 abbrev pub bodyEntry : (body : List ℕ) → Entry
 bodyEntry body = entryBy (contentOf body) body

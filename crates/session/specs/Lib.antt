@@ -6,7 +6,7 @@ pub mod Running
 pub mod Course
 pub mod Sequence
 pub mod Start
-pub mod Call
+pub mod Outcome
 pub mod Sending
 pub mod Receiving
 pub mod Reply
@@ -16,5 +16,5 @@ pub mod Premise
 pub mod Ledger
 pub mod Engine
 pub mod Ends
-pub mod Books
+pub mod Entering
 pub mod Claim

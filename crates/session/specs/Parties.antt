@@ -36,8 +36,8 @@ abbrev pub representedBy : Parties → List ℕ
 representedBy p = take (p .count) (p .represented)
 
 -- the way of what the centre presents, and of what it receives
-abbrev pub outgoing : Parties → Route
-outgoing p = record { date = p .date; presenting = p .own; receiving = p .partner }
+abbrev pub presentingRoute : Parties → Route
+presentingRoute p = record { date = p .date; presenting = p .own; receiving = p .partner }
 
-abbrev pub incoming : Parties → Route
-incoming p = record { date = p .date; presenting = p .partner; receiving = p .own }
+abbrev pub receivingRoute : Parties → Route
+receivingRoute p = record { date = p .date; presenting = p .partner; receiving = p .own }

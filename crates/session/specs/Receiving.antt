@@ -30,11 +30,11 @@ use Rattle.session.specs.declared.session.Receiving.{Receiving}
 use Rattle.session.specs.declared.session.Session.{Session}
 use Rattle.session.specs.Limits.{passesLot, lotsUsed}
 use Rattle.session.specs.Hours.{receiverLate}
-use Rattle.session.specs.Parties.{representedBy, incoming}
+use Rattle.session.specs.Parties.{representedBy, receivingRoute}
 use Rattle.session.specs.Running.{Running, detailAdds, stated, documentsIn}
 use Rattle.session.specs.Course.{Course, course, advance, ends, kept}
 use Rattle.session.specs.Sequence.{headerSequence, openSequence, lotTotalSequence, sessionTotalSequence}
-use Rattle.session.specs.Call.{Held, Outcome, decided, wrote, noRoom, timeRefusal}
+use Rattle.session.specs.Outcome.{Held, Outcome, decided, wrote, noRoom, timeRefusal}
 
 -- the accepted lots
 abbrev pub acceptedLots : Receiving → List Lot
@@ -50,7 +50,7 @@ totalsUsed t lots = anyOf (λ (l : Lot). same (stated (l .gathered)) t) lots
 -- the codes of each message, in the paper's order
 unfoldable pub headerCode : (time : ℕ) (body : List ℕ) → Parties → Receiving → ℕ
 headerCode time body p r =
-    bodyCode (header (incoming p)) body
+    bodyCode (header (receivingRoute p)) body
     orelse headerSequence (r .ended) (r .counters .current)
     orelse 10 when receiverLate time
     orelse 4 when numberUsed (headerOf body .number) (acceptedLots r)
@@ -97,24 +97,24 @@ abbrev pub codeFor : (time : ℕ) (body : List ℕ) → Held → ℕ
 codeFor time body h = codeBy (contentOf body) time body (h .session .parties) (h .running) (h .session .receiving)
 
 -- the course of the direction after a message of this code
-abbrev pub courseAfter : (code : ℕ) (body : List ℕ) → Running → Receiving → Course
-courseAfter code body running r = advance (effectBy (contentOf body) body running) (eqb code 0) (course (r .counters) running)
+abbrev pub receivingCourse : (code : ℕ) (body : List ℕ) → Running → Receiving → Course
+receivingCourse code body running r = advance (effectBy (contentOf body) body running) (eqb code 0) (course (r .counters) running)
 
 -- and its record: the serial becomes the last, and the reply is kept
-unfoldable pub taken : (code : ℕ) (body : List ℕ) → Running → Receiving → Receiving
-taken code body running r =
+unfoldable pub receivingAfter : (code : ℕ) (body : List ℕ) → Running → Receiving → Receiving
+receivingAfter code body running r =
     let effect = effectBy (contentOf body) body running in
     record {
       serial = suc (r .serial);
       reply = record { operation = replyOperation (contentOf body); code = codeOf code };
-      counters = courseAfter code body running r .counters;
+      counters = receivingCourse code body running r .counters;
       ended = r .ended || ends effect (eqb code 0);
       lots = kept effect (eqb code 0) (r .counters .lots) (r .lots);
     }
 
 -- a session with another receiving direction, at a time
-abbrev pub hearing : (time : ℕ) → Receiving → Session → Session
-hearing time r s = record { parties = s .parties; presenting = s .presenting; receiving = r; seen = time; close = s .close }
+abbrev pub withReceiving : (time : ℕ) → Receiving → Session → Session
+withReceiving time r s = record { parties = s .parties; presenting = s .presenting; receiving = r; seen = time; close = s .close }
 
 abbrev pub serialOf : List ℕ → ℕ
 serialOf bytes = envelopeOf bytes .serial
@@ -126,29 +126,29 @@ abbrev pub isNext : (bytes : List ℕ) → Receiving → Bool
 isNext bytes r = eqb (serialOf bytes) (suc (r .serial))
 
 -- The receiver handles the last serial plus 1; for the last serial, without reading the body, only the last seen time moves.
-abbrev pub handled : (time : ℕ) (body : List ℕ) → Held → Held
-handled time body h =
+abbrev pub afterNew : (time : ℕ) (body : List ℕ) → Held → Held
+afterNew time body h =
     let code = codeFor time body h in
     let r = h .session .receiving in
-    record { session = hearing time (taken code body (h .running) r) (h .session); running = courseAfter code body (h .running) r .running; line = h .line }
+    record { session = withReceiving time (receivingAfter code body (h .running) r) (h .session); running = receivingCourse code body (h .running) r .running; line = h .line }
 
-abbrev pub repeated : (time : ℕ) → Held → Held
-repeated time h = record { session = hearing time (h .session .receiving) (h .session); running = h .running; line = h .line }
+abbrev pub afterRepeat : (time : ℕ) → Held → Held
+afterRepeat time h = record { session = withReceiving time (h .session .receiving) (h .session); running = h .running; line = h .line }
 
-abbrev pub heard : (time : ℕ) (bytes : List ℕ) → Held → Held
-heard time bytes h = cond (isNext bytes (h .session .receiving)) (handled time (bodyOf bytes) h) (repeated time h)
+abbrev pub afterMessage : (time : ℕ) (bytes : List ℕ) → Held → Held
+afterMessage time bytes h = cond (isNext bytes (h .session .receiving)) (afterNew time (bodyOf bytes) h) (afterRepeat time h)
 
 unfoldable pub receiveRefusal : (time : ℕ) (bytes : List ℕ) → Held → ℕ
 receiveRefusal time bytes h =
     timeRefusal time (h .session)
     orelse 21 when not (envelopeGood Kind.Message bytes)
-    orelse 33 when not (sameRoute (envelopeOf bytes .route) (incoming (h .session .parties)))
+    orelse 33 when not (sameRoute (envelopeOf bytes .route) (receivingRoute (h .session .parties)))
     orelse 35 when not (isLast bytes (h .session .receiving) || isNext bytes (h .session .receiving))
     orelse 23 when noRoom (envelopeBytes + replyBytes) (h .line)
 
 -- the reply that is kept is written, new or again
-abbrev pub answered : (bytes : List ℕ) → Held → Outcome
-answered bytes h = wrote (wholeReply (envelopeOf bytes) (h .session .receiving .reply)) h
+abbrev pub replying : (bytes : List ℕ) → Held → Outcome
+replying bytes h = wrote (wholeReply (envelopeOf bytes) (h .session .receiving .reply)) h
 
 unfoldable pub receive : (time : ℕ) (bytes : List ℕ) → Held → Outcome
-receive time bytes h = decided (receiveRefusal time bytes h) h (answered bytes (heard time bytes h))
+receive time bytes h = decided (receiveRefusal time bytes h) h (replying bytes (afterMessage time bytes h))

@@ -15,10 +15,10 @@ use Rattle.message.specs.Reply.{operationByte, replyGood}
 use Rattle.session.specs.declared.effect.Effect.{Effect}
 use Rattle.session.specs.declared.session.Presenting.{Presenting}
 use Rattle.session.specs.declared.session.Session.{Session}
-use Rattle.session.specs.Parties.{outgoing}
+use Rattle.session.specs.Parties.{presentingRoute}
 use Rattle.session.specs.Running.{Running}
 use Rattle.session.specs.Course.{Course, course, advance, ends}
-use Rattle.session.specs.Call.{Held, Outcome, decided, silent, timeRefusal}
+use Rattle.session.specs.Outcome.{Held, Outcome, decided, silent, timeRefusal}
 use Rattle.session.specs.Sending.{isPending}
 
 -- the operation of the reply that a message awaits
@@ -45,23 +45,23 @@ unfoldable pub replyRefusal : (time : ℕ) (bytes : List ℕ) → Session → �
 replyRefusal time bytes s =
     timeRefusal time s
     orelse 21 when not (envelopeGood Kind.Reply bytes)
-    orelse 33 when not (sameRoute (envelopeOf bytes .route) (outgoing (s .parties)))
+    orelse 33 when not (sameRoute (envelopeOf bytes .route) (presentingRoute (s .parties)))
     orelse 22 when not (replyGood (bodyOf bytes))
     orelse 35 when not (isAwaited bytes (s .presenting))
 
 -- what was pending is counted, with the code that was read
-abbrev pub courseTold : (accepted : Bool) → Running → Presenting → Course
-courseTold accepted running p = advance (p .pending) accepted (course (p .counters) running)
+abbrev pub presentingCourse : (accepted : Bool) → Running → Presenting → Course
+presentingCourse accepted running p = advance (p .pending) accepted (course (p .counters) running)
 
 abbrev pub afterReply : (accepted : Bool) → Running → Presenting → Presenting
-afterReply accepted running p = record { serial = p .serial; pending = Effect.Nothing; counters = courseTold accepted running p .counters; ended = p .ended || ends (p .pending) accepted }
+afterReply accepted running p = record { serial = p .serial; pending = Effect.Nothing; counters = presentingCourse accepted running p .counters; ended = p .ended || ends (p .pending) accepted }
 
 abbrev pub replied : (time : ℕ) (accepted : Bool) → Held → Held
 replied time accepted h =
     let s = h .session in
     record {
       session = record { parties = s .parties; presenting = afterReply accepted (h .running) (s .presenting); receiving = s .receiving; seen = time; close = s .close };
-      running = courseTold accepted (h .running) (s .presenting) .running;
+      running = presentingCourse accepted (h .running) (s .presenting) .running;
       line = h .line;
     }
 

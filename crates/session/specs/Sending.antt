@@ -22,10 +22,10 @@ use Rattle.session.specs.declared.session.Presenting.{Presenting}
 use Rattle.session.specs.declared.session.Session.{Session}
 use Rattle.session.specs.Limits.{passesLot, lotsUsed}
 use Rattle.session.specs.Hours.{presenterLate}
-use Rattle.session.specs.Parties.{outgoing}
+use Rattle.session.specs.Parties.{presentingRoute}
 use Rattle.session.specs.Running.{Running, detailAdds, stated, documentsIn}
 use Rattle.session.specs.Sequence.{headerSequence, openSequence, sessionTotalSequence}
-use Rattle.session.specs.Call.{Held, Outcome, decided, wrote, noRoom, timeRefusal}
+use Rattle.session.specs.Outcome.{Held, Outcome, decided, wrote, noRoom, timeRefusal}
 
 -- a reply is awaited
 abbrev pub isPending : Effect → Bool
@@ -37,7 +37,7 @@ isPending Effect.SessionTotal = true
 
 -- The presenter sends serials from 1.
 abbrev pub nextEnvelope : Session → Envelope
-nextEnvelope s = record { route = outgoing (s .parties); serial = suc (s .presenting .serial) }
+nextEnvelope s = record { route = presentingRoute (s .parties); serial = suc (s .presenting .serial) }
 
 unfoldable pub sendRefusal : (time code : ℕ) (bytes : List ℕ) → Held → ℕ
 sendRefusal time code bytes h =
@@ -102,7 +102,7 @@ openLot c running = record { number = openNumber (c .current); gathered = runnin
 unfoldable pub sendHeader : (time moment centre number : ℕ) → Held → Outcome
 sendHeader time moment centre number h =
     send time (headerStop time moment centre number (h .session .presenting)) (Effect.Header number)
-    (bodyBytes (outgoing (h .session .parties)) (Body.opening (record { time = moment; centre = centre; number = number }))) h
+    (bodyBytes (presentingRoute (h .session .parties)) (Body.opening (record { time = moment; centre = centre; number = number }))) h
 
 unfoldable pub sendDetail : (time operation : ℕ) (part : List ℕ) → Held → Outcome
 sendDetail time operation part h =
@@ -114,10 +114,10 @@ unfoldable pub sendLotTotal : (time : ℕ) → Held → Outcome
 sendLotTotal time h =
     let lot = openLot (h .session .presenting .counters) (h .running) in
     send time (lotTotalStop (h .session .presenting)) (Effect.LotTotal lot)
-    (bodyBytes (outgoing (h .session .parties)) (Body.lotEnding (record { number = lot .number; stated = stated (lot .gathered) }))) h
+    (bodyBytes (presentingRoute (h .session .parties)) (Body.lotEnding (record { number = lot .number; stated = stated (lot .gathered) }))) h
 
 unfoldable pub sendSessionTotal : (time : ℕ) → Held → Outcome
 sendSessionTotal time h =
     let c = h .session .presenting .counters in
     send time (sessionTotalStop (h .session .presenting)) Effect.SessionTotal
-    (bodyBytes (outgoing (h .session .parties)) (Body.sessionEnding (record { number = c .lots; stated = stated (c .gathered) }))) h
+    (bodyBytes (presentingRoute (h .session .parties)) (Body.sessionEnding (record { number = c .lots; stated = stated (c .gathered) }))) h

@@ -33,7 +33,7 @@ use Rattle.session.specs.declared.session.Presenting.{Presenting}
 use Rattle.session.specs.declared.session.Receiving.{Receiving}
 use Rattle.session.specs.Limits.{lotDocuments, mostLots, passesLot, lotsUsed}
 use Rattle.session.specs.Hours.{presenterLate, receiverLate}
-use Rattle.session.specs.Parties.{incoming, representedBy}
+use Rattle.session.specs.Parties.{receivingRoute, representedBy}
 use Rattle.session.specs.Running.{Running, empty, gather, detailAdds, documentsIn}
 use Rattle.session.specs.Course.{Course}
 use Rattle.session.specs.Sequence.{isOpen, isThis, headerSequence, openSequence, lotTotalSequence}
@@ -111,12 +111,12 @@ module _ (time : ℕ) (body : List ℕ) (parties : Parties) (t : Running) (r : R
   pub received-allowed : (c : Content) → codeBy c time body parties t r ≡ 0 → Allowed (effectBy c body t) receiving-here
   unfolding codeBy effectBy headerCode detailCode lotTotalCode lotTotalSequence
   received-allowed Content.Header e =
-      let read = none-both (bodyCode (header (incoming parties)) body) _ e in
+      let read = none-both (bodyCode (header (receivingRoute parties)) body) _ e in
       let place = none-both (headerSequence (r .ended) (r .counters .current)) _ (read .1) in
       let late = passed 10 (receiverLate time) _ (lit< tt) (place .1) in
       let new = passed 4 (numberUsed (headerOf body .number) (acceptedLots r)) _ (lit< tt) (late .1) in
       record {
-        sound = (order-told (incoming parties) body (read .0), leb-false mostLots (r .counters .lots) (none-test 11 (lotsUsed (r .counters .lots)) (lit< tt) (new .1)));
+        sound = (order-told (receivingRoute parties) body (read .0), leb-false mostLots (r .counters .lots) (none-test 11 (lotsUsed (r .counters .lots)) (lit< tt) (new .1)));
         carried = tt;
       }
   received-allowed Content.Detail e =

@@ -35,9 +35,9 @@ header-read : (route : Route) (h : Header) → tableTakes (headerFields route) (
 unfolding bodyBytes
 header-read route h e = header-told route h e
 
-pub header-entry : (route : Route) (h : Header) → route .date < 100 ^ 3 → route .presenting < 100 ^ 2 → route .receiving < 100 ^ 2 → headerSendable (h .time) (h .centre) (h .number) ≡ true → bodyEntry (bodyBytes route (Body.opening h)) ≡ Entry.opens (h .number)
+pub header-entry : (route : Route) (h : Header) → route .date < 100 ^ 3 → route .presenting < 100 ^ 2 → route .receiving < 100 ^ 2 → headerSendable (h .time) (h .centre) (h .number) ≡ true → bodyEntry (bodyBytes route (Body.opening h)) ≡ Entry.header (h .number)
 unfolding entryBy
-header-entry route h d p r s = ap (λ (c : Content). entryBy c (bodyBytes route (Body.opening h))) (content-told route (Body.opening h)) ∙ ap (λ (x : Header). Entry.opens (x .number)) (header-read route h (in-range route h d p r s))
+header-entry route h d p r s = ap (λ (c : Content). entryBy c (bodyBytes route (Body.opening h))) (content-told route (Body.opening h)) ∙ ap (λ (x : Header). Entry.header (x .number)) (header-read route h (in-range route h d p r s))
 
 pub detail-entry : (operation : ℕ) (part : List ℕ) → sendable operation part ≡ true → bodyEntry (written (packedByte operation) part) ≡ partEntry operation part
 unfolding entryBy
@@ -48,19 +48,19 @@ detail-entry operation part s =
     let some-bytes : 0 < length part = omega (arith, fit .least) in
     let op = operation-written o part some-bytes in
     ap (λ (c : Content). entryBy c body) (ap byOperation op ∙ detail-told o (operation-byte operation (fit .kind)))
-    ∙ λ i. Entry.adds (ofOperation (op i) (documents-written o part i))
+    ∙ λ i. Entry.detail (ofOperation (op i) (documents-written o part i))
 
-pub lot-total-entry : (route : Route) (t : Total) → bodyEntry (bodyBytes route (Body.lotEnding t)) ≡ Entry.endsLot
+pub lot-total-entry : (route : Route) (t : Total) → bodyEntry (bodyBytes route (Body.lotEnding t)) ≡ Entry.lotTotal
 unfolding entryBy
 lot-total-entry route t = ap (λ (c : Content). entryBy c (bodyBytes route (Body.lotEnding t))) (content-told route (Body.lotEnding t))
 
-pub session-total-entry : (route : Route) (t : Total) → bodyEntry (bodyBytes route (Body.sessionEnding t)) ≡ Entry.endsDirection
+pub session-total-entry : (route : Route) (t : Total) → bodyEntry (bodyBytes route (Body.sessionEnding t)) ≡ Entry.sessionTotal
 unfolding entryBy
 session-total-entry route t = ap (λ (c : Content). entryBy c (bodyBytes route (Body.sessionEnding t))) (content-told route (Body.sessionEnding t))
 
 -- the lot that the presenter's counters name is the open one of its book
-pub named-lot : (c : Counters) (t : Running) (b : Ledger) → _≡_ {A = Course} (record { counters = c; running = t }) (summary b) → openLot c t ≡ lotOf (b .current)
-named-lot c t b course = ap (λ (k : Course). openLot (k .counters) (k .running)) course ∙ go (b .current)
+pub open-lot-same : (c : Counters) (t : Running) (b : Ledger) → _≡_ {A = Course} (record { counters = c; running = t }) (summary b) → openLot c t ≡ lotOf (b .current)
+open-lot-same c t b course = ap (λ (k : Course). openLot (k .counters) (k .running)) course ∙ go (b .current)
   where
     go : (o : Option LedgerLot) → _≡_ {A = Lot} (record { number = openNumber (openOf o); gathered = runningOf o }) (lotOf o)
     go none = refl

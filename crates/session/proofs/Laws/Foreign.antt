@@ -14,38 +14,38 @@ use Rattle.message.specs.Reply.{writtenReplyBody}
 use Rattle.message.specs.Line.{message, wholeReply}
 use Rattle.message.proofs.Laws.Envelope.{serial-told, in-range}
 use Rattle.session.specs.declared.session.Session.{Session}
-use Rattle.session.specs.Parties.{outgoing, incoming}
+use Rattle.session.specs.Parties.{presentingRoute, receivingRoute}
 use Rattle.session.specs.Sending.{nextEnvelope}
 use Rattle.session.specs.Premise.{Sound}
-use Rattle.session.proofs.Laws.Line.{Foreign, message-is-none, reply-is-none, route-told}
+use Rattle.session.proofs.Laws.Line.{Foreign, message-no-reply, reply-no-message, route-told}
 
 module _ (s : Session) (sound : Sound s) where
   -- the next envelope can be written, and so can that of a reply to anything that came this way
   pub next-fits : s .presenting .serial < largestSerial → tableTakes envelopeFields (envelopeValues (nextEnvelope s)) ≡ true
   next-fits more = let p = sound .parties in in-range (nextEnvelope s) (omega (arith, p .date)) (omega (arith, p .own)) (omega (arith, p .partner)) (omega arith) (omega (arith, more))
 
-  pub reply-fits : (bytes : List ℕ) → envelopeGood Kind.Message bytes ≡ true → envelopeOf bytes .route ≡ incoming (s .parties) → tableTakes envelopeFields (envelopeValues (envelopeOf bytes)) ≡ true
+  pub reply-fits : (bytes : List ℕ) → envelopeGood Kind.Message bytes ≡ true → envelopeOf bytes .route ≡ receivingRoute (s .parties) → tableTakes envelopeFields (envelopeValues (envelopeOf bytes)) ≡ true
   reply-fits bytes good way =
       let p = sound .parties in
       let serial = serial-told Kind.Message bytes good in
       in-range (envelopeOf bytes) (omega (arith, ap (λ (r : Route). r .date) way, p .date)) (omega (arith, ap (λ (r : Route). r .presenting) way, p .partner)) (omega (arith, ap (λ (r : Route). r .receiving) way, p .own)) (serial .0) (serial .1)
 
   module _ (different : s .parties .own ≡ s .parties .partner → ⊥) where
-    other-way : outgoing (s .parties) ≡ incoming (s .parties) → ⊥
+    other-way : presentingRoute (s .parties) ≡ receivingRoute (s .parties) → ⊥
     other-way e = different (ap (λ (r : Route). r .presenting) e)
 
-    pub message-foreign : (body : List ℕ) → s .presenting .serial < largestSerial → Foreign (incoming (s .parties)) (message (nextEnvelope s) body)
+    pub message-foreign : (body : List ℕ) → s .presenting .serial < largestSerial → Foreign (receivingRoute (s .parties)) (message (nextEnvelope s) body)
     message-foreign body more =
         let bytes = message (nextEnvelope s) body in
         record {
-          no-message = λ (g : envelopeGood Kind.Message bytes ≡ true) (w : envelopeOf bytes .route ≡ incoming (s .parties)). other-way (sym (route-told Kind.Message (nextEnvelope s) body (next-fits more)) ∙ w);
-          no-reply = λ (g : envelopeGood Kind.Reply bytes ≡ true) (w : envelopeOf bytes .route ≡ incoming (s .parties)). message-is-none (nextEnvelope s) body g;
+          no-message = λ (g : envelopeGood Kind.Message bytes ≡ true) (w : envelopeOf bytes .route ≡ receivingRoute (s .parties)). other-way (sym (route-told Kind.Message (nextEnvelope s) body (next-fits more)) ∙ w);
+          no-reply = λ (g : envelopeGood Kind.Reply bytes ≡ true) (w : envelopeOf bytes .route ≡ receivingRoute (s .parties)). message-no-reply (nextEnvelope s) body g;
         }
 
-    pub reply-foreign : (bytes : List ℕ) (r : Reply) → envelopeGood Kind.Message bytes ≡ true → envelopeOf bytes .route ≡ incoming (s .parties) → Foreign (outgoing (s .parties)) (wholeReply (envelopeOf bytes) r)
+    pub reply-foreign : (bytes : List ℕ) (r : Reply) → envelopeGood Kind.Message bytes ≡ true → envelopeOf bytes .route ≡ receivingRoute (s .parties) → Foreign (presentingRoute (s .parties)) (wholeReply (envelopeOf bytes) r)
     reply-foreign bytes r good way =
         let reply = wholeReply (envelopeOf bytes) r in
         record {
-          no-message = λ (g : envelopeGood Kind.Message reply ≡ true) (w : envelopeOf reply .route ≡ outgoing (s .parties)). reply-is-none (envelopeOf bytes) r g;
-          no-reply = λ (g : envelopeGood Kind.Reply reply ≡ true) (w : envelopeOf reply .route ≡ outgoing (s .parties)). other-way (sym w ∙ route-told Kind.Reply (envelopeOf bytes) (writtenReplyBody r) (reply-fits bytes good way) ∙ way);
+          no-message = λ (g : envelopeGood Kind.Message reply ≡ true) (w : envelopeOf reply .route ≡ presentingRoute (s .parties)). reply-no-message (envelopeOf bytes) r g;
+          no-reply = λ (g : envelopeGood Kind.Reply reply ≡ true) (w : envelopeOf reply .route ≡ presentingRoute (s .parties)). other-way (sym w ∙ route-told Kind.Reply (envelopeOf bytes) (writtenReplyBody r) (reply-fits bytes good way) ∙ way);
         }

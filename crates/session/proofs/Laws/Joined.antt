@@ -19,7 +19,7 @@ use Rattle.session.specs.Course.{Course}
 use Rattle.session.specs.Receiving.{acceptedLots}
 use Rattle.session.specs.Ledger.{LedgerLot, Ledger, Entry, enter, lotSum, numbers, Distinct}
 use Rattle.session.specs.Ends.{Event, Written}
-use Rattle.session.specs.Books.{PresenterBook, ReceiverBook}
+use Rattle.session.specs.Entering.{Confirming, Counting}
 use Rattle.session.proofs.Laws.Ledger.{summary, effectOf}
 use Rattle.session.proofs.Laws.Line.{accepts, MessageFact, ReplyFact, Foreign}
 use Rattle.session.proofs.Laws.Lists.{upTo}
@@ -27,13 +27,13 @@ use Rattle.session.proofs.Laws.Lists.{upTo}
 -- what waits, as the presenter's state has it; what is no message never does
 abbrev pub waitingEffect : Option Entry → Ledger → Effect
 waitingEffect none b = Effect.Nothing
-waitingEffect (some (Entry.opens number)) b = effectOf (Entry.opens number) b
-waitingEffect (some (Entry.adds ds)) b = effectOf (Entry.adds ds) b
-waitingEffect (some Entry.endsLot) b = effectOf Entry.endsLot b
-waitingEffect (some Entry.endsDirection) b = Effect.SessionTotal
-waitingEffect (some Entry.nothing) b = Effect.Detail empty
+waitingEffect (some (Entry.header number)) b = effectOf (Entry.header number) b
+waitingEffect (some (Entry.detail ds)) b = effectOf (Entry.detail ds) b
+waitingEffect (some Entry.lotTotal) b = effectOf Entry.lotTotal b
+waitingEffect (some Entry.sessionTotal) b = Effect.SessionTotal
+waitingEffect (some Entry.unknown) b = Effect.Detail empty
 
-pub record PresenterSide (p : Presenting) (t : Running) (b : PresenterBook) : Type 0 where
+pub record PresenterSide (p : Presenting) (t : Running) (b : Confirming) : Type 0 where
   pub course : _≡_ {A = Course} (record { counters = p .counters; running = t }) (summary (b .ledger))
   pub pending : p .pending ≡ waitingEffect (b .waiting) (b .ledger)
   pub once : Distinct (numbers (b .ledger .lots))
@@ -61,7 +61,7 @@ pub data Link (p : Presenting) (r : Receiving) (waiting : Option Entry) (confirm
   sent : (e : Entry) → waiting ≡ some e → p .serial ≡ suc (r .serial) → confirming ≡ counting → Link p r waiting confirming counting
   taken : (e : Entry) → waiting ≡ some e → p .serial ≡ r .serial → counting ≡ enter e (accepts (r .reply .code)) confirming → Link p r waiting confirming counting
 
-pub record Joined (route : Route) (p : Presenting) (pt : Running) (r : Receiving) (rt : Running) (bp : PresenterBook) (br : ReceiverBook) (trace : List Event) : Type 0 where
+pub record Joined (route : Route) (p : Presenting) (pt : Running) (r : Receiving) (rt : Running) (bp : Confirming) (br : Counting) (trace : List Event) : Type 0 where
   pub presenter : PresenterSide p pt bp
   pub receiver : Mirrored r rt (br .ledger)
   pub seen : Seen (r .serial) (br .serials)
@@ -69,7 +69,7 @@ pub record Joined (route : Route) (p : Presenting) (pt : Running) (r : Receiving
   pub messages : (bytes : List ℕ) → Written bytes trace → MessageFact route (p .serial) (bp .waiting) bytes
   pub replies : (bytes : List ℕ) → Written bytes trace → ReplyFact route (r .serial) (r .reply .code) bytes
 
-module _ (route : Route) (p : Presenting) (pt : Running) (r : Receiving) (rt : Running) (bp : PresenterBook) (br : ReceiverBook) (trace : List Event) (j : Joined route p pt r rt bp br trace) where
+module _ (route : Route) (p : Presenting) (pt : Running) (r : Receiving) (rt : Running) (bp : Confirming) (br : Counting) (trace : List Event) (j : Joined route p pt r rt bp br trace) where
   -- a call that writes nothing of this direction
   pub passed-by : (e : Event) → (e .said .number ≡ 0 → Foreign route (e .said .bytes)) → Joined route p pt r rt bp br (e ∷ trace)
   passed-by e foreign =

@@ -55,37 +55,37 @@ lotOf (some l) = lotSum l
 
 -- what an entry does to the counters of a ledger
 abbrev pub effectOf : Entry → Ledger → Effect
-effectOf (Entry.opens number) b = Effect.Header number
-effectOf (Entry.adds ds) b = Effect.Detail (sum ds)
-effectOf Entry.endsLot b = Effect.LotTotal (lotOf (b .current))
-effectOf Entry.endsDirection b = Effect.SessionTotal
-effectOf Entry.nothing b = Effect.Nothing
+effectOf (Entry.header number) b = Effect.Header number
+effectOf (Entry.detail ds) b = Effect.Detail (sum ds)
+effectOf Entry.lotTotal b = Effect.LotTotal (lotOf (b .current))
+effectOf Entry.sessionTotal b = Effect.SessionTotal
+effectOf Entry.unknown b = Effect.Nothing
 
 -- an entry that is accepted into an open lot finds one
 abbrev pub Finds : Entry → OpenLot → Type 0
-Finds (Entry.opens number) lot = Unit {0}
-Finds (Entry.adds ds) lot = isOpen lot ≡ true
-Finds Entry.endsLot lot = isOpen lot ≡ true
-Finds Entry.endsDirection lot = Unit {0}
-Finds Entry.nothing lot = Unit {0}
+Finds (Entry.header number) lot = Unit {0}
+Finds (Entry.detail ds) lot = isOpen lot ≡ true
+Finds Entry.lotTotal lot = isOpen lot ≡ true
+Finds Entry.sessionTotal lot = Unit {0}
+Finds Entry.unknown lot = Unit {0}
 
 -- counters move as the ledger does
 pub mirrors : (e : Entry) (accepted : Bool) (b : Ledger) → (accepted ≡ true → Finds e (openOf (b .current))) → advance (effectOf e b) accepted (summary b) ≡ summary (enter e accepted b)
 unfolding advance enter sum
-mirrors (Entry.opens number) true b h = refl
-mirrors (Entry.opens number) false b h = refl
-mirrors (Entry.adds ds) false b h = refl
-mirrors (Entry.adds ds) true b h = go (b .current) (h refl)
+mirrors (Entry.header number) true b h = refl
+mirrors (Entry.header number) false b h = refl
+mirrors (Entry.detail ds) false b h = refl
+mirrors (Entry.detail ds) true b h = go (b .current) (h refl)
   where
-    go : (current : Option LedgerLot) → isOpen (openOf current) ≡ true → advance (Effect.Detail (sum ds)) true (summary (record { lots = b .lots; current = current })) ≡ summary (enter (Entry.adds ds) true (record { lots = b .lots; current = current }))
+    go : (current : Option LedgerLot) → isOpen (openOf current) ≡ true → advance (Effect.Detail (sum ds)) true (summary (record { lots = b .lots; current = current })) ≡ summary (enter (Entry.detail ds) true (record { lots = b .lots; current = current }))
     go none e = absurd (false≢true e)
     go (some l) e = λ i. record { counters = summary (record { lots = b .lots; current = some l }) .counters; running = sym (sum-append (l .documents) ds) i }
-mirrors Entry.endsLot false b h = refl
-mirrors Entry.endsLot true b h = go (b .current) (h refl)
+mirrors Entry.lotTotal false b h = refl
+mirrors Entry.lotTotal true b h = go (b .current) (h refl)
   where
-    go : (current : Option LedgerLot) → isOpen (openOf current) ≡ true → advance (Effect.LotTotal (lotOf current)) true (summary (record { lots = b .lots; current = current })) ≡ summary (enter Entry.endsLot true (record { lots = b .lots; current = current }))
+    go : (current : Option LedgerLot) → isOpen (openOf current) ≡ true → advance (Effect.LotTotal (lotOf current)) true (summary (record { lots = b .lots; current = current })) ≡ summary (enter Entry.lotTotal true (record { lots = b .lots; current = current }))
     go none e = absurd (false≢true e)
     go (some l) e =
         λ i. record { counters = record { current = OpenLot.None; lots = sym (one-longer (b .lots) l) i; gathered = sym (lots-last (b .lots) l) i }; running = empty }
-mirrors Entry.endsDirection accepted b h = refl
-mirrors Entry.nothing accepted b h = refl
+mirrors Entry.sessionTotal accepted b h = refl
+mirrors Entry.unknown accepted b h = refl

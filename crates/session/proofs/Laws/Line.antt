@@ -50,13 +50,13 @@ isReply Kind.Message = false
 isReply Kind.Reply = true
 
 -- a message is no reply, and a reply no message, whatever its route
-pub message-is-none : (e : Envelope) (body : List ℕ) → envelopeGood Kind.Reply (message e body) ≡ true → ⊥
+pub message-no-reply : (e : Envelope) (body : List ℕ) → envelopeGood Kind.Reply (message e body) ≡ true → ⊥
 unfolding isReply
-message-is-none e body g = true≢false (ap isReply (kind-told Kind.Message Kind.Reply e body g))
+message-no-reply e body g = true≢false (ap isReply (kind-told Kind.Message Kind.Reply e body g))
 
-pub reply-is-none : (e : Envelope) (r : Reply) → envelopeGood Kind.Message (wholeReply e r) ≡ true → ⊥
+pub reply-no-message : (e : Envelope) (r : Reply) → envelopeGood Kind.Message (wholeReply e r) ≡ true → ⊥
 unfolding isReply
-reply-is-none e r g = false≢true (ap isReply (kind-told Kind.Reply Kind.Message e (writtenReplyBody r) g))
+reply-no-message e r g = false≢true (ap isReply (kind-told Kind.Reply Kind.Message e (writtenReplyBody r) g))
 
 -- nothing written is nobody's
 pub nothing-foreign : (route : Route) → Foreign route []

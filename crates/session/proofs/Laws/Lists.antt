@@ -44,10 +44,10 @@ sums-last [] l = refl
 sums-last (x ∷ ls) l = ap (λ (ms : List Lot). lotSum x ∷ ms) (sums-last ls l)
 
 -- a number that no accepted lot has
-pub number-free : (n : ℕ) (ls : List LedgerLot) → numberUsed n (map lotSum ls) ≡ member n (numbers ls)
+pub number-used : (n : ℕ) (ls : List LedgerLot) → numberUsed n (map lotSum ls) ≡ member n (numbers ls)
 unfolding anyOf member
-number-free n [] = refl
-number-free n (l ∷ ls) = ap (λ (t : Bool). eqb n (l .number) || t) (number-free n ls)
+number-used n [] = refl
+number-used n (l ∷ ls) = ap (λ (t : Bool). eqb n (l .number) || t) (number-used n ls)
 
 -- serials up to a last one
 abbrev pub upTo : ℕ → List ℕ → Bool

@@ -21,7 +21,7 @@ use Rattle.session.specs.declared.effect.Effect.{Effect}
 use Rattle.session.specs.declared.parties.Parties.{Parties}
 use Rattle.session.specs.declared.session.Receiving.{Receiving}
 use Rattle.session.specs.Hours.{receiverLate}
-use Rattle.session.specs.Parties.{incoming}
+use Rattle.session.specs.Parties.{receivingRoute}
 use Rattle.session.specs.Running.{Running}
 use Rattle.session.specs.Course.{Course, advance, kept}
 use Rattle.session.specs.Sequence.{isOpen, headerSequence}
@@ -31,7 +31,7 @@ use Rattle.session.specs.Ledger.{Document, LedgerLot, Ledger, Entry, lon
 use Rattle.session.proofs.Laws.Refusals.{passed}
 use Rattle.session.proofs.Laws.Allowed.{Allowed}
 use Rattle.session.proofs.Laws.Ledger.{summary, openOf, runningOf, effectOf, lotOf, detail-sum, mirrors}
-use Rattle.session.proofs.Laws.Lists.{distinct-last, numbers-last, sums-last, number-free}
+use Rattle.session.proofs.Laws.Lists.{distinct-last, numbers-last, sums-last, number-used}
 use Rattle.session.proofs.Laws.Joined.{NewNumber, Mirrored}
 
 -- the lot that an accepted total ends is the open one of the book
@@ -77,11 +77,11 @@ module _ (r : Receiving) (t : Running) (b : Ledger) (m : Mirrored r t b) where
     pub free-header : (time : ℕ) (p : Parties) (c : Content) → codeBy c time body p t r ≡ 0 → FreeHeader c
     unfolding codeBy headerCode
     free-header time p Content.Header e =
-        let read = none-both (bodyCode (header (incoming p)) body) _ e in
+        let read = none-both (bodyCode (header (receivingRoute p)) body) _ e in
         let place = none-both (headerSequence (r .ended) (r .counters .current)) _ (read .1) in
         let late = passed 10 (receiverLate time) _ (lit< tt) (place .1) in
         let new = passed 4 (numberUsed (headerOf body .number) (acceptedLots r)) _ (lit< tt) (late .1) in
-        sym (ap (numberUsed (headerOf body .number)) (m .kept) ∙ number-free (headerOf body .number) (b .lots)) ∙ new .0
+        sym (ap (numberUsed (headerOf body .number)) (m .kept) ∙ number-used (headerOf body .number) (b .lots)) ∙ new .0
     free-header time p Content.Detail e = tt
     free-header time p Content.LotTotal e = tt
     free-header time p Content.SessionTotal e = tt
@@ -90,15 +90,15 @@ module _ (r : Receiving) (t : Running) (b : Ledger) (m : Mirrored r t b) where
     -- the counters
     pub course-mirrors : (c : Content) (accepted : Bool) → (accepted ≡ true → Allowed (effectBy c body t) course) → advance (effectBy c body t) accepted course ≡ summary (enter (entryBy c body) accepted b)
     unfolding effectBy entryBy advance enter
-    course-mirrors Content.Header accepted a = let e = Entry.opens (headerOf body .number) in ap (advance (effectOf e b) accepted) (m .course) ∙ mirrors e accepted b (λ (h : accepted ≡ true). tt)
+    course-mirrors Content.Header accepted a = let e = Entry.header (headerOf body .number) in ap (advance (effectOf e b) accepted) (m .course) ∙ mirrors e accepted b (λ (h : accepted ≡ true). tt)
     course-mirrors Content.Detail accepted a =
-        let e = Entry.adds (ofOperation (operationOf body) (documents body)) in
+        let e = Entry.detail (ofOperation (operationOf body) (documents body)) in
         (λ i. advance (Effect.Detail (sym (detail-sum (operationOf body) (documents body)) i)) accepted (m .course i))
         ∙ mirrors e accepted b (λ (h : accepted ≡ true). subst (λ (lot : OpenLot). isOpen lot ≡ true) open-same (a h .sound))
     course-mirrors Content.LotTotal true a =
         let last = ended (totalOf lotTotalFields body .number) (a refl .sound) in
         (λ i. advance (Effect.LotTotal ((last .same ∙ sym (ap lotOf (last .current))) i)) true (m .course i))
-        ∙ mirrors Entry.endsLot true b (λ (h : true ≡ true). subst (λ (lot : OpenLot). isOpen lot ≡ true) (sym (ap openOf (last .current))) refl)
+        ∙ mirrors Entry.lotTotal true b (λ (h : true ≡ true). subst (λ (lot : OpenLot). isOpen lot ≡ true) (sym (ap openOf (last .current))) refl)
     course-mirrors Content.LotTotal false a = ap (advance (Effect.LotTotal (lotOf (b .current))) false) (m .course)
     course-mirrors Content.SessionTotal accepted a = m .course
     course-mirrors Content.Unknown accepted a = m .course

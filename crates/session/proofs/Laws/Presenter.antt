@@ -30,39 +30,39 @@ use Rattle.message.proofs.Laws.Envelope.{body-told, whole-length}
 use Rattle.session.specs.declared.effect.Effect.{Effect}
 use Rattle.session.specs.declared.session.Presenting.{Presenting}
 use Rattle.session.specs.declared.session.Receiving.{Receiving}
-use Rattle.session.specs.Parties.{outgoing}
+use Rattle.session.specs.Parties.{presentingRoute}
 use Rattle.session.specs.Running.{Running}
 use Rattle.session.specs.Course.{Course, advance}
 use Rattle.session.specs.Sequence.{isOpen}
-use Rattle.session.specs.Call.{Held, Outcome, clockRefusal, silent}
+use Rattle.session.specs.Outcome.{Held, Outcome, clockRefusal, silent}
 use Rattle.session.specs.Sending.{posted, isPending, nextEnvelope, sendRefusal, sent, send, headerStop, detailStop, lotTotalStop, sessionTotalStop, partAdds, sendHeader, sendDetail, sendLotTotal, sendSessionTotal}
-use Rattle.session.specs.Receiving.{serialOf, isNext, receiveRefusal, receive, handled, repeated, answered}
+use Rattle.session.specs.Receiving.{serialOf, isNext, receiveRefusal, receive, afterNew, afterRepeat, replying}
 use Rattle.session.specs.Reply.{isAccepted, replyRefusal, replied, takeReply}
 use Rattle.session.specs.Clock.{ticked, clock}
 use Rattle.session.specs.Premise.{Direction, PendingSound}
 use Rattle.session.specs.Ledger.{Entry, Ledger, enter, bodyEntry, partEntry, numbers, Distinct}
 use Rattle.session.specs.Engine.{Call, Engine, saidBy, meaning, lent, perform}
 use Rattle.session.specs.Ends.{End, Event, Written, Brought}
-use Rattle.session.specs.Books.{PresenterBook, ReceiverBook, waitingFor, enterWaiting, answeredWith, presents}
+use Rattle.session.specs.Entering.{Confirming, Counting, waitingFor, enterWaiting, answeredWith, presents}
 use Rattle.session.specs.Claim.{Ready}
-use Rattle.session.proofs.Laws.Call.{either, first-bytes}
+use Rattle.session.proofs.Laws.Decided.{either, first-bytes}
 use Rattle.session.proofs.Laws.Refusals.{passed, SendTold, send-told, ReceiveTold, receive-told, ReplyTold, reply-told}
 use Rattle.session.proofs.Laws.Ledger.{summary, openOf, Finds, effectOf, detail-sum, mirrors}
-use Rattle.session.proofs.Laws.Line.{accepts, MessageFact, ReplyFact, Foreign, message-is-none, nothing-foreign, serial-read}
+use Rattle.session.proofs.Laws.Line.{accepts, MessageFact, ReplyFact, Foreign, message-no-reply, nothing-foreign, serial-read}
 use Rattle.session.proofs.Laws.Joined.{waitingEffect, Link, Joined, passed-by, refused-by, not-entered}
 use Rattle.session.proofs.Laws.Foreign.{next-fits, reply-foreign}
-use Rattle.session.proofs.Laws.Entries.{header-entry, detail-entry, lot-total-entry, session-total-entry, named-lot}
+use Rattle.session.proofs.Laws.Entries.{header-entry, detail-entry, lot-total-entry, session-total-entry, open-lot-same}
 
 pending-some : (e : Entry) (b : Ledger) → isPending (waitingEffect (some e) b) ≡ true
-pending-some (Entry.opens number) b = refl
-pending-some (Entry.adds ds) b = refl
-pending-some Entry.endsLot b = refl
-pending-some Entry.endsDirection b = refl
-pending-some Entry.nothing b = refl
+pending-some (Entry.header number) b = refl
+pending-some (Entry.detail ds) b = refl
+pending-some Entry.lotTotal b = refl
+pending-some Entry.sessionTotal b = refl
+pending-some Entry.unknown b = refl
 
-module _ (x : End) (e : Engine) (ready : Ready e) (different : e .session .parties .own ≡ e .session .parties .partner → ⊥) (r : Receiving) (rt : Running) (bp : PresenterBook) (br : ReceiverBook) (trace : List Event) where
+module _ (x : End) (e : Engine) (ready : Ready e) (different : e .session .parties .own ≡ e .session .parties .partner → ⊥) (r : Receiving) (rt : Running) (bp : Confirming) (br : Counting) (trace : List Event) where
   abbrev route : Route
-  route = outgoing (e .session .parties)
+  route = presentingRoute (e .session .parties)
 
   abbrev p : Presenting
   p = e .session .presenting
@@ -80,7 +80,7 @@ module _ (x : End) (e : Engine) (ready : Ready e) (different : e .session .parti
     After call t o = Joined route (o .left .session .presenting) t r rt (cond (eqb (o .number) 0) (presents call bp) bp) br (record { at = x; call = call; said = saidBy o } ∷ trace)
 
     refused-after : (call : Call) (k : ℕ) → Joined route p pt r rt (cond (eqb (suc k) 0) (presents call bp) bp) br (record { at = x; call = call; said = record { number = suc k; bytes = [] } } ∷ trace)
-    refused-after call k = subst (λ (b : PresenterBook). Joined route p pt r rt b br (record { at = x; call = call; said = record { number = suc k; bytes = [] } } ∷ trace)) (sym (not-entered k (presents call bp) bp)) (refused-by route p pt r rt bp br trace j (record { at = x; call = call; said = record { number = suc k; bytes = [] } }) k refl)
+    refused-after call k = subst (λ (b : Confirming). Joined route p pt r rt b br (record { at = x; call = call; said = record { number = suc k; bytes = [] } } ∷ trace)) (sym (not-entered k (presents call bp) bp)) (refused-by route p pt r rt bp br trace j (record { at = x; call = call; said = record { number = suc k; bytes = [] } }) k refl)
 
     module _ (call : Call) (time code : ℕ) (effect : Effect) (body line : List ℕ) (entry : Entry) where
       abbrev h : Held
@@ -125,7 +125,7 @@ module _ (x : End) (e : Engine) (ready : Ready e) (different : e .session .parti
               (omega (arith, old), λ (d : Entry) (s : serialOf b ≡ suc (p .serial)) (same : some entry ≡ some d). absurd (omega (arith, old, s)))
 
           all-replies : (b : List ℕ) → Written b (event ∷ trace) → ReplyFact route (r .serial) (r .reply .code) b
-          all-replies b (inl w) = subst (ReplyFact route (r .serial) (r .reply .code)) (w .1) (λ (g : envelopeGood Kind.Reply bytes ≡ true) (way : envelopeOf bytes .route ≡ route). absurd (message-is-none (nextEnvelope (e .session)) body g))
+          all-replies b (inl w) = subst (ReplyFact route (r .serial) (r .reply .code)) (w .1) (λ (g : envelopeGood Kind.Reply bytes ≡ true) (way : envelopeOf bytes .route ≡ route). absurd (message-no-reply (nextEnvelope (e .session)) body g))
           all-replies b (inr w) = j .replies b w
 
       -- so for every send, if its code lets nothing else pass
@@ -138,7 +138,7 @@ module _ (x : End) (e : Engine) (ready : Ready e) (different : e .session .parti
           let told = send-told time code bytes h z in
           let fit = fits (told .unstopped) in
           subst (λ (w : List ℕ). Joined route (sent time effect (e .session) .presenting) pt r rt (presents call bp) br (record { at = x; call = call; said = record { number = 0; bytes = w } } ∷ trace)) (sym (first-bytes bytes line (told .room)))
-          (subst (λ (b : PresenterBook). Joined route (sent time effect (e .session) .presenting) pt r rt b br (event ∷ trace)) (sym books) (sent-joined told (fit .0) (fit .1))))
+          (subst (λ (b : Confirming). Joined route (sent time effect (e .session) .presenting) pt r rt b br (event ∷ trace)) (sym books) (sent-joined told (fit .0) (fit .1))))
 
     -- a reply enters what waits, with the code that the receiver kept
     module _ (time : ℕ) (bytes line : List ℕ) where
@@ -152,11 +152,11 @@ module _ (x : End) (e : Engine) (ready : Ready e) (different : e .session .parti
           same-open = ap (λ (k : Course). k .counters .current) (j .presenter .course)
 
           go : (d : Entry) → PendingSound (waitingEffect (some d) (bp .ledger)) (p .counters) → Finds d (openOf (bp .ledger .current))
-          go (Entry.opens number) s = tt
-          go (Entry.adds ds) s = sym (ap isOpen same-open) ∙ s
-          go Entry.endsLot s = sym (ap isOpen same-open) ∙ ap isOpen s
-          go Entry.endsDirection s = tt
-          go Entry.nothing s = tt
+          go (Entry.header number) s = tt
+          go (Entry.detail ds) s = sym (ap isOpen same-open) ∙ s
+          go Entry.lotTotal s = sym (ap isOpen same-open) ∙ ap isOpen s
+          go Entry.sessionTotal s = tt
+          go Entry.unknown s = tt
 
       entered : (d : Entry) (accepted : Bool) → bp .waiting ≡ some d → advance (p .pending) accepted (record { counters = p .counters; running = pt }) ≡ summary (enter d accepted (bp .ledger))
       unfolding advance enter
@@ -164,12 +164,12 @@ module _ (x : End) (e : Engine) (ready : Ready e) (different : e .session .parti
           (λ i. advance ((pending-is d w) i) accepted (j .presenter .course i)) ∙ same d accepted (mirrors d accepted (bp .ledger) (λ (h : accepted ≡ true). finds d w))
         where
           same : (d : Entry) (accepted : Bool) → advance (effectOf d (bp .ledger)) accepted (summary (bp .ledger)) ≡ summary (enter d accepted (bp .ledger)) → advance (waitingEffect (some d) (bp .ledger)) accepted (summary (bp .ledger)) ≡ summary (enter d accepted (bp .ledger))
-          same (Entry.opens number) accepted h = h
-          same (Entry.adds ds) accepted h = h
-          same Entry.endsLot accepted h = h
-          same Entry.endsDirection accepted h = h
-          same Entry.nothing true h = λ i. record { counters = summary (bp .ledger) .counters; running = plus-zeros (summary (bp .ledger) .running) i }
-          same Entry.nothing false h = refl
+          same (Entry.header number) accepted h = h
+          same (Entry.detail ds) accepted h = h
+          same Entry.lotTotal accepted h = h
+          same Entry.sessionTotal accepted h = h
+          same Entry.unknown true h = λ i. record { counters = summary (bp .ledger) .counters; running = plus-zeros (summary (bp .ledger) .running) i }
+          same Entry.unknown false h = refl
 
       replied-joined : Written bytes trace → ReplyTold bytes (e .session) → Joined route (replied time (isAccepted bytes) replyHeld .session .presenting) (replied time (isAccepted bytes) replyHeld .running) r rt (answeredWith (isAccepted bytes) bp) br trace
       replied-joined brought told = go (j .link)
@@ -202,33 +202,33 @@ module _ (x : End) (e : Engine) (ready : Ready e) (different : e .session .parti
           passed-by route _ _ r rt _ br trace (replied-joined brought (reply-told time bytes (e .session) z)) _ (λ (n : 0 ≡ 0). nothing-foreign route))
 
     -- what arrives here is of the other direction
-    foreign-reply : (time : ℕ) (bytes line : List ℕ) (reply : Reply) → ReceiveTold bytes (lent Direction.receiving line e) → Joined route p pt r rt bp br (record { at = x; call = Call.message time bytes; said = record { number = 0; bytes = take (length (wholeReply (envelopeOf bytes) reply)) (sets line 0 (wholeReply (envelopeOf bytes) reply)) } } ∷ trace)
+    foreign-reply : (time : ℕ) (bytes line : List ℕ) (reply : Reply) → ReceiveTold bytes (lent Direction.receiving line e) → Joined route p pt r rt bp br (record { at = x; call = Call.receive time bytes; said = record { number = 0; bytes = take (length (wholeReply (envelopeOf bytes) reply)) (sets line 0 (wholeReply (envelopeOf bytes) reply)) } } ∷ trace)
     foreign-reply time bytes line reply told =
         let whole = wholeReply (envelopeOf bytes) reply in
         let room : length whole ≤ length line = omega (arith, told .room, whole-length Kind.Reply (envelopeOf bytes) (writtenReplyBody reply)) in
         passed-by route p pt r rt bp br trace j _ (λ (n : 0 ≡ 0). subst (Foreign route) (sym (first-bytes whole line room)) (reply-foreign (e .session) (ready .sound) different bytes reply (told .good) (told .way)))
 
-    message-after : (time : ℕ) (bytes line : List ℕ) → After (Call.message time bytes) pt (receive time bytes (lent Direction.receiving line e))
+    message-after : (time : ℕ) (bytes line : List ℕ) → After (Call.receive time bytes) pt (receive time bytes (lent Direction.receiving line e))
     unfolding receive
     message-after time bytes line =
         let h = lent Direction.receiving line e in
-        either (After (Call.message time bytes) pt) (receiveRefusal time bytes h) h _
-        (λ (k : ℕ). refused-after (Call.message time bytes) k)
+        either (After (Call.receive time bytes) pt) (receiveRefusal time bytes h) h _
+        (λ (k : ℕ). refused-after (Call.receive time bytes) k)
         (λ (z : receiveRefusal time bytes h ≡ 0). go (isNext bytes (e .session .receiving)) (receive-told time bytes h z))
       where
-        go : (t : Bool) → ReceiveTold bytes (lent Direction.receiving line e) → After (Call.message time bytes) pt (answered bytes (cond t (handled time (bodyOf bytes) (lent Direction.receiving line e)) (repeated time (lent Direction.receiving line e))))
+        go : (t : Bool) → ReceiveTold bytes (lent Direction.receiving line e) → After (Call.receive time bytes) pt (replying bytes (cond t (afterNew time (bodyOf bytes) (lent Direction.receiving line e)) (afterRepeat time (lent Direction.receiving line e))))
         go true told = foreign-reply time bytes line _ told
         go false told = foreign-reply time bytes line _ told
 
-    tick-after : (time : ℕ) (line : List ℕ) → After (Call.tick time) (clock time (lent Direction.presenting line e) .left .running) (clock time (lent Direction.presenting line e))
+    tick-after : (time : ℕ) (line : List ℕ) → After (Call.clock time) (clock time (lent Direction.presenting line e) .left .running) (clock time (lent Direction.presenting line e))
     unfolding clock
     tick-after time line =
-        either (λ (o : Outcome). After (Call.tick time) (o .left .running) o) (clockRefusal time (e .session)) (lent Direction.presenting line e) (silent (record { session = ticked time (e .session); running = pt; line = line }))
-        (λ (k : ℕ). refused-after (Call.tick time) k)
+        either (λ (o : Outcome). After (Call.clock time) (o .left .running) o) (clockRefusal time (e .session)) (lent Direction.presenting line e) (silent (record { session = ticked time (e .session); running = pt; line = line }))
+        (λ (k : ℕ). refused-after (Call.clock time) k)
         (λ (z : clockRefusal time (e .session) ≡ 0). passed-by route p pt r rt bp br trace j _ (λ (n : 0 ≡ 0). nothing-foreign route))
 
     -- what a presenter's own code lets pass is a message that its receiver reads as it was meant
-    header-fits : (time moment centre number : ℕ) → headerStop time moment centre number p ≡ 0 → (Effect.Header number ≡ waitingEffect (some (Entry.opens number)) (bp .ledger)) × (bodyEntry (bodyBytes route (Body.opening (record { time = moment; centre = centre; number = number }))) ≡ Entry.opens number)
+    header-fits : (time moment centre number : ℕ) → headerStop time moment centre number p ≡ 0 → (Effect.Header number ≡ waitingEffect (some (Entry.header number)) (bp .ledger)) × (bodyEntry (bodyBytes route (Body.opening (record { time = moment; centre = centre; number = number }))) ≡ Entry.header number)
     unfolding headerStop
     header-fits time moment centre number z =
         let s = ready .sound .parties in
@@ -243,11 +243,11 @@ module _ (x : End) (e : Engine) (ready : Ready e) (different : e .session .parti
 
     pub presenter-step : (call : Call) (line : List ℕ) → Brought call trace → let d = perform call line e in Joined route (d .engine .session .presenting) (d .engine .presenting) r rt (cond (eqb (d .said .number) 0) (presents call bp) bp) br (record { at = x; call = call; said = d .said } ∷ trace)
     unfolding perform meaning sendHeader sendDetail sendLotTotal sendSessionTotal
-    presenter-step (Call.header time moment centre number) line brought = send-after (Call.header time moment centre number) time _ _ _ line (Entry.opens number) refl (header-fits time moment centre number)
+    presenter-step (Call.header time moment centre number) line brought = send-after (Call.header time moment centre number) time _ _ _ line (Entry.header number) refl (header-fits time moment centre number)
     presenter-step (Call.detail time operation part) line brought = send-after (Call.detail time operation part) time _ _ _ line (partEntry operation part) refl (detail-fits operation part)
-    presenter-step (Call.lotTotal time) line brought = send-after (Call.lotTotal time) time _ _ _ line Entry.endsLot refl (λ (z : lotTotalStop p ≡ 0). (ap Effect.LotTotal (named-lot (p .counters) pt (bp .ledger) (j .presenter .course)), lot-total-entry route _))
-    presenter-step (Call.sessionTotal time) line brought = send-after (Call.sessionTotal time) time _ _ _ line Entry.endsDirection refl (λ (z : sessionTotalStop p ≡ 0). (refl, session-total-entry route _))
-    presenter-step (Call.message time bytes) line brought = message-after time bytes line
+    presenter-step (Call.lotTotal time) line brought = send-after (Call.lotTotal time) time _ _ _ line Entry.lotTotal refl (λ (z : lotTotalStop p ≡ 0). (ap Effect.LotTotal (open-lot-same (p .counters) pt (bp .ledger) (j .presenter .course)), lot-total-entry route _))
+    presenter-step (Call.sessionTotal time) line brought = send-after (Call.sessionTotal time) time _ _ _ line Entry.sessionTotal refl (λ (z : sessionTotalStop p ≡ 0). (refl, session-total-entry route _))
+    presenter-step (Call.receive time bytes) line brought = message-after time bytes line
     presenter-step (Call.reply time bytes) line brought = reply-after time bytes line brought
-    presenter-step (Call.tick time) line brought = tick-after time line
+    presenter-step (Call.clock time) line brought = tick-after time line
     presenter-step Call.report line brought = passed-by route p pt r rt bp br trace j _ (λ (n : 0 ≡ 0). nothing-foreign route)

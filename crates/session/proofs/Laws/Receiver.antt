@@ -24,24 +24,24 @@ use Rattle.session.specs.declared.effect.Effect.{Effect}
 use Rattle.session.specs.declared.session.Presenting.{Presenting}
 use Rattle.session.specs.declared.session.Receiving.{Receiving}
 use Rattle.session.specs.Limits.{mostLots}
-use Rattle.session.specs.Parties.{incoming}
+use Rattle.session.specs.Parties.{receivingRoute}
 use Rattle.session.specs.Running.{Running}
 use Rattle.session.specs.Sequence.{isOpen}
-use Rattle.session.specs.Call.{Held, Outcome, clockRefusal}
+use Rattle.session.specs.Outcome.{Held, Outcome, clockRefusal}
 use Rattle.session.specs.Sending.{nextEnvelope, sendRefusal, send, sendHeader, sendDetail, sendLotTotal, sendSessionTotal}
-use Rattle.session.specs.Receiving.{serialOf, isNext, isLast, codeFor, effectBy, courseAfter, taken, receiveRefusal, receive, handled, repeated, answered}
+use Rattle.session.specs.Receiving.{serialOf, isNext, isLast, codeFor, effectBy, receivingCourse, receivingAfter, receiveRefusal, receive, afterNew, afterRepeat, replying}
 use Rattle.session.specs.Reply.{isAccepted, replyRefusal, takeReply}
 use Rattle.session.specs.Clock.{clock}
 use Rattle.session.specs.Premise.{Direction, OpenSound}
 use Rattle.session.specs.Ledger.{enter, bodyEntry}
 use Rattle.session.specs.Engine.{Call, Engine, saidBy, meaning, lent, perform}
 use Rattle.session.specs.Ends.{End, Event, Written, Brought}
-use Rattle.session.specs.Books.{PresenterBook, ReceiverBook, received, receives}
+use Rattle.session.specs.Entering.{Confirming, Counting, received, receives}
 use Rattle.session.specs.Claim.{Ready}
-use Rattle.session.proofs.Laws.Call.{either, first-bytes}
+use Rattle.session.proofs.Laws.Decided.{either, first-bytes}
 use Rattle.session.proofs.Laws.Refusals.{send-told, ReceiveTold, receive-told}
 use Rattle.session.proofs.Laws.Allowed.{Allowed, received-allowed}
-use Rattle.session.proofs.Laws.Line.{accepts, MessageFact, ReplyFact, Foreign, reply-is-none, nothing-foreign, serial-read, code-read}
+use Rattle.session.proofs.Laws.Line.{accepts, MessageFact, ReplyFact, Foreign, reply-no-message, nothing-foreign, serial-read, code-read}
 use Rattle.session.proofs.Laws.Lists.{next-unseen, up-to-next}
 use Rattle.session.proofs.Laws.Joined.{Mirrored, Link, Joined, passed-by, refused-by, not-entered}
 use Rattle.session.proofs.Laws.Mirror.{course-mirrors, lots-mirror, numbers-mirror, free-header}
@@ -52,9 +52,9 @@ has-room : (lot : OpenLot) (lots : ℕ) → OpenSound lot lots → isOpen lot �
 has-room OpenLot.None lots s e = absurd (false≢true e)
 has-room (OpenLot.Numbered n) lots s e = s .1
 
-module _ (x : End) (e : Engine) (ready : Ready e) (different : e .session .parties .own ≡ e .session .parties .partner → ⊥) (p : Presenting) (pt : Running) (bp : PresenterBook) (br : ReceiverBook) (trace : List Event) where
+module _ (x : End) (e : Engine) (ready : Ready e) (different : e .session .parties .own ≡ e .session .parties .partner → ⊥) (p : Presenting) (pt : Running) (bp : Confirming) (br : Counting) (trace : List Event) where
   abbrev route : Route
-  route = incoming (e .session .parties)
+  route = receivingRoute (e .session .parties)
 
   abbrev r : Receiving
   r = e .session .receiving
@@ -67,7 +67,7 @@ module _ (x : End) (e : Engine) (ready : Ready e) (different : e .session .parti
     After call t o = Joined route p pt (o .left .session .receiving) t bp (cond (eqb (o .number) 0) (receives call (saidBy o .bytes) br) br) (record { at = x; call = call; said = saidBy o } ∷ trace)
 
     refused-after : (call : Call) (k : ℕ) → Joined route p pt r rt bp (cond (eqb (suc k) 0) (receives call [] br) br) (record { at = x; call = call; said = record { number = suc k; bytes = [] } } ∷ trace)
-    refused-after call k = subst (λ (b : ReceiverBook). Joined route p pt r rt bp b (record { at = x; call = call; said = record { number = suc k; bytes = [] } } ∷ trace)) (sym (not-entered k (receives call [] br) br)) (refused-by route p pt r rt bp br trace j (record { at = x; call = call; said = record { number = suc k; bytes = [] } }) k refl)
+    refused-after call k = subst (λ (b : Counting). Joined route p pt r rt bp b (record { at = x; call = call; said = record { number = suc k; bytes = [] } } ∷ trace)) (sym (not-entered k (receives call [] br) br)) (refused-by route p pt r rt bp br trace j (record { at = x; call = call; said = record { number = suc k; bytes = [] } }) k refl)
 
     -- what is sent from here is of the other direction
     send-after : (call : Call) (time code : ℕ) (effect : Effect) (body line : List ℕ) → ((w : List ℕ) → receives call w br ≡ br) → After call rt (send time code effect body (lent Direction.presenting line e))
@@ -79,7 +79,7 @@ module _ (x : End) (e : Engine) (ready : Ready e) (different : e .session .parti
         (λ (k : ℕ). refused-after call k)
         (λ (z : sendRefusal time code bytes h ≡ 0).
         let told = send-told time code bytes h z in
-        subst (λ (b : ReceiverBook). Joined route p pt r rt bp b (record { at = x; call = call; said = record { number = 0; bytes = take (length bytes) (sets line 0 bytes) } } ∷ trace)) (sym (books _))
+        subst (λ (b : Counting). Joined route p pt r rt bp b (record { at = x; call = call; said = record { number = 0; bytes = take (length bytes) (sets line 0 bytes) } } ∷ trace)) (sym (books _))
         (passed-by route p pt r rt bp br trace j _ (λ (n : 0 ≡ 0). subst (Foreign route) (sym (first-bytes bytes line (told .room))) (message-foreign (e .session) (ready .sound) different body (told .more)))))
 
     reply-after : (time : ℕ) (bytes line : List ℕ) → After (Call.reply time bytes) rt (takeReply time bytes (lent Direction.presenting line e))
@@ -89,11 +89,11 @@ module _ (x : End) (e : Engine) (ready : Ready e) (different : e .session .parti
         (λ (k : ℕ). refused-after (Call.reply time bytes) k)
         (λ (z : replyRefusal time bytes (e .session) ≡ 0). passed-by route p pt r rt bp br trace j _ (λ (n : 0 ≡ 0). nothing-foreign route))
 
-    tick-after : (time : ℕ) (line : List ℕ) → After (Call.tick time) rt (clock time (lent Direction.presenting line e))
+    tick-after : (time : ℕ) (line : List ℕ) → After (Call.clock time) rt (clock time (lent Direction.presenting line e))
     unfolding clock
     tick-after time line =
-        either (After (Call.tick time) rt) (clockRefusal time (e .session)) (lent Direction.presenting line e) _
-        (λ (k : ℕ). refused-after (Call.tick time) k)
+        either (After (Call.clock time) rt) (clockRefusal time (e .session)) (lent Direction.presenting line e) _
+        (λ (k : ℕ). refused-after (Call.clock time) k)
         (λ (z : clockRefusal time (e .session) ≡ 0). passed-by route p pt r rt bp br trace j _ (λ (n : 0 ≡ 0). nothing-foreign route))
 
     module _ (time : ℕ) (bytes line : List ℕ) (brought : Written bytes trace) (told : ReceiveTold bytes (lent Direction.receiving line e)) where
@@ -112,13 +112,13 @@ module _ (x : End) (e : Engine) (ready : Ready e) (different : e .session .parti
         whole = wholeReply (envelopeOf bytes) reply
 
         abbrev event : Event
-        event = record { at = x; call = Call.message time bytes; said = record { number = 0; bytes = whole } }
+        event = record { at = x; call = Call.receive time bytes; said = record { number = 0; bytes = whole } }
 
         fits : length whole ≤ length line
         fits = omega (arith, told .room, whole-length Kind.Reply (envelopeOf bytes) (writtenReplyBody reply))
 
         all-messages : (b : List ℕ) → Written b (event ∷ trace) → MessageFact route (p .serial) (bp .waiting) b
-        all-messages b (inl w) = subst (MessageFact route (p .serial) (bp .waiting)) (w .1) (λ (g : envelopeGood Kind.Message whole ≡ true) (way : envelopeOf whole .route ≡ route). absurd (reply-is-none (envelopeOf bytes) reply g))
+        all-messages b (inl w) = subst (MessageFact route (p .serial) (bp .waiting)) (w .1) (λ (g : envelopeGood Kind.Message whole ≡ true) (way : envelopeOf whole .route ≡ route). absurd (reply-no-message (envelopeOf bytes) reply g))
         all-messages b (inr w) = j .messages b w
 
         all-replies : ((b : List ℕ) → Written b trace → ReplyFact route (after .serial) (after .reply .code) b) → (b : List ℕ) → Written b (event ∷ trace) → ReplyFact route (after .serial) (after .reply .code) b
@@ -131,13 +131,13 @@ module _ (x : End) (e : Engine) (ready : Ready e) (different : e .session .parti
 
       -- a new message is entered on both sides with the same code
       abbrev kept : Reply
-      kept = taken code body rt r .reply
+      kept = receivingAfter code body rt r .reply
 
-      abbrev entered : ReceiverBook
+      abbrev entered : Counting
       entered = record { ledger = enter (bodyEntry body) (eqb code 0) (br .ledger); serials = suc (r .serial) ∷ br .serials }
 
       replied-code : isAccepted (wholeReply (envelopeOf bytes) kept) ≡ eqb code 0
-      unfolding taken
+      unfolding receivingAfter
       replied-code = code-read (envelopeOf bytes) kept ∙ code-accepts code
 
       first-time : serialOf bytes ≡ suc (r .serial) → received (serialOf bytes) (bodyEntry body) (isAccepted (wholeReply (envelopeOf bytes) kept)) br ≡ entered
@@ -145,8 +145,8 @@ module _ (x : End) (e : Engine) (ready : Ready e) (different : e .session .parti
           ap (λ (t : Bool). cond t br (record { ledger = enter (bodyEntry body) (isAccepted (wholeReply (envelopeOf bytes) kept)) (br .ledger); serials = serialOf bytes ∷ br .serials })) (ap (λ (n : ℕ). member n (br .serials)) next ∙ next-unseen (r .serial) (br .serials) (j .seen .earlier))
           ∙ λ i. record { ledger = enter (bodyEntry body) (replied-code i) (br .ledger); serials = next i ∷ br .serials }
 
-      mirrored : Mirrored (taken code body rt r) (courseAfter code body rt r .running) (entered .ledger)
-      unfolding taken
+      mirrored : Mirrored (receivingAfter code body rt r) (receivingCourse code body rt r .running) (entered .ledger)
+      unfolding receivingAfter
       mirrored =
           let c = contentOf body in
           let m = j .receiver in
@@ -159,25 +159,25 @@ module _ (x : End) (e : Engine) (ready : Ready e) (different : e .session .parti
             new = numbers .1;
           }
 
-      linked : serialOf bytes ≡ suc (r .serial) → Link p r (bp .waiting) (bp .ledger) (br .ledger) → Link p (taken code body rt r) (bp .waiting) (bp .ledger) (entered .ledger)
-      unfolding taken
+      linked : serialOf bytes ≡ suc (r .serial) → Link p r (bp .waiting) (bp .ledger) (br .ledger) → Link p (receivingAfter code body rt r) (bp .waiting) (bp .ledger) (entered .ledger)
+      unfolding receivingAfter
       linked next (Link.idle w s b) = absurd (omega (arith, next, s, j .messages bytes brought (told .good) (told .way) .0))
       linked next (Link.taken d w s b) = absurd (omega (arith, next, s, j .messages bytes brought (told .good) (told .way) .0))
       linked next (Link.sent d w s b) =
           let reads : bodyEntry body ≡ d = j .messages bytes brought (told .good) (told .way) .1 d (next ∙ sym s) w in
           Link.taken d w s (λ i. enter (reads i) (sym (code-accepts code) i) (sym b i))
 
-      taken-joined : serialOf bytes ≡ suc (r .serial) → Joined route p pt (taken code body rt r) (courseAfter code body rt r .running) bp entered (record { at = x; call = Call.message time bytes; said = record { number = 0; bytes = wholeReply (envelopeOf bytes) kept } } ∷ trace)
-      unfolding taken member
+      taken-joined : serialOf bytes ≡ suc (r .serial) → Joined route p pt (receivingAfter code body rt r) (receivingCourse code body rt r .running) bp entered (record { at = x; call = Call.receive time bytes; said = record { number = 0; bytes = wholeReply (envelopeOf bytes) kept } } ∷ trace)
+      unfolding receivingAfter member
       taken-joined next =
           record {
             presenter = j .presenter;
             receiver = mirrored;
             seen = record { earlier = up-to-next (r .serial) (br .serials) (j .seen .earlier); last-seen = inr (ap (λ (t : Bool). t || member (suc (r .serial)) (br .serials)) (eq-eqb (suc (r .serial)) (suc (r .serial)) refl)) };
             link = linked next (j .link);
-            messages = all-messages (taken code body rt r) kept next refl;
+            messages = all-messages (receivingAfter code body rt r) kept next refl;
             replies =
-                all-replies (taken code body rt r) kept next refl
+                all-replies (receivingAfter code body rt r) kept next refl
                 (λ (b : List ℕ) (w : Written b trace) (g : envelopeGood Kind.Reply b ≡ true) (way : envelopeOf b .route ≡ route).
                 let old = j .replies b w g way .0 in
                 (omega (arith, old), λ (s : serialOf b ≡ suc (r .serial)). absurd (omega (arith, old, s))));
@@ -194,7 +194,7 @@ module _ (x : End) (e : Engine) (ready : Ready e) (different : e .session .parti
       not-again : serialOf bytes ≡ r .serial → (accepted : Bool) → received (serialOf bytes) (bodyEntry body) accepted br ≡ br
       not-again same accepted = ap (λ (t : Bool). cond t br (record { ledger = enter (bodyEntry body) accepted (br .ledger); serials = serialOf bytes ∷ br .serials })) (seen-before same)
 
-      repeated-joined : serialOf bytes ≡ r .serial → Joined route p pt r rt bp br (record { at = x; call = Call.message time bytes; said = record { number = 0; bytes = wholeReply (envelopeOf bytes) (r .reply) } } ∷ trace)
+      repeated-joined : serialOf bytes ≡ r .serial → Joined route p pt r rt bp br (record { at = x; call = Call.receive time bytes; said = record { number = 0; bytes = wholeReply (envelopeOf bytes) (r .reply) } } ∷ trace)
       repeated-joined same =
           record { presenter = j .presenter; receiver = j .receiver; seen = j .seen; link = j .link; messages = all-messages r (r .reply) same refl; replies = all-replies r (r .reply) same refl (j .replies) }
 
@@ -202,29 +202,29 @@ module _ (x : End) (e : Engine) (ready : Ready e) (different : e .session .parti
     last-serial : (bytes : List ℕ) → isNext bytes r ≡ false → isLast bytes r || isNext bytes r ≡ true → serialOf bytes ≡ r .serial
     last-serial bytes n known = eqb-true (serialOf bytes) (r .serial) (sym (or-false (isLast bytes r)) ∙ ap (λ (t : Bool). isLast bytes r || t) (sym n) ∙ known)
 
-    message-after : (time : ℕ) (bytes line : List ℕ) → Written bytes trace → After (Call.message time bytes) (receive time bytes (lent Direction.receiving line e) .left .running) (receive time bytes (lent Direction.receiving line e))
-    unfolding receive taken
+    message-after : (time : ℕ) (bytes line : List ℕ) → Written bytes trace → After (Call.receive time bytes) (receive time bytes (lent Direction.receiving line e) .left .running) (receive time bytes (lent Direction.receiving line e))
+    unfolding receive receivingAfter
     message-after time bytes line brought =
         let h = lent Direction.receiving line e in
-        either (λ (o : Outcome). After (Call.message time bytes) (o .left .running) o) (receiveRefusal time bytes h) h _
-        (λ (k : ℕ). refused-after (Call.message time bytes) k)
+        either (λ (o : Outcome). After (Call.receive time bytes) (o .left .running) o) (receiveRefusal time bytes h) h _
+        (λ (k : ℕ). refused-after (Call.receive time bytes) k)
         (λ (z : receiveRefusal time bytes h ≡ 0). go (isNext bytes r) refl (receive-told time bytes h z))
       where
-        go : (t : Bool) → isNext bytes r ≡ t → ReceiveTold bytes (lent Direction.receiving line e) → let o = answered bytes (cond t (handled time (bodyOf bytes) (lent Direction.receiving line e)) (repeated time (lent Direction.receiving line e))) in After (Call.message time bytes) (o .left .running) o
+        go : (t : Bool) → isNext bytes r ≡ t → ReceiveTold bytes (lent Direction.receiving line e) → let o = replying bytes (cond t (afterNew time (bodyOf bytes) (lent Direction.receiving line e)) (afterRepeat time (lent Direction.receiving line e))) in After (Call.receive time bytes) (o .left .running) o
         go true n told =
             let next = eqb-true (serialOf bytes) (suc (r .serial)) n in
             let code = codeFor time (bodyOf bytes) (lent Direction.receiving line e) in
-            let after = taken code (bodyOf bytes) rt r in
-            let running = courseAfter code (bodyOf bytes) rt r .running in
+            let after = receivingAfter code (bodyOf bytes) rt r in
+            let running = receivingCourse code (bodyOf bytes) rt r .running in
             let whole = wholeReply (envelopeOf bytes) (after .reply) in
-            subst (λ (w : List ℕ). Joined route p pt after running bp (receives (Call.message time bytes) w br) (record { at = x; call = Call.message time bytes; said = record { number = 0; bytes = w } } ∷ trace)) (sym (first-bytes whole line (fits time bytes line brought told after (after .reply) next refl)))
-            (subst (λ (b : ReceiverBook). Joined route p pt after running bp b (record { at = x; call = Call.message time bytes; said = record { number = 0; bytes = whole } } ∷ trace)) (sym (first-time time bytes line brought told next)) (taken-joined time bytes line brought told next))
+            subst (λ (w : List ℕ). Joined route p pt after running bp (receives (Call.receive time bytes) w br) (record { at = x; call = Call.receive time bytes; said = record { number = 0; bytes = w } } ∷ trace)) (sym (first-bytes whole line (fits time bytes line brought told after (after .reply) next refl)))
+            (subst (λ (b : Counting). Joined route p pt after running bp b (record { at = x; call = Call.receive time bytes; said = record { number = 0; bytes = whole } } ∷ trace)) (sym (first-time time bytes line brought told next)) (taken-joined time bytes line brought told next))
         go false n told =
             let same = last-serial bytes n (told .known) in
             let whole = wholeReply (envelopeOf bytes) (r .reply) in
-            let event : List ℕ → Event = λ (w : List ℕ). record { at = x; call = Call.message time bytes; said = record { number = 0; bytes = w } } in
-            subst (λ (w : List ℕ). Joined route p pt r rt bp (receives (Call.message time bytes) w br) (event w ∷ trace)) (sym (first-bytes whole line (fits time bytes line brought told r (r .reply) same refl)))
-            (subst (λ (b : ReceiverBook). Joined route p pt r rt bp b (event whole ∷ trace)) (sym (not-again time bytes line brought told same (isAccepted whole))) (repeated-joined time bytes line brought told same))
+            let event : List ℕ → Event = λ (w : List ℕ). record { at = x; call = Call.receive time bytes; said = record { number = 0; bytes = w } } in
+            subst (λ (w : List ℕ). Joined route p pt r rt bp (receives (Call.receive time bytes) w br) (event w ∷ trace)) (sym (first-bytes whole line (fits time bytes line brought told r (r .reply) same refl)))
+            (subst (λ (b : Counting). Joined route p pt r rt bp b (event whole ∷ trace)) (sym (not-again time bytes line brought told same (isAccepted whole))) (repeated-joined time bytes line brought told same))
 
     pub receiver-step : (call : Call) (line : List ℕ) → Brought call trace → let d = perform call line e in Joined route p pt (d .engine .session .receiving) (d .engine .receiving) bp (cond (eqb (d .said .number) 0) (receives call (d .said .bytes) br) br) (record { at = x; call = call; said = d .said } ∷ trace)
     unfolding perform meaning sendHeader sendDetail sendLotTotal sendSessionTotal
@@ -232,7 +232,7 @@ module _ (x : End) (e : Engine) (ready : Ready e) (different : e .session .parti
     receiver-step (Call.detail time operation part) line brought = send-after (Call.detail time operation part) time _ _ _ line (λ (w : List ℕ). refl)
     receiver-step (Call.lotTotal time) line brought = send-after (Call.lotTotal time) time _ _ _ line (λ (w : List ℕ). refl)
     receiver-step (Call.sessionTotal time) line brought = send-after (Call.sessionTotal time) time _ _ _ line (λ (w : List ℕ). refl)
-    receiver-step (Call.message time bytes) line brought = message-after time bytes line brought
+    receiver-step (Call.receive time bytes) line brought = message-after time bytes line brought
     receiver-step (Call.reply time bytes) line brought = reply-after time bytes line
-    receiver-step (Call.tick time) line brought = tick-after time line
+    receiver-step (Call.clock time) line brought = tick-after time line
     receiver-step Call.report line brought = passed-by route p pt r rt bp br trace j _ (λ (n : 0 ≡ 0). nothing-foreign route)

@@ -17,8 +17,8 @@ use Rattle.message.specs.Envelope.{envelopeGood, envelopeOf, bodyOf}
 use Rattle.message.specs.Reply.{operationByte, replyGood}
 use Rattle.message.proofs.Laws.Route.{same}
 use Rattle.session.specs.declared.session.Session.{Session}
-use Rattle.session.specs.Parties.{outgoing, incoming}
-use Rattle.session.specs.Call.{Held, noRoom, timeRefusal}
+use Rattle.session.specs.Parties.{presentingRoute, receivingRoute}
+use Rattle.session.specs.Outcome.{Held, noRoom, timeRefusal}
 use Rattle.session.specs.Sending.{isPending, sendRefusal}
 use Rattle.session.specs.Receiving.{isLast, isNext, serialOf, receiveRefusal}
 use Rattle.session.specs.Reply.{awaitedOperation, isAwaited, replyRefusal}
@@ -45,7 +45,7 @@ send-told time code bytes h e =
 
 pub record ReceiveTold (bytes : List ℕ) (h : Held) : Type 0 where
   pub good : envelopeGood Kind.Message bytes ≡ true
-  pub way : envelopeOf bytes .route ≡ incoming (h .session .parties)
+  pub way : envelopeOf bytes .route ≡ receivingRoute (h .session .parties)
   pub known : isLast bytes (h .session .receiving) || isNext bytes (h .session .receiving) ≡ true
   pub room : envelopeBytes + replyBytes ≤ length (h .line)
 
@@ -53,7 +53,7 @@ pub receive-told : (time : ℕ) (bytes : List ℕ) (h : Held) → receiveRefusal
 unfolding receiveRefusal
 receive-told time bytes h e =
     let good = envelopeGood Kind.Message bytes in
-    let way = sameRoute (envelopeOf bytes .route) (incoming (h .session .parties)) in
+    let way = sameRoute (envelopeOf bytes .route) (receivingRoute (h .session .parties)) in
     let known = isLast bytes (h .session .receiving) || isNext bytes (h .session .receiving) in
     let clock = none-both (timeRefusal time (h .session)) _ e in
     let first = passed 21 (not good) _ (lit< tt) (clock .1) in
@@ -61,14 +61,14 @@ receive-told time bytes h e =
     let third = passed 35 (not known) _ (lit< tt) (second .1) in
     record {
       good = not-false good (first .0);
-      way = same (envelopeOf bytes .route) (incoming (h .session .parties)) (not-false way (second .0));
+      way = same (envelopeOf bytes .route) (receivingRoute (h .session .parties)) (not-false way (second .0));
       known = not-false known (third .0);
       room = ltb-false (length (h .line)) (envelopeBytes + replyBytes) (none-test 23 (noRoom (envelopeBytes + replyBytes) (h .line)) (lit< tt) (third .1));
     }
 
 pub record ReplyTold (bytes : List ℕ) (s : Session) : Type 0 where
   pub good : envelopeGood Kind.Reply bytes ≡ true
-  pub way : envelopeOf bytes .route ≡ outgoing (s .parties)
+  pub way : envelopeOf bytes .route ≡ presentingRoute (s .parties)
   pub awaited : isPending (s .presenting .pending) ≡ true
   pub serial : serialOf bytes ≡ s .presenting .serial
 
@@ -77,10 +77,10 @@ unfolding replyRefusal isAwaited
 reply-told time bytes s e =
     let p = s .presenting in
     let good = envelopeGood Kind.Reply bytes in
-    let way = sameRoute (envelopeOf bytes .route) (outgoing (s .parties)) in
+    let way = sameRoute (envelopeOf bytes .route) (presentingRoute (s .parties)) in
     let clock = none-both (timeRefusal time s) _ e in
     let first = passed 21 (not good) _ (lit< tt) (clock .1) in
     let second = passed 33 (not way) _ (lit< tt) (first .1) in
     let third = passed 22 (not (replyGood (bodyOf bytes))) _ (lit< tt) (second .1) in
     let all = three (isPending (p .pending)) (eqb (serialOf bytes) (p .serial)) (eqb (operationOf (bodyOf bytes)) (operationByte (awaitedOperation (p .pending)))) (not-false (isAwaited bytes p) (none-test 35 (not (isAwaited bytes p)) (lit< tt) (third .1))) in
-    record { good = not-false good (first .0); way = same (envelopeOf bytes .route) (outgoing (s .parties)) (not-false way (second .0)); awaited = all .0; serial = eqb-true (serialOf bytes) (p .serial) (all .1) }
+    record { good = not-false good (first .0); way = same (envelopeOf bytes .route) (presentingRoute (s .parties)) (not-false way (second .0)); awaited = all .0; serial = eqb-true (serialOf bytes) (p .serial) (all .1) }

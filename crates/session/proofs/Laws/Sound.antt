@@ -24,14 +24,14 @@ use Rattle.session.specs.Running.{empty}
 use Rattle.session.specs.Course.{Course, advance, kept}
 use Rattle.session.specs.Sequence.{isOpen}
 use Rattle.session.specs.Start.{noLots, fresh, started, start}
-use Rattle.session.specs.Call.{Held, Outcome, clockRefusal}
+use Rattle.session.specs.Outcome.{Held, Outcome, clockRefusal}
 use Rattle.session.specs.Sending.{sendRefusal, sent, send, sessionTotalStop, sendHeader, sendDetail, sendLotTotal, sendSessionTotal, nextEnvelope}
-use Rattle.session.specs.Receiving.{effectBy, codeFor, taken, isNext, serialOf, receive, receiveRefusal, handled, repeated, heard}
+use Rattle.session.specs.Receiving.{effectBy, codeFor, receivingAfter, isNext, serialOf, receive, receiveRefusal, afterNew, afterRepeat, afterMessage}
 use Rattle.session.specs.Reply.{replyRefusal, isAccepted, takeReply}
 use Rattle.session.specs.Clock.{ticked, clock}
 use Rattle.session.specs.Premise.{Fits, CountersSound, OpenSound, PartiesSound, Sound, Direction, Carried}
 use Rattle.session.proofs.Laws.Parties.{told as parties-told}
-use Rattle.session.proofs.Laws.Call.{either}
+use Rattle.session.proofs.Laws.Decided.{either}
 use Rattle.session.proofs.Laws.Refusals.{send-told, ReceiveTold, receive-told}
 use Rattle.session.proofs.Laws.Allowed.{fits-gather, fits-empty, Allowed, header-allowed, detail-allowed, lot-total-allowed, received-allowed}
 
@@ -148,8 +148,8 @@ kept-length (Effect.Header number) accepted lots places = refl
 kept-length (Effect.Detail more) accepted lots places = refl
 kept-length Effect.SessionTotal accepted lots places = refl
 
-handled-keeps : (time : ℕ) (bytes : List ℕ) (h : Held) → Good Direction.receiving h → ReceiveTold bytes h → isNext bytes (h .session .receiving) ≡ true → Good Direction.receiving (handled time (bodyOf bytes) h)
-unfolding taken
+handled-keeps : (time : ℕ) (bytes : List ℕ) (h : Held) → Good Direction.receiving h → ReceiveTold bytes h → isNext bytes (h .session .receiving) ≡ true → Good Direction.receiving (afterNew time (bodyOf bytes) h)
+unfolding receivingAfter
 handled-keeps time bytes h g known next =
     let body = bodyOf bytes in
     let r = h .session .receiving in
@@ -175,12 +175,12 @@ unfolding receive
 receive-keeps time bytes h g =
     either (λ (o : Outcome). Good Direction.receiving (o .left)) (receiveRefusal time bytes h) h _
     (λ (k : ℕ). g)
-    (λ (e : receiveRefusal time bytes h ≡ 0). same-good (heard time bytes h) _ (go (isNext bytes (h .session .receiving)) refl (receive-told time bytes h e)))
+    (λ (e : receiveRefusal time bytes h ≡ 0). same-good (afterMessage time bytes h) _ (go (isNext bytes (h .session .receiving)) refl (receive-told time bytes h e)))
   where
     same-good : (a : Held) (line : List ℕ) → Good Direction.receiving a → Good Direction.receiving (record { session = a .session; running = a .running; line = line })
     same-good a line g = record { sound = g .sound; carried = g .carried }
 
-    go : (t : Bool) → isNext bytes (h .session .receiving) ≡ t → ReceiveTold bytes h → Good Direction.receiving (cond t (handled time (bodyOf bytes) h) (repeated time h))
+    go : (t : Bool) → isNext bytes (h .session .receiving) ≡ t → ReceiveTold bytes h → Good Direction.receiving (cond t (afterNew time (bodyOf bytes) h) (afterRepeat time h))
     go true n known = handled-keeps time bytes h g known n
     go false n known =
         record {
@@ -219,7 +219,7 @@ start-sound date own partner represented = go (partiesGood date own partner repr
     go true e = let p = parties-told date own partner represented e in fresh-sound (partiesOf date own partner represented) Close.Open (record { date = p .date; own = p .own; partner = p .partner; represented = p .represented })
     go false e = fresh-sound nobody Close.Forced (record { date = omega arith; own = omega arith; partner = omega arith; represented = omega arith })
 
-pub start-carried : (parties : Parties) (close : Close) (d : Direction) → Carried d (fresh parties close) empty
+pub fresh-carried : (parties : Parties) (close : Close) (d : Direction) → Carried d (fresh parties close) empty
 unfolding fresh
-start-carried parties close Direction.presenting = record { none-open = λ (e : OpenLot.None ≡ OpenLot.None). refl; fits = fits-empty lotDocuments; pending = tt }
-start-carried parties close Direction.receiving = record { none-open = λ (e : OpenLot.None ≡ OpenLot.None). refl; fits = fits-empty lotDocuments; pending = tt }
+fresh-carried parties close Direction.presenting = record { none-open = λ (e : OpenLot.None ≡ OpenLot.None). refl; fits = fits-empty lotDocuments; pending = tt }
+fresh-carried parties close Direction.receiving = record { none-open = λ (e : OpenLot.None ≡ OpenLot.None). refl; fits = fits-empty lotDocuments; pending = tt }

@@ -14,48 +14,48 @@ use Rattle.session.specs.Engine.{Call}
 use Rattle.session.specs.Ends.{End, Event}
 
 -- the presenter's: a ledger, and the message whose reply is still to come
-pub record PresenterBook : Type 0 where
+pub record Confirming : Type 0 where
   pub ledger : Ledger
   pub waiting : Option Entry
 
 -- an unrefused send waits; the unrefused reply call enters it, with the code read
-abbrev pub waitingFor : Entry → PresenterBook → PresenterBook
+abbrev pub waitingFor : Entry → Confirming → Confirming
 waitingFor e b = record { ledger = b .ledger; waiting = some e }
 
 abbrev pub enterWaiting : (accepted : Bool) → Option Entry → Ledger → Ledger
 enterWaiting accepted none b = b
 enterWaiting accepted (some e) b = enter e accepted b
 
-abbrev pub answeredWith : (accepted : Bool) → PresenterBook → PresenterBook
+abbrev pub answeredWith : (accepted : Bool) → Confirming → Confirming
 answeredWith accepted b = record { ledger = enterWaiting accepted (b .waiting) (b .ledger); waiting = none }
 
-abbrev pub presents : Call → PresenterBook → PresenterBook
-presents (Call.header time moment centre number) b = waitingFor (Entry.opens number) b
+abbrev pub presents : Call → Confirming → Confirming
+presents (Call.header time moment centre number) b = waitingFor (Entry.header number) b
 presents (Call.detail time operation part) b = waitingFor (partEntry operation part) b
-presents (Call.lotTotal time) b = waitingFor Entry.endsLot b
-presents (Call.sessionTotal time) b = waitingFor Entry.endsDirection b
+presents (Call.lotTotal time) b = waitingFor Entry.lotTotal b
+presents (Call.sessionTotal time) b = waitingFor Entry.sessionTotal b
 presents (Call.reply time bytes) b = answeredWith (isAccepted bytes) b
-presents (Call.message time bytes) b = b
-presents (Call.tick time) b = b
+presents (Call.receive time bytes) b = b
+presents (Call.clock time) b = b
 presents Call.report b = b
 
 -- the receiver's: a ledger, and the serials that were received
-pub record ReceiverBook : Type 0 where
+pub record Counting : Type 0 where
   pub ledger : Ledger
   pub serials : List ℕ
 
 -- a message is entered when its serial is first received, with the code replied
-abbrev pub received : (serial : ℕ) → Entry → (accepted : Bool) → ReceiverBook → ReceiverBook
+abbrev pub received : (serial : ℕ) → Entry → (accepted : Bool) → Counting → Counting
 received serial e accepted b = cond (member serial (b .serials)) b (record { ledger = enter e accepted (b .ledger); serials = serial ∷ b .serials })
 
-abbrev pub receives : Call → (written : List ℕ) → ReceiverBook → ReceiverBook
-receives (Call.message time bytes) written b = received (serialOf bytes) (bodyEntry (bodyOf bytes)) (isAccepted written) b
+abbrev pub receives : Call → (written : List ℕ) → Counting → Counting
+receives (Call.receive time bytes) written b = received (serialOf bytes) (bodyEntry (bodyOf bytes)) (isAccepted written) b
 receives (Call.header time moment centre number) written b = b
 receives (Call.detail time operation part) written b = b
 receives (Call.lotTotal time) written b = b
 receives (Call.sessionTotal time) written b = b
 receives (Call.reply time bytes) written b = b
-receives (Call.tick time) written b = b
+receives (Call.clock time) written b = b
 receives Call.report written b = b
 
 -- a call enters the books of its own end alone, and none if it was refused
@@ -65,16 +65,16 @@ sameEnd End.far End.far = true
 sameEnd End.near End.far = false
 sameEnd End.far End.near = false
 
-abbrev pub entersAt : End → Event → Bool
-entersAt x e = sameEnd (e .at) x && eqb (e .said .number) 0
+abbrev pub enters : End → Event → Bool
+enters x e = sameEnd (e .at) x && eqb (e .said .number) 0
 
-unfoldable pub presenterBook : End → List Event → PresenterBook
-presenterBook x [] = record { ledger = blank; waiting = none }
-presenterBook x (e ∷ earlier) = cond (entersAt x e) (presents (e .call) (presenterBook x earlier)) (presenterBook x earlier)
+unfoldable pub confirmingAt : End → List Event → Confirming
+confirmingAt x [] = record { ledger = blank; waiting = none }
+confirmingAt x (e ∷ earlier) = cond (enters x e) (presents (e .call) (confirmingAt x earlier)) (confirmingAt x earlier)
 
-unfoldable pub receiverBook : End → List Event → ReceiverBook
-receiverBook x [] = record { ledger = blank; serials = [] }
-receiverBook x (e ∷ earlier) = cond (entersAt x e) (receives (e .call) (e .said .bytes) (receiverBook x earlier)) (receiverBook x earlier)
+unfoldable pub countingAt : End → List Event → Counting
+countingAt x [] = record { ledger = blank; serials = [] }
+countingAt x (e ∷ earlier) = cond (enters x e) (receives (e .call) (e .said .bytes) (countingAt x earlier)) (countingAt x earlier)
 
 -- what a report has to name: the open lot while its total waits, or a session total that waits
 abbrev pub namedLot : Option LedgerLot → Awaited
@@ -82,12 +82,12 @@ namedLot none = Awaited.Neither
 namedLot (some l) = Awaited.LotTotal (lotSum l)
 
 abbrev pub namedBy : Option Entry → Option LedgerLot → Awaited
-namedBy (some Entry.endsLot) current = namedLot current
-namedBy (some Entry.endsDirection) current = Awaited.SessionTotal
-namedBy (some (Entry.opens number)) current = Awaited.Neither
-namedBy (some (Entry.adds ds)) current = Awaited.Neither
-namedBy (some Entry.nothing) current = Awaited.Neither
+namedBy (some Entry.lotTotal) current = namedLot current
+namedBy (some Entry.sessionTotal) current = Awaited.SessionTotal
+namedBy (some (Entry.header number)) current = Awaited.Neither
+namedBy (some (Entry.detail ds)) current = Awaited.Neither
+namedBy (some Entry.unknown) current = Awaited.Neither
 namedBy none current = Awaited.Neither
 
-abbrev pub due : PresenterBook → Awaited
+abbrev pub due : Confirming → Awaited
 due b = namedBy (b .waiting) (b .ledger .current)

@@ -5,7 +5,7 @@ use Prim.Native.Nat.{ℕ, zero, suc, _+_, _≤_}
 use native.Mathlib.Omega.{arith}
 use lib.ListN.{length, take, drop}
 use lib.Seq.{sets, sets-eq, take-append-seam}
-use Rattle.session.specs.Call.{Held, Outcome, refused, decided}
+use Rattle.session.specs.Outcome.{Held, Outcome, refused, decided}
 
 -- what holds of every refusal, and of what is done where the number is 0, holds of the call
 pub either : (P : Outcome → Type 0) (n : ℕ) (before : Held) (done : Outcome) → ((k : ℕ) → P (refused (suc k) before)) → (n ≡ 0 → P done) → P (decided n before done)

@@ -10,15 +10,15 @@ use Rattle.session.specs.declared.counters.OpenLot.{OpenLot}
 use Rattle.session.specs.declared.session.Presenting.{Presenting}
 use Rattle.session.specs.declared.session.Receiving.{Receiving}
 use Rattle.session.specs.declared.session.Session.{Session}
-use Rattle.session.specs.Call.{Held, Outcome, refused, decided, silent, wrote, timeRefusal, clockRefusal}
+use Rattle.session.specs.Outcome.{Held, Outcome, refused, decided, silent, wrote, timeRefusal, clockRefusal}
 use Rattle.session.specs.Sending.{sendRefusal, send, sendHeader, sendDetail, sendLotTotal, sendSessionTotal}
-use Rattle.session.specs.Receiving.{isNext, receiveRefusal, receive, handled, repeated, heard, answered}
+use Rattle.session.specs.Receiving.{isNext, receiveRefusal, receive, afterNew, afterRepeat, afterMessage, replying}
 use Rattle.session.specs.Reply.{replyRefusal, takeReply}
 use Rattle.session.specs.Clock.{clock}
 use Rattle.session.specs.Premise.{Direction, PendingCarried}
 use Rattle.session.specs.Engine.{Call, Engine, meaning, directionOf, lent, givenBack, perform}
 use Rattle.session.specs.Claim.{Ready}
-use Rattle.session.proofs.Laws.Call.{either, unrefused, refused-keeps}
+use Rattle.session.proofs.Laws.Decided.{either, unrefused, refused-keeps}
 use Rattle.session.proofs.Laws.Sound.{Good, send-header-keeps, send-detail-keeps, send-lot-total-keeps, send-session-total-keeps, receive-keeps, reply-keeps, clock-keeps}
 
 -- a call is a refusal that leaves what it was lent, or what it does where its chain gives 0
@@ -34,9 +34,9 @@ is-decided (Call.header time moment centre number) h = record { refusal = _; don
 is-decided (Call.detail time operation part) h = record { refusal = _; done = _; unrefused = refl; outcome = refl }
 is-decided (Call.lotTotal time) h = record { refusal = _; done = _; unrefused = refl; outcome = refl }
 is-decided (Call.sessionTotal time) h = record { refusal = _; done = _; unrefused = refl; outcome = refl }
-is-decided (Call.message time bytes) h = record { refusal = _; done = _; unrefused = refl; outcome = refl }
+is-decided (Call.receive time bytes) h = record { refusal = _; done = _; unrefused = refl; outcome = refl }
 is-decided (Call.reply time bytes) h = record { refusal = _; done = _; unrefused = refl; outcome = refl }
-is-decided (Call.tick time) h = record { refusal = _; done = _; unrefused = refl; outcome = refl }
+is-decided (Call.clock time) h = record { refusal = _; done = _; unrefused = refl; outcome = refl }
 is-decided Call.report h = record { refusal = 0; done = silent h; unrefused = refl; outcome = sym (unrefused h (silent h)) }
 
 -- A refused call gives back what it was lent.
@@ -70,12 +70,12 @@ Apart Direction.receiving call = (h : Held) (p : Presenting) → call (withPrese
 
 -- all calls but the clock call, which sees both ends of a close, belong to one direction
 abbrev belongs : Call → Bool
-belongs (Call.tick time) = false
+belongs (Call.clock time) = false
 belongs (Call.header time moment centre number) = true
 belongs (Call.detail time operation part) = true
 belongs (Call.lotTotal time) = true
 belongs (Call.sessionTotal time) = true
-belongs (Call.message time bytes) = true
+belongs (Call.receive time bytes) = true
 belongs (Call.reply time bytes) = true
 belongs Call.report = true
 
@@ -83,9 +83,9 @@ received-apart : (time : ℕ) (bytes : List ℕ) → Apart Direction.receiving (
 unfolding receive receiveRefusal timeRefusal clockRefusal
 received-apart time bytes h p =
     let next = isNext bytes (h .session .receiving) in
-    let a = handled time (bodyOf bytes) h in
-    let b = repeated time h in
-    ap (λ (after : Held). decided (receiveRefusal time bytes h) (withPresenting p h) (answered bytes after)) (either-way next a b) ∙ apart (withPresenting p) (receiveRefusal time bytes h) h (answered bytes (cond next a b))
+    let a = afterNew time (bodyOf bytes) h in
+    let b = afterRepeat time h in
+    ap (λ (after : Held). decided (receiveRefusal time bytes h) (withPresenting p h) (replying bytes after)) (either-way next a b) ∙ apart (withPresenting p) (receiveRefusal time bytes h) h (replying bytes (cond next a b))
   where
     either-way : (t : Bool) (a b : Held) → cond t (withPresenting p a) (withPresenting p b) ≡ withPresenting p (cond t a b)
     either-way true a b = refl
@@ -99,8 +99,8 @@ directions-apart (Call.lotTotal time) b = λ (h : Held) (r : Receiving). apart (
 directions-apart (Call.sessionTotal time) b = λ (h : Held) (r : Receiving). apart (withReceiving r) _ h _
 directions-apart (Call.reply time bytes) b = λ (h : Held) (r : Receiving). apart (withReceiving r) _ h _
 directions-apart Call.report b = λ (h : Held) (r : Receiving). refl
-directions-apart (Call.tick time) b = absurd (false≢true b)
-directions-apart (Call.message time bytes) b = received-apart time bytes
+directions-apart (Call.clock time) b = absurd (false≢true b)
+directions-apart (Call.receive time bytes) b = received-apart time bytes
 
 -- The parties never change, and the records of the two directions change in calls of their own alone.
 abbrev pub OtherSide : Direction → (before after : Session) → Type 0
@@ -121,14 +121,14 @@ untouched (Call.detail time operation part) h = by-decision h _ _ refl refl
 untouched (Call.lotTotal time) h = by-decision h _ _ refl refl
 untouched (Call.sessionTotal time) h = by-decision h _ _ refl refl
 untouched (Call.reply time bytes) h = by-decision h _ _ refl refl
-untouched (Call.tick time) h = by-decision h _ _ refl refl
+untouched (Call.clock time) h = by-decision h _ _ refl refl
 untouched Call.report h = record { parties = refl; otherSide = refl }
-untouched (Call.message time bytes) h = either (λ (o : Outcome). Untouched Direction.receiving h (o .left)) (receiveRefusal time bytes h) h _ (λ (k : ℕ). record { parties = refl; otherSide = refl }) (λ (e : receiveRefusal time bytes h ≡ 0). same-session (heard time bytes h) _ (either-way (isNext bytes (h .session .receiving))))
+untouched (Call.receive time bytes) h = either (λ (o : Outcome). Untouched Direction.receiving h (o .left)) (receiveRefusal time bytes h) h _ (λ (k : ℕ). record { parties = refl; otherSide = refl }) (λ (e : receiveRefusal time bytes h ≡ 0). same-session (afterMessage time bytes h) _ (either-way (isNext bytes (h .session .receiving))))
   where
     same-session : (a : Held) (line : List ℕ) → Untouched Direction.receiving h a → Untouched Direction.receiving h (record { session = a .session; running = a .running; line = line })
     same-session a line u = record { parties = u .parties; otherSide = u .otherSide }
 
-    either-way : (t : Bool) → Untouched Direction.receiving h (cond t (handled time (bodyOf bytes) h) (repeated time h))
+    either-way : (t : Bool) → Untouched Direction.receiving h (cond t (afterNew time (bodyOf bytes) h) (afterRepeat time h))
     either-way true = record { parties = refl; otherSide = refl }
     either-way false = record { parties = refl; otherSide = refl }
 
@@ -139,9 +139,9 @@ keeps (Call.header time moment centre number) h g = send-header-keeps time momen
 keeps (Call.detail time operation part) h g = send-detail-keeps time operation part h g
 keeps (Call.lotTotal time) h g = send-lot-total-keeps time h g
 keeps (Call.sessionTotal time) h g = send-session-total-keeps time h g
-keeps (Call.message time bytes) h g = receive-keeps time bytes h g
+keeps (Call.receive time bytes) h g = receive-keeps time bytes h g
 keeps (Call.reply time bytes) h g = reply-keeps time bytes h g
-keeps (Call.tick time) h g = clock-keeps time Direction.presenting h g
+keeps (Call.clock time) h g = clock-keeps time Direction.presenting h g
 keeps Call.report h g = g
 
 -- so an engine that is ready stays so
@@ -181,9 +181,9 @@ parties-kept call line e = go (directionOf call) refl
 -- A message with a code is not refused: whatever its body, the reply is written.
 pub message-answered : (time : ℕ) (bytes : List ℕ) (h : Held) → receiveRefusal time bytes h ≡ 0 → receive time bytes h .number ≡ 0
 unfolding receive
-message-answered time bytes h e = let done = answered bytes (heard time bytes h) in (λ i. decided (e i) h done .number) ∙ ap (λ (o : Outcome). o .number) (unrefused h done)
+message-answered time bytes h e = let done = replying bytes (afterMessage time bytes h) in (λ i. decided (e i) h done .number) ∙ ap (λ (o : Outcome). o .number) (unrefused h done)
 
 -- A repeat writes the kept reply again and moves the last seen time alone.
-pub repeat-told : (time : ℕ) (bytes : List ℕ) (h : Held) → receiveRefusal time bytes h ≡ 0 → isNext bytes (h .session .receiving) ≡ false → receive time bytes h ≡ wrote (wholeReply (envelopeOf bytes) (h .session .receiving .reply)) (repeated time h)
+pub repeat-told : (time : ℕ) (bytes : List ℕ) (h : Held) → receiveRefusal time bytes h ≡ 0 → isNext bytes (h .session .receiving) ≡ false → receive time bytes h ≡ wrote (wholeReply (envelopeOf bytes) (h .session .receiving .reply)) (afterRepeat time h)
 unfolding receive
-repeat-told time bytes h e n = (λ i. decided (e i) h (answered bytes (cond (n i) (handled time (bodyOf bytes) h) (repeated time h)))) ∙ unrefused h (answered bytes (repeated time h))
+repeat-told time bytes h e n = (λ i. decided (e i) h (replying bytes (cond (n i) (afterNew time (bodyOf bytes) h) (afterRepeat time h)))) ∙ unrefused h (replying bytes (afterRepeat time h))
