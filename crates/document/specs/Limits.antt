@@ -1,4 +1,4 @@
--- 01's limits on documents and entities.
+-- 01's limits on documents, their amounts, and entities.
 use Prim.Native.Nat.{ℕ}
 
 -- the bytes of a document
@@ -16,3 +16,10 @@ largestEntity = 9999
 -- how many entities a centre may represent
 abbrev pub mostRepresented : ℕ
 mostRepresented = 8
+
+-- the largest nominal and the largest commission of a document, by their widths
+abbrev pub largestNominal : ℕ
+largestNominal = 999999999999
+
+abbrev pub largestCommission : ℕ
+largestCommission = 99999999

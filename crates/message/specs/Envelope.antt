@@ -57,6 +57,9 @@ envelopeValues e = routeValues (e .route) ++ e .serial ∷ []
 abbrev pub envelopeOf : List ℕ → Envelope
 envelopeOf bytes = record { route = routeAt 1 bytes; serial = fieldNumber firstPosition bytes serialField }
 
+abbrev pub serialOf : List ℕ → ℕ
+serialOf bytes = envelopeOf bytes .serial
+
 -- what the answer of a reading says
 abbrev pub envelopeSaid : ReadEnvelope → Reading
 envelopeSaid (ReadEnvelope.Read e) = reading 0 (envelopeValues e)

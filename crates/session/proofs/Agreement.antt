@@ -18,15 +18,15 @@ use Rattle.session.specs.declared.report.Awaited.{Awaited}
 use Rattle.session.specs.declared.session.Close.{Close}
 use Rattle.session.specs.Parties.{partiesGood, partiesOf, nobody, presentingRoute, receivingRoute}
 use Rattle.session.specs.Running.{empty}
-use Rattle.session.specs.Course.{Course}
+use Rattle.session.specs.Course.{Direction, Course}
 use Rattle.session.specs.Sequence.{isOpen}
 use Rattle.session.specs.Start.{fresh, started, start}
 use Rattle.session.specs.Report.{tally, awaited, report}
-use Rattle.session.specs.Premise.{Direction, PendingSound}
-use Rattle.session.specs.Ledger.{LedgerLot, Ledger, Entry, blank, enter, closed, lotSum, lotsSum, tallied}
+use Rattle.session.specs.Premise.{PendingSound}
+use Rattle.session.specs.Ledger.{LedgerLot, Ledger, Entry, blank, enter, moved, lotSum, lotsSum, tallied}
 use Rattle.session.specs.Engine.{Call, Engine, perform, withEmpty}
 use Rattle.session.specs.Ends.{End, other, Event, World, Step, replaced, act, run, Brought, Possible, engines, begun, Begins}
-use Rattle.session.specs.Entering.{namedLot, namedBy, due, Confirming, Counting, presents, receives, confirmingAt, countingAt}
+use Rattle.session.specs.Entering.{namedLot, namedBy, toBeNamed, Confirming, Counting, presents, receives, confirmingAt, countingAt}
 use Rattle.session.specs.Claim.{oneMore, confirmed, counted, reportAt, presentedTally, receivedTally, Level, Ahead, JustReplied, Ready, Agreement}
 use Rattle.session.proofs.Laws.Parties.{Told, told}
 use Rattle.session.proofs.Laws.Ledger.{openOf, lotOf, lots-last, one-longer}
@@ -185,7 +185,7 @@ module _ (w : World) (all : Whole w) (p : End) where
   unfolding report
   received = ap (λ (k : Course). tally (k .counters)) (all .joined p .receiver .course)
 
-  named : reportAt w p .awaited ≡ due bp
+  named : reportAt w p .awaited ≡ toBeNamed bp
   unfolding report
   named = ap awaited (all .joined p .presenter .pending) ∙ go (bp .waiting) (subst (λ (x : Effect). PendingSound x (e .session .presenting .counters)) (all .joined p .presenter .pending) (all .ready p .sound .pending))
     where
@@ -207,7 +207,7 @@ module _ (w : World) (all : Whole w) (p : End) where
   level : counted w p ≡ confirmed w p → Level w p
   level same = record { lots = same; totals = received ∙ ap tallied same ∙ sym presented }
 
-  ahead : (l : LedgerLot) → due bp ≡ Awaited.LotTotal (lotSum l) → counted w p ≡ confirmed w p ++ l ∷ [] → Ahead w p
+  ahead : (l : LedgerLot) → toBeNamed bp ≡ Awaited.LotTotal (lotSum l) → counted w p ≡ confirmed w p ++ l ∷ [] → Ahead w p
   ahead l names more =
       record {
         lot = l;
@@ -227,7 +227,7 @@ module _ (w : World) (all : Whole w) (p : End) where
       lots-of : {a b : Ledger} → a ≡ b → a .lots ≡ b .lots
       lots-of h = ap (λ (l : Ledger). l .lots) h
 
-      ended : (current : Option LedgerLot) → bp .waiting ≡ some Entry.lotTotal → bp .ledger .current ≡ current → counted w p ≡ closed (confirmed w p) current → Level w p ⊎ Ahead w p
+      ended : (current : Option LedgerLot) → bp .waiting ≡ some Entry.lotTotal → bp .ledger .current ≡ current → counted w p ≡ moved (confirmed w p) current → Level w p ⊎ Ahead w p
       ended none w c h = inl (level h)
       ended (some l) w c h = inr (ahead l (λ i. namedBy (w i) (c i)) h)
 

@@ -4,17 +4,18 @@ use Prim.Native.Nat.{ℕ, suc}
 use mathlib.Core.Path.{_≡_}
 use mathlib.Core.List.{List, [], _∷_, _++_}
 use mathlib.Core.Logic.{_⊎_}
+use Rattle.session.specs.Course.{Direction}
 use Rattle.session.specs.declared.counters.Lot.{Lot}
 use Rattle.session.specs.declared.report.Tally.{Tally}
 use Rattle.session.specs.declared.report.Awaited.{Awaited}
 use Rattle.session.specs.declared.report.Report.{Report}
 use Rattle.session.specs.Report.{report}
 use Rattle.session.specs.Running.{gather}
-use Rattle.session.specs.Premise.{Direction, Sound, Carried}
+use Rattle.session.specs.Premise.{Sound, Carried}
 use Rattle.session.specs.Ledger.{LedgerLot, lotSum, tallied, numbers, Distinct}
 use Rattle.session.specs.Engine.{Call, Engine}
 use Rattle.session.specs.Ends.{End, other, Event, World}
-use Rattle.session.specs.Entering.{due, confirmingAt, countingAt}
+use Rattle.session.specs.Entering.{toBeNamed, confirmingAt, countingAt}
 
 -- counted lots are the receiver's list, confirmed ones the presenter's
 abbrev pub confirmed : World → End → List LedgerLot
@@ -74,7 +75,7 @@ pub record Agreement (w : World) (p : End) : Type 0 where
   pub presented : presentedTally w p ≡ tallied (confirmed w p)
   pub received : receivedTally w p ≡ tallied (counted w p)
   -- 'it names the presenter's open lot exactly from the unrefused send of its total until the unrefused reply call for it'
-  pub named : reportAt w p .awaited ≡ due (confirmingAt p (w .trace))
+  pub named : reportAt w p .awaited ≡ toBeNamed (confirmingAt p (w .trace))
   -- 'demand 3's last sentence holds right after that call': nothing is named, and the ends are level
   pub settled : JustReplied w p → (reportAt w p .awaited ≡ Awaited.Neither) × Level w p
   -- the theorem is about the engine that runs: the premise of every call holds at both ends

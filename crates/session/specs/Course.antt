@@ -9,6 +9,11 @@ use Rattle.session.specs.declared.counters.Counters.{Counters}
 use Rattle.session.specs.declared.effect.Effect.{Effect}
 use Rattle.session.specs.Running.{Running, empty, gather}
 
+-- the two directions of a centre
+pub data Direction : Type 0 where
+  presenting : Direction
+  receiving : Direction
+
 -- the counters of a direction, and the running totals that are lent with them
 pub record Course : Type 0 where
   pub counters : Counters
@@ -22,8 +27,8 @@ abbrev pub reopened : OpenLot → Counters → Counters
 reopened lot c = record { current = lot; lots = c .lots; gathered = c .gathered }
 
 -- with one more lot that was accepted, and none open
-abbrev pub counted : Lot → Counters → Counters
-counted l c = record { current = OpenLot.None; lots = suc (c .lots); gathered = gather (c .gathered) (l .gathered) }
+abbrev pub oneMoreLot : Lot → Counters → Counters
+oneMoreLot l c = record { current = OpenLot.None; lots = suc (c .lots); gathered = gather (c .gathered) (l .gathered) }
 
 unfoldable pub advance : Effect → (accepted : Bool) → Course → Course
 -- An accepted header opens a lot.
@@ -31,7 +36,7 @@ advance (Effect.Header number) true k = record { counters = reopened (OpenLot.Nu
 -- An accepted detail adds its documents.
 advance (Effect.Detail more) true k = record { counters = k .counters; running = gather (k .running) more }
 -- An accepted lot total counts the lot; any other reply to it ends the lot as not transmitted.
-advance (Effect.LotTotal lot) true k = record { counters = counted lot (k .counters); running = empty }
+advance (Effect.LotTotal lot) true k = record { counters = oneMoreLot lot (k .counters); running = empty }
 advance (Effect.LotTotal lot) false k = record { counters = reopened OpenLot.None (k .counters); running = empty }
 -- Nothing else moves them.
 advance (Effect.Header number) false k = k

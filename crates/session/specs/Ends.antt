@@ -74,14 +74,14 @@ engines here there End.near = here
 engines here there End.far = there
 
 -- two sessions just started, of one date, own and partner exchanged, running totals zero
-unfoldable pub begun : (date one two : ℕ) (represented : End → List ℕ) → World
-begun date one two represented =
+unfoldable pub begun : (date nearEntity farEntity : ℕ) (represented : End → List ℕ) → World
+begun date nearEntity farEntity represented =
     record {
-      engine = engines (withEmpty (start date one two (represented End.near) .session)) (withEmpty (start date two one (represented End.far) .session));
+      engine = engines (withEmpty (start date nearEntity farEntity (represented End.near) .session)) (withEmpty (start date farEntity nearEntity (represented End.far) .session));
       trace = [];
     }
 
 -- neither start was refused
-pub record Begins (date one two : ℕ) (represented : End → List ℕ) : Type 0 where
-  pub near : start date one two (represented End.near) .number ≡ 0
-  pub far : start date two one (represented End.far) .number ≡ 0
+pub record Begins (date nearEntity farEntity : ℕ) (represented : End → List ℕ) : Type 0 where
+  pub near : start date nearEntity farEntity (represented End.near) .number ≡ 0
+  pub far : start date farEntity nearEntity (represented End.far) .number ≡ 0

@@ -2,6 +2,7 @@
 use Prim.Native.Nat.{ℕ}
 use mathlib.Core.List.{List}
 use lib.ListN.{take}
+use Rattle.session.specs.Course.{Direction}
 use Rattle.session.specs.declared.session.Session.{Session}
 use Rattle.session.specs.Running.{Running, empty}
 use Rattle.session.specs.Outcome.{Held, Outcome, silent}
@@ -9,7 +10,6 @@ use Rattle.session.specs.Sending.{sendHeader, sendDetail, sendLotTotal, 
 use Rattle.session.specs.Receiving as Receiving
 use Rattle.session.specs.Reply.{takeReply}
 use Rattle.session.specs.Clock as Clock
-use Rattle.session.specs.Premise.{Direction}
 
 -- every call on a running session, with its arguments
 pub data Call : Type 0 where

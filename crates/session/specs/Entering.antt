@@ -5,9 +5,9 @@ use mathlib.Core.List.{List, [], _∷_}
 use mathlib.Core.Option.{Option, none, some}
 use lib.Dec.{eqb}
 use Rattle.document.specs.Entities.{member}
-use Rattle.message.specs.Envelope.{bodyOf}
+use Rattle.message.specs.Envelope.{serialOf, bodyOf}
 use Rattle.session.specs.declared.report.Awaited.{Awaited}
-use Rattle.session.specs.Receiving.{serialOf}
+
 use Rattle.session.specs.Reply.{isAccepted}
 use Rattle.session.specs.Ledger.{LedgerLot, Ledger, Entry, blank, enter, partEntry, bodyEntry, lotSum}
 use Rattle.session.specs.Engine.{Call}
@@ -89,5 +89,5 @@ namedBy (some (Entry.detail ds)) current = Awaited.Neither
 namedBy (some Entry.unknown) current = Awaited.Neither
 namedBy none current = Awaited.Neither
 
-abbrev pub due : Confirming → Awaited
-due b = namedBy (b .waiting) (b .ledger .current)
+abbrev pub toBeNamed : Confirming → Awaited
+toBeNamed b = namedBy (b .waiting) (b .ledger .current)

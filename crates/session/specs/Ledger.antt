@@ -49,15 +49,15 @@ longer ds none = none
 longer ds (some l) = some (record { number = l .number; documents = l .documents ++ ds })
 
 -- the list with the open lot at its end
-abbrev pub closed : List LedgerLot → Option LedgerLot → List LedgerLot
-closed lots none = lots
-closed lots (some l) = lots ++ l ∷ []
+abbrev pub moved : List LedgerLot → Option LedgerLot → List LedgerLot
+moved lots none = lots
+moved lots (some l) = lots ++ l ∷ []
 
 unfoldable pub enter : Entry → (accepted : Bool) → Ledger → Ledger
 -- On 00 a header opens a lot, a detail adds its documents in order, a lot total moves the open lot to the list's end.
 enter (Entry.header number) true b = record { lots = b .lots; current = some (record { number = number; documents = [] }) }
 enter (Entry.detail ds) true b = record { lots = b .lots; current = longer ds (b .current) }
-enter Entry.lotTotal true b = record { lots = closed (b .lots) (b .current); current = none }
+enter Entry.lotTotal true b = record { lots = moved (b .lots) (b .current); current = none }
 -- On another code a lot total drops the open lot.
 enter Entry.lotTotal false b = record { lots = b .lots; current = none }
 -- Else the book stays.

@@ -11,13 +11,6 @@ lotDocuments = 2600
 abbrev pub mostLots : ℕ
 mostLots = 64
 
--- the largest amounts of a document
-abbrev pub largestNominal : ℕ
-largestNominal = 999999999999
-
-abbrev pub largestCommission : ℕ
-largestCommission = 99999999
-
 -- the largest number of six digits, as DDMMYY is; and 29 February as DDMM
 abbrev pub largestDate : ℕ
 largestDate = 999999

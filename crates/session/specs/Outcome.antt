@@ -6,6 +6,8 @@ use lib.Dec.{ltb}
 use lib.ListN.{length}
 use lib.Seq.{sets}
 use Rattle.codes.specs.Chain.{_when_, _orelse_}
+use Rattle.codes.specs.Refusal.{refusalNumber}
+use Rattle.session.specs.declared.session.Answer.{Answer}
 use Rattle.session.specs.declared.session.Close.{Close}
 use Rattle.session.specs.declared.session.Session.{Session}
 use Rattle.session.specs.Running.{Running}
@@ -22,6 +24,11 @@ pub record Outcome : Type 0 where
   pub number : ℕ
   pub written : ℕ
   pub left : Held
+
+-- the paper's number of an answer that comes with no bytes
+abbrev pub answerNumber : Answer → ℕ
+answerNumber Answer.Done = 0
+answerNumber (Answer.Refused r) = refusalNumber r
 
 -- A refused call gives its number and changes nothing.
 abbrev pub refused : ℕ → Held → Outcome

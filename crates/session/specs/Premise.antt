@@ -4,15 +4,16 @@ use Prim.Native.Nat.{ℕ, _*_, _≤_, _<_}
 use mathlib.Core.Path.{_≡_}
 use mathlib.Core.Bool.{true}
 use lib.ListN.{length}
-use Rattle.document.specs.Limits.{largestEntity, mostRepresented}
+use Rattle.document.specs.Limits.{largestEntity, mostRepresented, largestNominal, largestCommission}
 use Rattle.message.specs.Limits.{largestSerial, largestNumber}
 use Rattle.session.specs.declared.counters.OpenLot.{OpenLot}
 use Rattle.session.specs.declared.counters.Counters.{Counters}
 use Rattle.session.specs.declared.effect.Effect.{Effect}
 use Rattle.session.specs.declared.parties.Parties.{Parties}
 use Rattle.session.specs.declared.session.Session.{Session}
-use Rattle.session.specs.Limits.{lotDocuments, mostLots, largestNominal, largestCommission, largestDate}
+use Rattle.session.specs.Limits.{lotDocuments, mostLots, largestDate}
 use Rattle.session.specs.Running.{Running, empty, gather, documentsIn}
+use Rattle.session.specs.Course.{Direction}
 use Rattle.session.specs.Sequence.{isOpen}
 
 -- amounts of at most so many documents
@@ -55,11 +56,7 @@ pub record Sound (s : Session) : Type 0 where
   pub pending : PendingSound (s .presenting .pending) (s .presenting .counters)
   pub places : length (s .receiving .lots) ≡ mostLots
 
--- the two directions of a centre, with the counters and what is pending in each
-pub data Direction : Type 0 where
-  presenting : Direction
-  receiving : Direction
-
+-- the counters of a direction, and what is pending in it
 abbrev pub countersOf : Direction → Session → Counters
 countersOf Direction.presenting s = s .presenting .counters
 countersOf Direction.receiving s = s .receiving .counters

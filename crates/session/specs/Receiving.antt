@@ -16,7 +16,7 @@ use Rattle.message.specs.declared.content.Content.{Content}
 use Rattle.message.specs.declared.envelope.Kind.{Kind}
 use Rattle.message.specs.Limits.{envelopeBytes, replyBytes}
 use Rattle.message.specs.Route.{sameRoute}
-use Rattle.message.specs.Envelope.{envelopeGood, envelopeOf, bodyOf}
+use Rattle.message.specs.Envelope.{serialOf, envelopeGood, envelopeOf, bodyOf}
 use Rattle.message.specs.Content.{contentOf}
 use Rattle.message.specs.Layout.{bodyCode}
 use Rattle.message.specs.Header.{header, headerOf}
@@ -115,9 +115,6 @@ receivingAfter code body running r =
 -- a session with another receiving direction, at a time
 abbrev pub withReceiving : (time : ℕ) → Receiving → Session → Session
 withReceiving time r s = record { parties = s .parties; presenting = s .presenting; receiving = r; seen = time; close = s .close }
-
-abbrev pub serialOf : List ℕ → ℕ
-serialOf bytes = envelopeOf bytes .serial
 
 abbrev pub isLast : (bytes : List ℕ) → Receiving → Bool
 isLast bytes r = eqb (serialOf bytes) (r .serial)

@@ -10,7 +10,7 @@ use Rattle.codes.specs.Body.{operationOf}
 use Rattle.message.specs.declared.envelope.Kind.{Kind}
 use Rattle.message.specs.declared.reply.Operation.{Operation}
 use Rattle.message.specs.Route.{sameRoute}
-use Rattle.message.specs.Envelope.{envelopeGood, envelopeOf, bodyOf}
+use Rattle.message.specs.Envelope.{serialOf, envelopeGood, envelopeOf, bodyOf}
 use Rattle.message.specs.Reply.{operationByte, replyGood}
 use Rattle.session.specs.declared.effect.Effect.{Effect}
 use Rattle.session.specs.declared.session.Presenting.{Presenting}
@@ -32,7 +32,7 @@ awaitedOperation Effect.SessionTotal = Operation.SessionTotal
 -- a reply is awaited, and it is this one
 unfoldable pub isAwaited : (bytes : List ℕ) → Presenting → Bool
 isAwaited bytes p =
-    isPending (p .pending) && eqb (envelopeOf bytes .serial) (p .serial) && eqb (operationOf (bodyOf bytes)) (operationByte (awaitedOperation (p .pending)))
+    isPending (p .pending) && eqb (serialOf bytes) (p .serial) && eqb (operationOf (bodyOf bytes)) (operationByte (awaitedOperation (p .pending)))
 
 -- the code that it brings, and whether it is 00
 abbrev pub replyCode : List ℕ → ℕ

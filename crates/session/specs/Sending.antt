@@ -95,8 +95,8 @@ abbrev pub openNumber : OpenLot → ℕ
 openNumber OpenLot.None = 0
 openNumber (OpenLot.Numbered n) = n
 
-abbrev pub openLot : Counters → Running → Lot
-openLot c running = record { number = openNumber (c .current); gathered = running }
+abbrev pub endingLot : Counters → Running → Lot
+endingLot c running = record { number = openNumber (c .current); gathered = running }
 
 -- hhmmsscc is what the header says of its moment; the call's own time is the first
 unfoldable pub sendHeader : (time moment centre number : ℕ) → Held → Outcome
@@ -112,7 +112,7 @@ sendDetail time operation part h =
 -- The presenter writes totals from its own counters, and a lot total with the open lot's number.
 unfoldable pub sendLotTotal : (time : ℕ) → Held → Outcome
 sendLotTotal time h =
-    let lot = openLot (h .session .presenting .counters) (h .running) in
+    let lot = endingLot (h .session .presenting .counters) (h .running) in
     send time (lotTotalStop (h .session .presenting)) (Effect.LotTotal lot)
     (bodyBytes (presentingRoute (h .session .parties)) (Body.lotEnding (record { number = lot .number; stated = stated (lot .gathered) }))) h
 

@@ -4,7 +4,6 @@ use mathlib.Core.Bool.{false, not, cond}
 use mathlib.Core.List.{List}
 use lib.ListN.{replicate}
 use Rattle.codes.specs.Chain.{_when_}
-use Rattle.codes.specs.Refusal.{refusalNumber}
 use Rattle.codes.specs.declared.reply.Code.{Code}
 use Rattle.message.specs.declared.reply.Operation.{Operation}
 use Rattle.session.specs.declared.counters.OpenLot.{OpenLot}
@@ -15,9 +14,9 @@ use Rattle.session.specs.declared.session.Close.{Close}
 use Rattle.session.specs.declared.session.Presenting.{Presenting}
 use Rattle.session.specs.declared.session.Receiving.{Receiving}
 use Rattle.session.specs.declared.session.Session.{Session}
-use Rattle.session.specs.declared.session.Answer.{Answer}
 use Rattle.session.specs.declared.session.Started.{Started}
 use Rattle.session.specs.Limits.{mostLots}
+use Rattle.session.specs.Outcome.{answerNumber}
 use Rattle.session.specs.Parties.{partiesGood, partiesOf, nobody}
 use Rattle.session.specs.Running.{empty}
 
@@ -44,24 +43,19 @@ unheard =
 unfoldable pub fresh : Parties → Close → Session
 fresh parties close = record { parties = parties; presenting = unsent; receiving = unheard; seen = 0; close = close }
 
--- the paper's number of an answer that comes with no bytes
-abbrev pub answerNumber : Answer → ℕ
-answerNumber Answer.Done = 0
-answerNumber (Answer.Refused r) = refusalNumber r
-
 -- a number, and a session beside it
-pub record Begun : Type 0 where
+pub record StartOutcome : Type 0 where
   pub number : ℕ
   pub session : Session
 
-abbrev pub startSaid : Started → Begun
+abbrev pub startSaid : Started → StartOutcome
 startSaid s = record { number = answerNumber (s .answer); session = s .session }
 
 abbrev pub started : (date own partner : ℕ) (represented : List ℕ) → Session
 started date own partner represented = fresh (partiesOf date own partner represented) Close.Open
 
 -- 24 or a session just started. What stands beside 24 the paper leaves open: a session that is closed and was never started.
-unfoldable pub start : (date own partner : ℕ) (represented : List ℕ) → Begun
+unfoldable pub start : (date own partner : ℕ) (represented : List ℕ) → StartOutcome
 start date own partner represented =
     record {
       number = 24 when not (partiesGood date own partner represented);

@@ -14,6 +14,7 @@ use Rattle.packed.specs.Number.{number}
 use Rattle.packed.proofs.Laws.Told.{both}
 use Rattle.packed.proofs.Laws.Every.{every-cons}
 use Rattle.packed.proofs.Laws.Number.{number-below}
+use Rattle.document.specs.Limits.{largestNominal, largestCommission}
 use Rattle.document.specs.Fields.{amountsGood}
 use Rattle.document.specs.Amounts.{nominal, commission, totalsOf}
 use Rattle.document.proofs.Laws.Fields.{amounts-split}
@@ -29,7 +30,7 @@ module _ (operation receiving : ℕ) where
       (below 25 6 d (digits .0), below 43 4 d (digits .1))
 
   -- every document counts once
-  pub totals-below : (ds : List (List ℕ)) → every (amountsGood operation receiving) ds ≡ true → (totalsOf ds .documents .0 ≡ length ds) × (totalsOf ds .nominal .0 ≤ length ds * 999999999999) × (totalsOf ds .commission .0 ≤ length ds * 99999999)
+  pub totals-below : (ds : List (List ℕ)) → every (amountsGood operation receiving) ds ≡ true → (totalsOf ds .documents .0 ≡ length ds) × (totalsOf ds .nominal .0 ≤ length ds * largestNominal) × (totalsOf ds .commission .0 ≤ length ds * largestCommission)
   unfolding totalsOf
   totals-below [] e = (omega arith, omega arith, omega arith)
   totals-below (d ∷ ds) e =

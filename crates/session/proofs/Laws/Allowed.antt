@@ -37,7 +37,7 @@ use Rattle.session.specs.Parties.{receivingRoute, representedBy}
 use Rattle.session.specs.Running.{Running, empty, gather, detailAdds, documentsIn}
 use Rattle.session.specs.Course.{Course}
 use Rattle.session.specs.Sequence.{isOpen, isThis, headerSequence, openSequence, lotTotalSequence}
-use Rattle.session.specs.Sending.{headerStop, detailStop, lotTotalStop, partAdds, openNumber, openLot}
+use Rattle.session.specs.Sending.{headerStop, detailStop, lotTotalStop, partAdds, openNumber, endingLot}
 use Rattle.session.specs.Receiving.{acceptedLots, numberUsed, headerCode, detailCode, lotTotalCode, codeBy, effectBy}
 use Rattle.session.specs.Premise.{Fits, PendingSound, PendingCarried}
 use Rattle.session.proofs.Laws.Refusals.{passed}
@@ -99,7 +99,7 @@ module _ (t : Running) (p : Presenting) (fits : Fits lotDocuments t) where
         carried = fits-gather lotDocuments (length ds) lotDocuments t more room fits (documents-fit (packedByte operation) partner ds (accepted-part operation partner part (own .0) .1));
       }
 
-  pub lot-total-allowed : lotTotalStop p ≡ 0 → Allowed (Effect.LotTotal (openLot (p .counters) t)) presented
+  pub lot-total-allowed : lotTotalStop p ≡ 0 → Allowed (Effect.LotTotal (endingLot (p .counters) t)) presented
   unfolding lotTotalStop
   lot-total-allowed e = record { sound = numbered-open (p .counters .current) (open-told (p .counters .current) e); carried = refl }
 

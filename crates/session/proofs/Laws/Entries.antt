@@ -27,7 +27,7 @@ use Rattle.session.specs.declared.counters.Counters.{Counters}
 use Rattle.session.specs.declared.counters.Lot.{Lot}
 use Rattle.session.specs.Running.{Running}
 use Rattle.session.specs.Course.{Course}
-use Rattle.session.specs.Sending.{openNumber, openLot}
+use Rattle.session.specs.Sending.{openNumber, endingLot}
 use Rattle.session.specs.Ledger.{LedgerLot, Ledger, Entry, entryBy, bodyEntry, partEntry, ofOperation}
 use Rattle.session.proofs.Laws.Ledger.{summary, openOf, runningOf, lotOf}
 
@@ -59,8 +59,8 @@ unfolding entryBy
 session-total-entry route t = ap (λ (c : Content). entryBy c (bodyBytes route (Body.sessionEnding t))) (content-told route (Body.sessionEnding t))
 
 -- the lot that the presenter's counters name is the open one of its book
-pub open-lot-same : (c : Counters) (t : Running) (b : Ledger) → _≡_ {A = Course} (record { counters = c; running = t }) (summary b) → openLot c t ≡ lotOf (b .current)
-open-lot-same c t b course = ap (λ (k : Course). openLot (k .counters) (k .running)) course ∙ go (b .current)
+pub open-lot-same : (c : Counters) (t : Running) (b : Ledger) → _≡_ {A = Course} (record { counters = c; running = t }) (summary b) → endingLot c t ≡ lotOf (b .current)
+open-lot-same c t b course = ap (λ (k : Course). endingLot (k .counters) (k .running)) course ∙ go (b .current)
   where
     go : (o : Option LedgerLot) → _≡_ {A = Lot} (record { number = openNumber (openOf o); gathered = runningOf o }) (lotOf o)
     go none = refl

@@ -6,6 +6,7 @@ use Prim.Native.Nat.{ℕ, zero, suc}
 use native.Mathlib.Omega.{arith}
 use Rattle.message.specs.Envelope.{envelopeOf, bodyOf}
 use Rattle.message.specs.Line.{wholeReply}
+use Rattle.session.specs.Course.{Direction}
 use Rattle.session.specs.declared.counters.OpenLot.{OpenLot}
 use Rattle.session.specs.declared.session.Presenting.{Presenting}
 use Rattle.session.specs.declared.session.Receiving.{Receiving}
@@ -15,7 +16,7 @@ use Rattle.session.specs.Sending.{sendRefusal, send, sendHeader, sendDet
 use Rattle.session.specs.Receiving.{isNext, receiveRefusal, receive, afterNew, afterRepeat, afterMessage, replying}
 use Rattle.session.specs.Reply.{replyRefusal, takeReply}
 use Rattle.session.specs.Clock.{clock}
-use Rattle.session.specs.Premise.{Direction, PendingCarried}
+use Rattle.session.specs.Premise.{PendingCarried}
 use Rattle.session.specs.Engine.{Call, Engine, meaning, directionOf, lent, givenBack, perform}
 use Rattle.session.specs.Claim.{Ready}
 use Rattle.session.proofs.Laws.Decided.{either, unrefused, refused-keeps}

@@ -17,12 +17,12 @@ use Rattle.message.specs.declared.envelope.Kind.{Kind}
 use Rattle.message.specs.declared.envelope.Envelope.{Envelope}
 use Rattle.message.specs.declared.reply.Reply.{Reply}
 use Rattle.message.specs.Limits.{largestSerial}
-use Rattle.message.specs.Envelope.{envelopeFields, envelopeGood, envelopeOf, envelopeValues, writtenEnvelope, bodyOf}
+use Rattle.message.specs.Envelope.{serialOf, envelopeFields, envelopeGood, envelopeOf, envelopeValues, writtenEnvelope, bodyOf}
 use Rattle.message.specs.Reply.{writtenReplyBody}
 use Rattle.message.specs.Line.{message, wholeReply}
 use Rattle.message.proofs.Laws.Envelope.{in-range, envelope-told, body-told, kind-told}
 use Rattle.session.specs.declared.parties.Parties.{Parties}
-use Rattle.session.specs.Receiving.{serialOf}
+
 use Rattle.session.specs.Reply.{isAccepted}
 use Rattle.session.specs.Premise.{PartiesSound}
 use Rattle.session.specs.Ledger.{Entry, bodyEntry}

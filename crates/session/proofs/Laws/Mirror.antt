@@ -27,7 +27,7 @@ use Rattle.session.specs.Course.{Course, advance, kept}
 use Rattle.session.specs.Sequence.{isOpen, headerSequence}
 use Rattle.session.specs.Sending.{openNumber}
 use Rattle.session.specs.Receiving.{acceptedLots, numberUsed, headerCode, codeBy, effectBy}
-use Rattle.session.specs.Ledger.{Document, LedgerLot, Ledger, Entry, longer, closed, enter, entryBy, ofOperation, sum, lotSum, numbers, Distinct}
+use Rattle.session.specs.Ledger.{Document, LedgerLot, Ledger, Entry, longer, moved, enter, entryBy, ofOperation, sum, lotSum, numbers, Distinct}
 use Rattle.session.proofs.Laws.Refusals.{passed}
 use Rattle.session.proofs.Laws.Allowed.{Allowed}
 use Rattle.session.proofs.Laws.Ledger.{summary, openOf, runningOf, effectOf, lotOf, detail-sum, mirrors}
@@ -61,7 +61,7 @@ module _ (r : Receiving) (t : Running) (b : Ledger) (m : Mirrored r t b) where
   longer-new ds none n = tt
   longer-new ds (some l) n = n
 
-  closed-once : (o : Option LedgerLot) → NewNumber o (b .lots) → Distinct (numbers (closed (b .lots) o))
+  closed-once : (o : Option LedgerLot) → NewNumber o (b .lots) → Distinct (numbers (moved (b .lots) o))
   closed-once none n = m .once
   closed-once (some l) n = subst Distinct (sym (numbers-last (b .lots) l)) (distinct-last (numbers (b .lots)) (l .number) (m .once) n)
 
@@ -115,7 +115,7 @@ module _ (r : Receiving) (t : Running) (b : Ledger) (m : Mirrored r t b) where
         take-suc-set (r .lots) (r .counters .lots) (record { number = totalOf lotTotalFields body .number; gathered = t }) place
         ∙ (λ i. m .kept i ++ last .same i ∷ [])
         ∙ sym (sums-last (b .lots) (last .lot))
-        ∙ ap (λ (o : Option LedgerLot). map lotSum (closed (b .lots) o)) (sym (last .current))
+        ∙ ap (λ (o : Option LedgerLot). map lotSum (moved (b .lots) o)) (sym (last .current))
     lots-mirror Content.LotTotal false a room = m .kept
     lots-mirror Content.Header true a room = m .kept
     lots-mirror Content.Header false a room = m .kept

@@ -23,7 +23,7 @@ use Rattle.message.specs.declared.envelope.Kind.{Kind}
 use Rattle.message.specs.declared.header.Header.{Header}
 use Rattle.message.specs.declared.reply.Reply.{Reply}
 use Rattle.message.specs.Reply.{writtenReplyBody}
-use Rattle.message.specs.Envelope.{envelopeGood, envelopeOf, bodyOf}
+use Rattle.message.specs.Envelope.{serialOf, envelopeGood, envelopeOf, bodyOf}
 use Rattle.message.specs.Header.{sendable}
 use Rattle.message.specs.Line.{Body, bodyBytes, message, wholeReply}
 use Rattle.message.proofs.Laws.Envelope.{body-told, whole-length}
@@ -32,14 +32,14 @@ use Rattle.session.specs.declared.session.Presenting.{Presenting}
 use Rattle.session.specs.declared.session.Receiving.{Receiving}
 use Rattle.session.specs.Parties.{presentingRoute}
 use Rattle.session.specs.Running.{Running}
-use Rattle.session.specs.Course.{Course, advance}
+use Rattle.session.specs.Course.{Direction, Course, advance}
 use Rattle.session.specs.Sequence.{isOpen}
 use Rattle.session.specs.Outcome.{Held, Outcome, clockRefusal, silent}
 use Rattle.session.specs.Sending.{posted, isPending, nextEnvelope, sendRefusal, sent, send, headerStop, detailStop, lotTotalStop, sessionTotalStop, partAdds, sendHeader, sendDetail, sendLotTotal, sendSessionTotal}
-use Rattle.session.specs.Receiving.{serialOf, isNext, receiveRefusal, receive, afterNew, afterRepeat, replying}
+use Rattle.session.specs.Receiving.{isNext, receiveRefusal, receive, afterNew, afterRepeat, replying}
 use Rattle.session.specs.Reply.{isAccepted, replyRefusal, replied, takeReply}
 use Rattle.session.specs.Clock.{ticked, clock}
-use Rattle.session.specs.Premise.{Direction, PendingSound}
+use Rattle.session.specs.Premise.{PendingSound}
 use Rattle.session.specs.Ledger.{Entry, Ledger, enter, bodyEntry, partEntry, numbers, Distinct}
 use Rattle.session.specs.Engine.{Call, Engine, saidBy, meaning, lent, perform}
 use Rattle.session.specs.Ends.{End, Event, Written, Brought}

@@ -14,11 +14,12 @@ use Rattle.document.specs.Entities.{member}
 use Rattle.message.specs.declared.route.Route.{Route}
 use Rattle.message.specs.declared.envelope.Kind.{Kind}
 use Rattle.message.specs.declared.reply.Reply.{Reply}
-use Rattle.message.specs.Envelope.{envelopeGood, envelopeOf, bodyOf}
+use Rattle.message.specs.Envelope.{serialOf, envelopeGood, envelopeOf, bodyOf}
 use Rattle.message.specs.Content.{contentOf}
 use Rattle.message.specs.Reply.{writtenReplyBody}
 use Rattle.message.specs.Line.{message, wholeReply}
 use Rattle.message.proofs.Laws.Envelope.{serial-told, whole-length}
+use Rattle.session.specs.Course.{Direction}
 use Rattle.session.specs.declared.counters.OpenLot.{OpenLot}
 use Rattle.session.specs.declared.effect.Effect.{Effect}
 use Rattle.session.specs.declared.session.Presenting.{Presenting}
@@ -29,10 +30,10 @@ use Rattle.session.specs.Running.{Running}
 use Rattle.session.specs.Sequence.{isOpen}
 use Rattle.session.specs.Outcome.{Held, Outcome, clockRefusal}
 use Rattle.session.specs.Sending.{nextEnvelope, sendRefusal, send, sendHeader, sendDetail, sendLotTotal, sendSessionTotal}
-use Rattle.session.specs.Receiving.{serialOf, isNext, isLast, codeFor, effectBy, receivingCourse, receivingAfter, receiveRefusal, receive, afterNew, afterRepeat, replying}
+use Rattle.session.specs.Receiving.{isNext, isLast, codeFor, effectBy, receivingCourse, receivingAfter, receiveRefusal, receive, afterNew, afterRepeat, replying}
 use Rattle.session.specs.Reply.{isAccepted, replyRefusal, takeReply}
 use Rattle.session.specs.Clock.{clock}
-use Rattle.session.specs.Premise.{Direction, OpenSound}
+use Rattle.session.specs.Premise.{OpenSound}
 use Rattle.session.specs.Ledger.{enter, bodyEntry}
 use Rattle.session.specs.Engine.{Call, Engine, saidBy, meaning, lent, perform}
 use Rattle.session.specs.Ends.{End, Event, Written, Brought}

@@ -13,14 +13,14 @@ use Rattle.codes.proofs.Laws.Chain.{none-test, none-both}
 use Rattle.message.specs.declared.envelope.Kind.{Kind}
 use Rattle.message.specs.Limits.{largestSerial, envelopeBytes, replyBytes}
 use Rattle.message.specs.Route.{sameRoute}
-use Rattle.message.specs.Envelope.{envelopeGood, envelopeOf, bodyOf}
+use Rattle.message.specs.Envelope.{serialOf, envelopeGood, envelopeOf, bodyOf}
 use Rattle.message.specs.Reply.{operationByte, replyGood}
 use Rattle.message.proofs.Laws.Route.{same}
 use Rattle.session.specs.declared.session.Session.{Session}
 use Rattle.session.specs.Parties.{presentingRoute, receivingRoute}
 use Rattle.session.specs.Outcome.{Held, noRoom, timeRefusal}
 use Rattle.session.specs.Sending.{isPending, sendRefusal}
-use Rattle.session.specs.Receiving.{isLast, isNext, serialOf, receiveRefusal}
+use Rattle.session.specs.Receiving.{isLast, isNext, receiveRefusal}
 use Rattle.session.specs.Reply.{awaitedOperation, isAwaited, replyRefusal}
 
 -- the test before the rest of a chain that gives nothing failed

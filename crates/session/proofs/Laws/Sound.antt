@@ -9,7 +9,7 @@ use lib.ListN.{length, length-set, length-replicate}
 use borrow.Author.Tests.{eqb-true}
 use Rattle.detail.specs.Groups.{documents}
 use Rattle.message.specs.declared.envelope.Kind.{Kind}
-use Rattle.message.specs.Envelope.{bodyOf}
+use Rattle.message.specs.Envelope.{serialOf, bodyOf}
 use Rattle.message.specs.Content.{contentOf}
 use Rattle.message.specs.Line.{message}
 use Rattle.message.proofs.Laws.Envelope.{serial-told}
@@ -21,15 +21,15 @@ use Rattle.session.specs.declared.session.Close.{Close}
 use Rattle.session.specs.Limits.{lotDocuments, mostLots}
 use Rattle.session.specs.Parties.{partiesGood, partiesOf, nobody}
 use Rattle.session.specs.Running.{empty}
-use Rattle.session.specs.Course.{Course, advance, kept}
+use Rattle.session.specs.Course.{Direction, Course, advance, kept}
 use Rattle.session.specs.Sequence.{isOpen}
 use Rattle.session.specs.Start.{noLots, fresh, started, start}
 use Rattle.session.specs.Outcome.{Held, Outcome, clockRefusal}
 use Rattle.session.specs.Sending.{sendRefusal, sent, send, sessionTotalStop, sendHeader, sendDetail, sendLotTotal, sendSessionTotal, nextEnvelope}
-use Rattle.session.specs.Receiving.{effectBy, codeFor, receivingAfter, isNext, serialOf, receive, receiveRefusal, afterNew, afterRepeat, afterMessage}
+use Rattle.session.specs.Receiving.{effectBy, codeFor, receivingAfter, isNext, receive, receiveRefusal, afterNew, afterRepeat, afterMessage}
 use Rattle.session.specs.Reply.{replyRefusal, isAccepted, takeReply}
 use Rattle.session.specs.Clock.{ticked, clock}
-use Rattle.session.specs.Premise.{Fits, CountersSound, OpenSound, PartiesSound, Sound, Direction, Carried}
+use Rattle.session.specs.Premise.{Fits, CountersSound, OpenSound, PartiesSound, Sound, Carried}
 use Rattle.session.proofs.Laws.Parties.{told as parties-told}
 use Rattle.session.proofs.Laws.Decided.{either}
 use Rattle.session.proofs.Laws.Refusals.{send-told, ReceiveTold, receive-told}

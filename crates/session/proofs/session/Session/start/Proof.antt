@@ -6,7 +6,7 @@ use Rattle.session.specs.declared.parties.Parties.{Parties}
 use Rattle.session.specs.declared.session.Close.{Close}
 use Rattle.session.specs.declared.session.Session.{Session}
 use Rattle.session.specs.Parties.{partiesGood, nobody}
-use Rattle.session.specs.Start.{Begun, fresh, started, start}
+use Rattle.session.specs.Start.{StartOutcome, fresh, started, start}
 use Rattle.session.proofs.Laws.Parties.{told}
 use borrow.Author.Needs.{needs}
 use Rattle.session.proofs.session.Session.start.Statement.{statement}
@@ -22,7 +22,7 @@ fresh-requires : tie.Need-fresh-requires
 fresh-requires c κs = search needs
 
 -- a number and a session, by the test
-chosen : Bool → (this that : Session) → Begun
+chosen : Bool → (this that : Session) → StartOutcome
 chosen good this that = record { number = 24 when not good; session = cond good this that }
 
 returns : tie.Need-returns
