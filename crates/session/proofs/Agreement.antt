@@ -27,7 +27,7 @@ use Rattle.session.specs.Ledger.{LedgerLot, Ledger, Entry, blank, enter,
 use Rattle.session.specs.Engine.{Call, Engine, perform, withEmpty}
 use Rattle.session.specs.Ends.{End, other, Event, World, Step, replaced, act, run, Brought, Possible, engines, begun, Begins}
 use Rattle.session.specs.Entering.{namedLot, namedBy, toBeNamed, Confirming, Counting, presents, receives, confirmingAt, countingAt}
-use Rattle.session.specs.Claim.{oneMore, confirmed, counted, reportAt, presentedTally, receivedTally, Level, Ahead, JustReplied, Ready, Agreement}
+use Rattle.session.specs.Claim.{oneMore, confirmed, counted, reportAt, presentedTally, receivedTally, Level, Ahead, JustReplied, Ready, Agreement, BothEndsTogether}
 use Rattle.session.proofs.Laws.Parties.{Told, told}
 use Rattle.session.proofs.Laws.Ledger.{openOf, lotOf, lots-last, one-longer}
 use Rattle.session.proofs.Laws.Line.{accepts}
@@ -207,10 +207,11 @@ module _ (w : World) (all : Whole w) (p : End) where
   level : counted w p ≡ confirmed w p → Level w p
   level same = record { lots = same; totals = received ∙ ap tallied same ∙ sym presented }
 
-  ahead : (l : LedgerLot) → toBeNamed bp ≡ Awaited.LotTotal (lotSum l) → counted w p ≡ confirmed w p ++ l ∷ [] → Ahead w p
-  ahead l names more =
+  ahead : (l : LedgerLot) → bp .ledger .current ≡ some l → toBeNamed bp ≡ Awaited.LotTotal (lotSum l) → counted w p ≡ confirmed w p ++ l ∷ [] → Ahead w p
+  ahead l current names more =
       record {
         lot = l;
+        unconfirmed = current;
         named = named ∙ names;
         lots = more;
         totals =
@@ -229,7 +230,7 @@ module _ (w : World) (all : Whole w) (p : End) where
 
       ended : (current : Option LedgerLot) → bp .waiting ≡ some Entry.lotTotal → bp .ledger .current ≡ current → counted w p ≡ moved (confirmed w p) current → Level w p ⊎ Ahead w p
       ended none w c h = inl (level h)
-      ended (some l) w c h = inr (ahead l (λ i. namedBy (w i) (c i)) h)
+      ended (some l) w c h = inr (ahead l c (λ i. namedBy (w i) (c i)) h)
 
       entered : (d : Entry) (accepted : Bool) → bp .waiting ≡ some d → br .ledger ≡ enter d accepted (bp .ledger) → Level w p ⊎ Ahead w p
       entered (Entry.header number) true w h = inl (level (lots-of h))
@@ -267,11 +268,12 @@ module _ (w : World) (all : Whole w) (p : End) where
         received = received;
         named = named;
         settled = settled;
-        ready = all .ready p;
-        ready-other = all .ready (other p);
+        ready = all .ready;
       }
 
--- Two sessions just started, of one date, own and partner exchanged, any represented entities; any list of calls at either end with any
--- arguments, over a line that brings what was written and nothing else: in both directions the ends agree.
-pub agreement : (date one two : ℕ) (represented : End → List ℕ) → Begins date one two represented → (steps : List Step) → Possible steps (begun date one two represented) → (p : End) → Agreement (run steps (begun date one two represented)) p
-agreement date one two represented begins steps possible p = agree (run steps (begun date one two represented)) (run-keeps steps (begun date one two represented) (begun-whole date one two represented begins) possible) p
+-- both directions stay joined through any list of calls
+pub whole-after : (date nearEntity farEntity : ℕ) (represented : End → List ℕ) → Begins date nearEntity farEntity represented → (steps : List Step) → Possible steps (begun date nearEntity farEntity represented) → Whole (run steps (begun date nearEntity farEntity represented))
+whole-after date nearEntity farEntity represented begins steps possible = run-keeps steps (begun date nearEntity farEntity represented) (begun-whole date nearEntity farEntity represented begins) possible
+
+pub agreement : BothEndsTogether
+agreement date nearEntity farEntity represented begins steps possible p = agree (run steps (begun date nearEntity farEntity represented)) (whole-after date nearEntity farEntity represented begins steps possible) p

@@ -4,6 +4,7 @@ use Prim.Native.Nat.{ℕ, suc}
 use mathlib.Core.Path.{_≡_}
 use mathlib.Core.List.{List, [], _∷_, _++_}
 use mathlib.Core.Logic.{_⊎_}
+use mathlib.Core.Option.{some}
 use Rattle.session.specs.Course.{Direction}
 use Rattle.session.specs.declared.counters.Lot.{Lot}
 use Rattle.session.specs.declared.report.Tally.{Tally}
@@ -14,10 +15,10 @@ use Rattle.session.specs.Running.{gather}
 use Rattle.session.specs.Premise.{Sound, Carried}
 use Rattle.session.specs.Ledger.{LedgerLot, lotSum, tallied, numbers, Distinct}
 use Rattle.session.specs.Engine.{Call, Engine}
-use Rattle.session.specs.Ends.{End, other, Event, World}
+use Rattle.session.specs.Ends.{End, other, Event, World, Step, run, Possible, begun, Begins}
 use Rattle.session.specs.Entering.{toBeNamed, confirmingAt, countingAt}
 
--- counted lots are the receiver's list, confirmed ones the presenter's
+-- of a direction in which the end p presents: counted lots are the receiver's list, confirmed ones the presenter's
 abbrev pub confirmed : World → End → List LedgerLot
 confirmed w p = confirmingAt p (w .trace) .ledger .lots
 
@@ -44,9 +45,10 @@ pub record Level (w : World) (p : End) : Type 0 where
   pub lots : counted w p ≡ confirmed w p
   pub totals : receivedTally w p ≡ presentedTally w p
 
--- the presenter's report names a lot, and the receiver has counted the confirmed ones and then that one
+-- the presenter's report names its open lot, and the receiver has counted the confirmed ones and then that one, document by document
 pub record Ahead (w : World) (p : End) : Type 0 where
   pub lot : LedgerLot
+  pub unconfirmed : confirmingAt p (w .trace) .ledger .current ≡ some lot
   pub named : reportAt w p .awaited ≡ Awaited.LotTotal (lotSum lot)
   pub lots : counted w p ≡ confirmed w p ++ lot ∷ []
   pub totals : receivedTally w p ≡ oneMore (lotSum lot) (presentedTally w p)
@@ -65,8 +67,10 @@ pub record Ready (e : Engine) : Type 0 where
   pub presenting : Carried Direction.presenting (e .session) (e .presenting)
   pub receiving : Carried Direction.receiving (e .session) (e .receiving)
 
+-- the claim about one direction, in which the end p presents
 pub record Agreement (w : World) (p : End) : Type 0 where
-  -- 'the two ends' books agree, or differ by exactly one lot that the presenter's report names'
+  -- 'the lots that the receiver has counted are exactly the presenter's confirmed ones; or the presenter's report names one unconfirmed lot, and
+  -- the receiver has counted exactly the confirmed ones and then that lot'
   pub agreed : Level w p ⊎ Ahead w p
   -- 'no number stands twice in either'
   pub counted-once : Distinct (numbers (counted w p))
@@ -74,10 +78,15 @@ pub record Agreement (w : World) (p : End) : Type 0 where
   -- 'a report's totals are the counts and sums over its end's lists'
   pub presented : presentedTally w p ≡ tallied (confirmed w p)
   pub received : receivedTally w p ≡ tallied (counted w p)
-  -- 'it names the presenter's open lot exactly from the unrefused send of its total until the unrefused reply call for it'
+  -- 'it names the presenter's open lot, with number, counts and sums, exactly from the unrefused send of its total until the unrefused reply
+  -- call for it'
   pub named : reportAt w p .awaited ≡ toBeNamed (confirmingAt p (w .trace))
-  -- 'demand 3's last sentence holds right after that call': nothing is named, and the ends are level
+  -- 'demand 3's last sentence holds right after that call': nothing is named and the ends are level; so it is after a reply to any message
   pub settled : JustReplied w p → (reportAt w p .awaited ≡ Awaited.Neither) × Level w p
   -- the theorem is about the engine that runs: the premise of every call holds at both ends
-  pub ready : Ready (w .engine p)
-  pub ready-other : Ready (w .engine (other p))
+  pub ready : (x : End) → Ready (w .engine x)
+
+-- 'a single claim about a whole list of calls': two sessions just started, of one date, own and partner exchanged, with any represented
+-- entities; any list of calls at either end with any arguments, over a line that brings what was written and nothing else; both directions
+abbrev pub BothEndsTogether : Type 0
+BothEndsTogether = (date nearEntity farEntity : ℕ) (represented : End → List ℕ) → Begins date nearEntity farEntity represented → (steps : List Step) → Possible steps (begun date nearEntity farEntity represented) → (p : End) → Agreement (run steps (begun date nearEntity farEntity represented)) p

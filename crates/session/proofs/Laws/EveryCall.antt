@@ -13,7 +13,7 @@ use Rattle.session.specs.declared.session.Receiving.{Receiving}
 use Rattle.session.specs.declared.session.Session.{Session}
 use Rattle.session.specs.Outcome.{Held, Outcome, refused, decided, silent, wrote, timeRefusal, clockRefusal}
 use Rattle.session.specs.Sending.{sendRefusal, send, sendHeader, sendDetail, sendLotTotal, sendSessionTotal}
-use Rattle.session.specs.Receiving.{isNext, receiveRefusal, receive, afterNew, afterRepeat, afterMessage, replying}
+use Rattle.session.specs.Receiving.{isNext, receiveRefusal, receive, receivingAfter, afterNew, afterRepeat, afterMessage, replying}
 use Rattle.session.specs.Reply.{replyRefusal, takeReply}
 use Rattle.session.specs.Clock.{clock}
 use Rattle.session.specs.Premise.{PendingCarried}
@@ -69,7 +69,7 @@ abbrev Apart : Direction → (Held → Outcome) → Type 0
 Apart Direction.presenting call = (h : Held) (r : Receiving) → call (withReceiving r h) ≡ changed (withReceiving r) (call h)
 Apart Direction.receiving call = (h : Held) (p : Presenting) → call (withPresenting p h) ≡ changed (withPresenting p) (call h)
 
--- all calls but the clock call, which sees both ends of a close, belong to one direction
+-- all calls but the clock call and the report, which look at both, belong to one direction
 abbrev belongs : Call → Bool
 belongs (Call.clock time) = false
 belongs (Call.header time moment centre number) = true
@@ -78,7 +78,7 @@ belongs (Call.lotTotal time) = true
 belongs (Call.sessionTotal time) = true
 belongs (Call.receive time bytes) = true
 belongs (Call.reply time bytes) = true
-belongs Call.report = true
+belongs Call.report = false
 
 received-apart : (time : ℕ) (bytes : List ℕ) → Apart Direction.receiving (receive time bytes)
 unfolding receive receiveRefusal timeRefusal clockRefusal
@@ -99,7 +99,7 @@ directions-apart (Call.detail time operation part) b = λ (h : Held) (r : Receiv
 directions-apart (Call.lotTotal time) b = λ (h : Held) (r : Receiving). apart (withReceiving r) _ h _
 directions-apart (Call.sessionTotal time) b = λ (h : Held) (r : Receiving). apart (withReceiving r) _ h _
 directions-apart (Call.reply time bytes) b = λ (h : Held) (r : Receiving). apart (withReceiving r) _ h _
-directions-apart Call.report b = λ (h : Held) (r : Receiving). refl
+directions-apart Call.report b = absurd (false≢true b)
 directions-apart (Call.clock time) b = absurd (false≢true b)
 directions-apart (Call.receive time bytes) b = received-apart time bytes
 
@@ -179,10 +179,14 @@ parties-kept call line e = go (directionOf call) refl
     go Direction.presenting way = untouched call (lent Direction.presenting line e) .parties
     go Direction.receiving way = untouched call (lent Direction.receiving line e) .parties
 
--- A message with a code is not refused: whatever its body, the reply is written.
-pub message-answered : (time : ℕ) (bytes : List ℕ) (h : Held) → receiveRefusal time bytes h ≡ 0 → receive time bytes h .number ≡ 0
+-- A message is not refused because of its code: it is answered, and its serial becomes the last.
+pub message-told : (time : ℕ) (bytes : List ℕ) (h : Held) → receiveRefusal time bytes h ≡ 0 → isNext bytes (h .session .receiving) ≡ true → receive time bytes h ≡ wrote (wholeReply (envelopeOf bytes) (afterNew time (bodyOf bytes) h .session .receiving .reply)) (afterNew time (bodyOf bytes) h)
 unfolding receive
-message-answered time bytes h e = let done = replying bytes (afterMessage time bytes h) in (λ i. decided (e i) h done .number) ∙ ap (λ (o : Outcome). o .number) (unrefused h done)
+message-told time bytes h e n = (λ i. decided (e i) h (replying bytes (cond (n i) (afterNew time (bodyOf bytes) h) (afterRepeat time h)))) ∙ unrefused h (replying bytes (afterNew time (bodyOf bytes) h))
+
+pub serial-taken : (time : ℕ) (body : List ℕ) (h : Held) → afterNew time body h .session .receiving .serial ≡ suc (h .session .receiving .serial)
+unfolding receivingAfter
+serial-taken time body h = refl
 
 -- A repeat writes the kept reply again and moves the last seen time alone.
 pub repeat-told : (time : ℕ) (bytes : List ℕ) (h : Held) → receiveRefusal time bytes h ≡ 0 → isNext bytes (h .session .receiving) ≡ false → receive time bytes h ≡ wrote (wholeReply (envelopeOf bytes) (h .session .receiving .reply)) (afterRepeat time h)
