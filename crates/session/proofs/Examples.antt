@@ -34,7 +34,7 @@ use Rattle.message.specs.Total.{lotTotalFields, sessionTotalFields}
 use Rattle.session.specs.Parties.{realDate, partiesGood, padded}
 use Rattle.session.specs.Start.{fresh, start}
 use Rattle.session.specs.Course.{advance, kept}
-use Rattle.session.specs.Sequence.{headerSequence, openSequence, lotTotalSequence, sessionTotalSequence}
+use Rattle.session.specs.Sequence.{headerSequence, lotSequence, lotTotalSequence, sessionTotalSequence}
 use Rattle.session.specs.Outcome.{decided, clockRefusal, timeRefusal}
 use Rattle.session.specs.Sending.{sendRefusal, send, headerStop, detailStop, lotTotalStop, sessionTotalStop, sendHeader, sendDetail, sendLotTotal, sendSessionTotal}
 use Rattle.session.specs.Receiving.{headerCode, detailCode, lotTotalCode, sessionTotalCode, codeBy, effectBy, receivingAfter, receiveRefusal, receive}
@@ -48,7 +48,7 @@ use Rattle.session.specs.Entering.{confirmingAt, countingAt}
 
 -- whoever unfolds this unfolds them all
 unfoldable pub computing : Unit {0}
-unfolding flatMap every anyOf isDigits byteValue number cut packedByte packedBytes _when_ _orelse_ earning tableWritten numbered codes codeByte codeOf readCode knownCode nominal commission totalsOf drawee draweeServed member documentFields fieldsGood amountsGood monthDays DetailCodes.receiverCode DetailCodes.sendable DetailCodes.presenterCode Groups.groups Groups.groupGood Groups.shapeGood Groups.oneOperation Groups.documents written byOperation envelopeFields envelopeGood headerFields sendable shapeGood bodyCode bodyBytes operationByte replyGood lotTotalFields sessionTotalFields realDate partiesGood padded fresh start advance kept headerSequence openSequence lotTotalSequence sessionTotalSequence decided clockRefusal timeRefusal sendRefusal send headerStop detailStop lotTotalStop sessionTotalStop sendHeader sendDetail sendLotTotal sendSessionTotal headerCode detailCode lotTotalCode sessionTotalCode codeBy effectBy receivingAfter receiveRefusal receive isAwaited replyRefusal takeReply clock report enter entryBy sum lotsSum meaning perform act run confirmingAt countingAt begun
+unfolding flatMap every anyOf isDigits byteValue number cut packedByte packedBytes _when_ _orelse_ earning tableWritten numbered codes codeByte codeOf readCode knownCode nominal commission totalsOf drawee draweeServed member documentFields fieldsGood amountsGood monthDays DetailCodes.receiverCode DetailCodes.sendable DetailCodes.presenterCode Groups.groups Groups.groupGood Groups.shapeGood Groups.oneOperation Groups.documents written byOperation envelopeFields envelopeGood headerFields sendable shapeGood bodyCode bodyBytes operationByte replyGood lotTotalFields sessionTotalFields realDate partiesGood padded fresh start advance kept headerSequence lotSequence lotTotalSequence sessionTotalSequence decided clockRefusal timeRefusal sendRefusal send headerStop detailStop lotTotalStop sessionTotalStop sendHeader sendDetail sendLotTotal sendSessionTotal headerCode detailCode lotTotalCode sessionTotalCode codeBy effectBy receivingAfter receiveRefusal receive isAwaited replyRefusal takeReply clock report enter entryBy sum lotsSum meaning perform act run confirmingAt countingAt begun
 computing = tt
 
 -- the way in which an end presents

@@ -1,5 +1,6 @@
 -- The one premise of a call (01, 'Centres and directions'): the state and the running totals are those that a start and the calls since
--- have left. A start gives a sound session, and every call keeps both parts: the laws of proofs/Laws/Sound.
+-- have left. A start gives a sound session, and every call keeps both parts: the laws of proofs/Laws/Sound. It says nothing that a partner could
+-- break: not that the presenter's numbers differ, nor that a lot has documents, nor a nominal.
 use Prim.Native.Nat.{ℕ, _*_, _≤_, _<_}
 use mathlib.Core.Path.{_≡_}
 use mathlib.Core.Bool.{true}
@@ -15,6 +16,7 @@ use Rattle.session.specs.Limits.{lotDocuments, mostLots, largestDate}
 use Rattle.session.specs.Running.{Running, empty, gather, documentsIn}
 use Rattle.session.specs.Course.{Direction}
 use Rattle.session.specs.Sequence.{isOpen}
+use Rattle.session.specs.Outcome.{Held}
 
 -- amounts of at most so many documents
 pub record Fits (most : ℕ) (r : Running) : Type 0 where
@@ -54,6 +56,7 @@ pub record Sound (s : Session) : Type 0 where
   pub presenting : CountersSound (s .presenting .counters)
   pub receiving : CountersSound (s .receiving .counters)
   pub pending : PendingSound (s .presenting .pending) (s .presenting .counters)
+  -- the array's type says it of the code; here the places are a list
   pub places : length (s .receiving .lots) ≡ mostLots
 
 -- the counters of a direction, and what is pending in it
@@ -78,3 +81,8 @@ pub record Carried (d : Direction) (s : Session) (t : Running) : Type 0 where
   pub none-open : countersOf d s .current ≡ OpenLot.None → t ≡ empty
   pub fits : Fits lotDocuments t
   pub pending : PendingCarried (pendingOf d s) t
+
+-- what a call of a direction asks of what it is lent; header, session total, clock call and report ask the first part alone
+pub record Premise (d : Direction) (h : Held) : Type 0 where
+  pub sound : Sound (h .session)
+  pub carried : Carried d (h .session) (h .running)

@@ -33,7 +33,7 @@ use Rattle.session.specs.Hours.{receiverLate}
 use Rattle.session.specs.Parties.{representedBy, receivingRoute}
 use Rattle.session.specs.Running.{Running, detailAdds, stated, documentsIn}
 use Rattle.session.specs.Course.{Course, course, advance, ends, kept}
-use Rattle.session.specs.Sequence.{headerSequence, openSequence, lotTotalSequence, sessionTotalSequence}
+use Rattle.session.specs.Sequence.{headerSequence, lotSequence, lotTotalSequence, sessionTotalSequence}
 use Rattle.session.specs.Outcome.{Held, Outcome, decided, wrote, noRoom, timeRefusal}
 
 -- the accepted lots
@@ -59,14 +59,14 @@ headerCode time body p r =
 unfoldable pub detailCode : (body : List ℕ) → Parties → Running → Receiving → ℕ
 detailCode body p running r =
     receiverCode (p .own) (representedBy p) body
-    orelse openSequence (r .counters .current)
+    orelse lotSequence (r .ended) (r .counters .current)
     orelse 12 when passesLot (documentsIn running + documentsIn (detailAdds (operationOf body) (documents body)))
 
 unfoldable pub lotTotalCode : (body : List ℕ) → Running → Receiving → ℕ
 lotTotalCode body running r =
     let read = totalOf lotTotalFields body in
     bodyCode lotTotal body
-    orelse lotTotalSequence (read .number) (r .counters .current) running
+    orelse lotTotalSequence (r .ended) (read .number) (r .counters .current) running
     orelse 4 when totalsUsed (read .stated) (acceptedLots r)
     orelse 8 when not (same (stated running) (read .stated))
 

@@ -24,7 +24,7 @@ use Rattle.session.specs.Limits.{passesLot, lotsUsed}
 use Rattle.session.specs.Hours.{presenterLate}
 use Rattle.session.specs.Parties.{presentingRoute}
 use Rattle.session.specs.Running.{Running, detailAdds, stated, documentsIn}
-use Rattle.session.specs.Sequence.{headerSequence, openSequence, sessionTotalSequence}
+use Rattle.session.specs.Sequence.{headerSequence, lotSequence, sessionTotalSequence}
 use Rattle.session.specs.Outcome.{Held, Outcome, decided, wrote, noRoom, timeRefusal}
 
 -- a reply is awaited
@@ -81,11 +81,11 @@ partAdds operation part = detailAdds (packedByte operation) (pieces documentByte
 unfoldable pub detailStop : (operation partner : ℕ) (part : List ℕ) → Running → Presenting → ℕ
 detailStop operation partner part running p =
     presenterCode operation partner part
-    orelse openSequence (p .counters .current)
+    orelse lotSequence (p .ended) (p .counters .current)
     orelse 12 when passesLot (documentsIn running + documentsIn (partAdds operation part))
 
 unfoldable pub lotTotalStop : Presenting → ℕ
-lotTotalStop p = openSequence (p .counters .current)
+lotTotalStop p = lotSequence (p .ended) (p .counters .current)
 
 unfoldable pub sessionTotalStop : Presenting → ℕ
 sessionTotalStop p = sessionTotalSequence (p .ended) (p .counters .current)

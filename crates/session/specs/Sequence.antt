@@ -1,4 +1,5 @@
--- 01, 'Given because of the state', 07: which message has its place where. Both ends ask the same of their own counters.
+-- 01, 'Given because of the state', 07: which message has its place where. Header, detail and session total are asked alike at both ends, a lot
+-- total in full by its receiver alone.
 use Prim.Native.Nat.{ℕ}
 use mathlib.Core.Bool.{Bool, true, false, not}
 use lib.Dec.{eqb}
@@ -15,23 +16,26 @@ abbrev pub isThis : (number : ℕ) → OpenLot → Bool
 isThis number OpenLot.None = false
 isThis number (OpenLot.Numbered n) = eqb n number
 
--- a header: not while a lot is open, nor after the end
+-- Each asks whether the direction has ended and which lot is open. While 07 is the one code of them all, only a header and a session total need
+-- to ask for the end: after it no lot is open.
+
+-- a header: not after the end, nor while a lot is open
 unfoldable pub headerSequence : (ended : Bool) → OpenLot → ℕ
 headerSequence ended lot =
     7 when ended
     orelse 7 when isOpen lot
 
--- a detail, and what a presenter asks before it writes a lot total: a lot is open
-unfoldable pub openSequence : OpenLot → ℕ
-openSequence lot = 7 when not (isOpen lot)
+-- what belongs into a lot, a detail, or a lot total that its presenter is about to write: a lot is open
+unfoldable pub lotSequence : (ended : Bool) → OpenLot → ℕ
+lotSequence ended lot = 7 when not (isOpen lot)
 
--- a lot total that was received: of the open lot, with a detail accepted
-unfoldable pub lotTotalSequence : (number : ℕ) → OpenLot → Running → ℕ
-lotTotalSequence number lot running =
+-- a lot total that was received: of the open lot, with a detail accepted, which has one document at least
+unfoldable pub lotTotalSequence : (ended : Bool) (number : ℕ) → OpenLot → Running → ℕ
+lotTotalSequence ended number lot running =
     7 when not (isThis number lot)
     orelse 7 when eqb (documentsIn running) 0
 
--- a session total: not while a lot is open, nor after the end
+-- a session total: not after the end, nor while a lot is open
 unfoldable pub sessionTotalSequence : (ended : Bool) → OpenLot → ℕ
 sessionTotalSequence ended lot =
     7 when ended

@@ -1,6 +1,6 @@
 -- What the codes let pass: a message that no code stops may be accepted, at either end, and the direction stays within its limits.
 use mathlib.Core.Path.{_≡_, refl, ap}
-use mathlib.Core.Bool.{true, not, false≢true}
+use mathlib.Core.Bool.{Bool, true, not, false≢true}
 use mathlib.Core.List.{List}
 use Prim.Native.Nat.{ℕ, _+_, _≤_, _<_}
 use native.Mathlib.Omega.{arith}
@@ -35,8 +35,8 @@ use Rattle.session.specs.Limits.{lotDocuments, mostLots, passesLot, lots
 use Rattle.session.specs.Hours.{presenterLate, receiverLate}
 use Rattle.session.specs.Parties.{receivingRoute, representedBy}
 use Rattle.session.specs.Running.{Running, empty, gather, detailAdds, documentsIn}
-use Rattle.session.specs.Course.{Course}
-use Rattle.session.specs.Sequence.{isOpen, isThis, headerSequence, openSequence, lotTotalSequence}
+use Rattle.session.specs.Course.{Course, course}
+use Rattle.session.specs.Sequence.{isOpen, isThis, headerSequence, lotSequence, lotTotalSequence}
 use Rattle.session.specs.Sending.{headerStop, detailStop, lotTotalStop, partAdds, openNumber, endingLot}
 use Rattle.session.specs.Receiving.{acceptedLots, numberUsed, headerCode, detailCode, lotTotalCode, codeBy, effectBy}
 use Rattle.session.specs.Premise.{Fits, PendingSound, PendingCarried}
@@ -57,9 +57,9 @@ pub record Allowed (effect : Effect) (k : Course) : Type 0 where
   pub sound : PendingSound effect (k .counters)
   pub carried : PendingCarried effect (k .running)
 
-open-told : (lot : OpenLot) → openSequence lot ≡ 0 → isOpen lot ≡ true
-unfolding openSequence
-open-told lot e = not-false (isOpen lot) (none-test 7 (not (isOpen lot)) (lit< tt) e)
+open-told : (ended : Bool) (lot : OpenLot) → lotSequence ended lot ≡ 0 → isOpen lot ≡ true
+unfolding lotSequence
+open-told ended lot e = not-false (isOpen lot) (none-test 7 (not (isOpen lot)) (lit< tt) e)
 
 numbered-open : (lot : OpenLot) → isOpen lot ≡ true → lot ≡ OpenLot.Numbered (openNumber lot)
 numbered-open OpenLot.None e = absurd (false≢true e)
@@ -69,22 +69,19 @@ this-open : (number : ℕ) (lot : OpenLot) → isThis number lot ≡ true → lo
 this-open number OpenLot.None e = absurd (false≢true e)
 this-open number (OpenLot.Numbered n) e = ap OpenLot.Numbered (eqb-true n number e)
 
--- the presenter's codes let pass only what may be accepted
+-- the presenter's codes let pass only what may be accepted; of a header and a session total without a word about running totals
+pub header-sound : (time moment centre number : ℕ) (p : Presenting) → headerStop time moment centre number p ≡ 0 → PendingSound (Effect.Header number) (p .counters)
+unfolding headerStop sendable
+header-sound time moment centre number p e =
+    let fields = passed 1 (not (sendable moment centre number)) _ (lit< tt) e in
+    let place = none-both (headerSequence (p .ended) (p .counters .current)) _ (fields .1) in
+    let late = passed 10 (presenterLate time) _ (lit< tt) (place .1) in
+    let order = three (timeOfDay moment) (leb centre largestNumber) (orderNumber number) (not-false (sendable moment centre number) (fields .0)) .2 in
+    (leb-true number largestNumber (both (leb 1 number) (leb number largestNumber) order .1), leb-false mostLots (p .counters .lots) (none-test 11 (lotsUsed (p .counters .lots)) (lit< tt) (late .1)))
+
 module _ (t : Running) (p : Presenting) (fits : Fits lotDocuments t) where
   abbrev pub presented : Course
-  presented = record { counters = p .counters; running = t }
-
-  pub header-allowed : (time moment centre number : ℕ) → headerStop time moment centre number p ≡ 0 → Allowed (Effect.Header number) presented
-  unfolding headerStop sendable
-  header-allowed time moment centre number e =
-      let fields = passed 1 (not (sendable moment centre number)) _ (lit< tt) e in
-      let place = none-both (headerSequence (p .ended) (p .counters .current)) _ (fields .1) in
-      let late = passed 10 (presenterLate time) _ (lit< tt) (place .1) in
-      let order = three (timeOfDay moment) (leb centre largestNumber) (orderNumber number) (not-false (sendable moment centre number) (fields .0)) .2 in
-      record {
-        sound = (leb-true number largestNumber (both (leb 1 number) (leb number largestNumber) order .1), leb-false mostLots (p .counters .lots) (none-test 11 (lotsUsed (p .counters .lots)) (lit< tt) (late .1)));
-        carried = tt;
-      }
+  presented = course (p .counters) t
 
   pub detail-allowed : (operation partner : ℕ) (part : List ℕ) → detailStop operation partner part t p ≡ 0 → Allowed (Effect.Detail (partAdds operation part)) presented
   unfolding detailStop
@@ -92,21 +89,21 @@ module _ (t : Running) (p : Presenting) (fits : Fits lotDocuments t) where
       let ds = pieces documentBytes part in
       let more = partAdds operation part in
       let own = none-both (presenterCode operation partner part) _ e in
-      let place = none-both (openSequence (p .counters .current)) _ (own .1) in
+      let place = none-both (lotSequence (p .ended) (p .counters .current)) _ (own .1) in
       let room = ltb-false lotDocuments (documentsIn t + documentsIn more) (none-test 12 (passesLot (documentsIn t + documentsIn more)) (lit< tt) (place .1)) in
       record {
-        sound = open-told (p .counters .current) (place .0);
+        sound = open-told (p .ended) (p .counters .current) (place .0);
         carried = fits-gather lotDocuments (length ds) lotDocuments t more room fits (documents-fit (packedByte operation) partner ds (accepted-part operation partner part (own .0) .1));
       }
 
   pub lot-total-allowed : lotTotalStop p ≡ 0 → Allowed (Effect.LotTotal (endingLot (p .counters) t)) presented
   unfolding lotTotalStop
-  lot-total-allowed e = record { sound = numbered-open (p .counters .current) (open-told (p .counters .current) e); carried = refl }
+  lot-total-allowed e = record { sound = numbered-open (p .counters .current) (open-told (p .ended) (p .counters .current) e); carried = refl }
 
 -- and so do the receiver's
 module _ (time : ℕ) (body : List ℕ) (parties : Parties) (t : Running) (r : Receiving) (fits : Fits lotDocuments t) where
   abbrev pub receiving-here : Course
-  receiving-here = record { counters = r .counters; running = t }
+  receiving-here = course (r .counters) t
 
   pub received-allowed : (c : Content) → codeBy c time body parties t r ≡ 0 → Allowed (effectBy c body t) receiving-here
   unfolding codeBy effectBy headerCode detailCode lotTotalCode lotTotalSequence
@@ -123,16 +120,16 @@ module _ (time : ℕ) (body : List ℕ) (parties : Parties) (t : Running) (r : R
       let ds = documents body in
       let more = detailAdds (operationOf body) ds in
       let read = none-both (receiverCode (parties .own) (representedBy parties) body) _ e in
-      let place = none-both (openSequence (r .counters .current)) _ (read .1) in
+      let place = none-both (lotSequence (r .ended) (r .counters .current)) _ (read .1) in
       let room = ltb-false lotDocuments (documentsIn t + documentsIn more) (none-test 12 (passesLot (documentsIn t + documentsIn more)) (lit< tt) (place .1)) in
       record {
-        sound = open-told (r .counters .current) (place .0);
+        sound = open-told (r .ended) (r .counters .current) (place .0);
         carried = fits-gather lotDocuments (length ds) lotDocuments t more room fits (documents-fit (operationOf body) (parties .own) ds (accepted-amounts (parties .own) (representedBy parties) body (read .0)));
       }
   received-allowed Content.LotTotal e =
       let number = totalOf lotTotalFields body .number in
       let read = none-both (bodyCode lotTotal body) _ e in
-      let place = none-both (lotTotalSequence number (r .counters .current) t) _ (read .1) in
+      let place = none-both (lotTotalSequence (r .ended) number (r .counters .current) t) _ (read .1) in
       let this = passed 7 (not (isThis number (r .counters .current))) _ (lit< tt) (place .0) in
       record { sound = this-open number (r .counters .current) (not-false (isThis number (r .counters .current)) (this .0)); carried = refl }
   received-allowed Content.SessionTotal e = record { sound = tt; carried = tt }

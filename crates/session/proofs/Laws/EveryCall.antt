@@ -16,11 +16,11 @@ use Rattle.session.specs.Sending.{sendRefusal, send, sendHeader, sendDet
 use Rattle.session.specs.Receiving.{isNext, receiveRefusal, receive, receivingAfter, afterNew, afterRepeat, afterMessage, replying}
 use Rattle.session.specs.Reply.{replyRefusal, takeReply}
 use Rattle.session.specs.Clock.{clock}
-use Rattle.session.specs.Premise.{PendingCarried}
+use Rattle.session.specs.Premise.{PendingCarried, Premise}
 use Rattle.session.specs.Engine.{Call, Engine, meaning, directionOf, lent, givenBack, perform}
 use Rattle.session.specs.Claim.{Ready}
 use Rattle.session.proofs.Laws.Decided.{either, unrefused, refused-keeps}
-use Rattle.session.proofs.Laws.Sound.{Good, send-header-keeps, send-detail-keeps, send-lot-total-keeps, send-session-total-keeps, receive-keeps, reply-keeps, clock-keeps}
+use Rattle.session.proofs.Laws.Sound.{send-header-keeps, send-detail-keeps, send-lot-total-keeps, send-session-total-keeps, receive-keeps, reply-keeps, clock-keeps}
 
 -- a call is a refusal that leaves what it was lent, or what it does where its chain gives 0
 pub record Decided (h : Held) (o : Outcome) : Type 0 where
@@ -134,7 +134,7 @@ untouched (Call.receive time bytes) h = either (λ (o : Outcome). Untouched Dire
     either-way false = record { parties = refl; otherSide = refl }
 
 -- Every call keeps the premise of its direction.
-pub keeps : (call : Call) (h : Held) → Good (directionOf call) h → Good (directionOf call) (meaning call h .left)
+pub keeps : (call : Call) (h : Held) → Premise (directionOf call) h → Premise (directionOf call) (meaning call h .left)
 unfolding meaning
 keeps (Call.header time moment centre number) h g = send-header-keeps time moment centre number h g
 keeps (Call.detail time operation part) h g = send-detail-keeps time operation part h g
@@ -142,7 +142,7 @@ keeps (Call.lotTotal time) h g = send-lot-total-keeps time h g
 keeps (Call.sessionTotal time) h g = send-session-total-keeps time h g
 keeps (Call.receive time bytes) h g = receive-keeps time bytes h g
 keeps (Call.reply time bytes) h g = reply-keeps time bytes h g
-keeps (Call.clock time) h g = clock-keeps time Direction.presenting h g
+keeps (Call.clock time) h g = clock-keeps time h Direction.presenting g
 keeps Call.report h g = g
 
 -- so an engine that is ready stays so
@@ -153,7 +153,7 @@ ready-kept call line e r = go (directionOf call) refl
     go : (d : Direction) → directionOf call ≡ d → Ready (givenBack d (meaning call (lent d line e) .left) e)
     go Direction.presenting way =
         let h = lent Direction.presenting line e in
-        let after = subst (λ (d : Direction). Good d h → Good d (meaning call h .left)) way (keeps call h) (record { sound = r .sound; carried = r .presenting }) in
+        let after = subst (λ (d : Direction). Premise d h → Premise d (meaning call h .left)) way (keeps call h) (record { sound = r .sound; carried = r .presenting }) in
         let same : meaning call h .left .session .receiving ≡ e .session .receiving = subst (λ (d : Direction). OtherSide d (h .session) (meaning call h .left .session)) way (untouched call h .otherSide) in
         record {
           sound = after .sound;
@@ -162,7 +162,7 @@ ready-kept call line e r = go (directionOf call) refl
         }
     go Direction.receiving way =
         let h = lent Direction.receiving line e in
-        let after = subst (λ (d : Direction). Good d h → Good d (meaning call h .left)) way (keeps call h) (record { sound = r .sound; carried = r .receiving }) in
+        let after = subst (λ (d : Direction). Premise d h → Premise d (meaning call h .left)) way (keeps call h) (record { sound = r .sound; carried = r .receiving }) in
         let same : meaning call h .left .session .presenting ≡ e .session .presenting = subst (λ (d : Direction). OtherSide d (h .session) (meaning call h .left .session)) way (untouched call h .otherSide) in
         record {
           sound = after .sound;

@@ -2,7 +2,7 @@
 use mathlib.Core.Path.{_≡_, refl, ap, sym, subst, _∙_}
 use mathlib.Core.Bool.{Bool, true, false, cond, false≢true}
 use mathlib.Core.List.{List}
-use Prim.Native.Nat.{ℕ, suc, _*_}
+use Prim.Native.Nat.{ℕ, suc, _*_, _<_}
 use native.Mathlib.Omega.{arith}
 use lib.Dec.{eqb}
 use lib.ListN.{length, length-set, length-replicate}
@@ -13,27 +13,29 @@ use Rattle.message.specs.Envelope.{serialOf, bodyOf}
 use Rattle.message.specs.Content.{contentOf}
 use Rattle.message.specs.Line.{message}
 use Rattle.message.proofs.Laws.Envelope.{serial-told}
+use Rattle.message.specs.Limits.{largestSerial}
 use Rattle.session.specs.declared.counters.OpenLot.{OpenLot}
 use Rattle.session.specs.declared.counters.Lot.{Lot}
 use Rattle.session.specs.declared.effect.Effect.{Effect}
 use Rattle.session.specs.declared.parties.Parties.{Parties}
 use Rattle.session.specs.declared.session.Close.{Close}
+use Rattle.session.specs.declared.session.Session.{Session}
 use Rattle.session.specs.Limits.{lotDocuments, mostLots}
 use Rattle.session.specs.Parties.{partiesGood, partiesOf, nobody}
-use Rattle.session.specs.Running.{empty}
-use Rattle.session.specs.Course.{Direction, Course, advance, kept}
+use Rattle.session.specs.Running.{Running, empty}
+use Rattle.session.specs.Course.{Direction, Course, advance, kept, course}
 use Rattle.session.specs.Sequence.{isOpen}
 use Rattle.session.specs.Start.{noLots, fresh, started, start}
-use Rattle.session.specs.Outcome.{Held, Outcome, clockRefusal}
-use Rattle.session.specs.Sending.{sendRefusal, sent, send, sessionTotalStop, sendHeader, sendDetail, sendLotTotal, sendSessionTotal, nextEnvelope}
+use Rattle.session.specs.Outcome.{Held, Outcome, clockRefusal, silent}
+use Rattle.session.specs.Sending.{posted, headerStop, sendRefusal, sent, send, sessionTotalStop, sendHeader, sendDetail, sendLotTotal, sendSessionTotal, nextEnvelope}
 use Rattle.session.specs.Receiving.{effectBy, codeFor, receivingAfter, isNext, receive, receiveRefusal, afterNew, afterRepeat, afterMessage}
 use Rattle.session.specs.Reply.{replyRefusal, isAccepted, takeReply}
 use Rattle.session.specs.Clock.{ticked, clock}
-use Rattle.session.specs.Premise.{Fits, CountersSound, OpenSound, PartiesSound, Sound, Carried}
+use Rattle.session.specs.Premise.{Fits, CountersSound, OpenSound, PartiesSound, Sound, Carried, Premise, PendingSound, PendingCarried}
 use Rattle.session.proofs.Laws.Parties.{told as parties-told}
 use Rattle.session.proofs.Laws.Decided.{either}
 use Rattle.session.proofs.Laws.Refusals.{send-told, ReceiveTold, receive-told}
-use Rattle.session.proofs.Laws.Allowed.{fits-gather, fits-empty, Allowed, header-allowed, detail-allowed, lot-total-allowed, received-allowed}
+use Rattle.session.proofs.Laws.Allowed.{fits-gather, fits-empty, Allowed, header-sound, detail-allowed, lot-total-allowed, received-allowed}
 
 -- a direction's counters with the running totals lent for it
 pub record CourseSound (k : Course) : Type 0 where
@@ -82,53 +84,70 @@ advanced (Effect.Detail more) false k s h = s
 advanced Effect.SessionTotal accepted k s h = s
 advanced Effect.Nothing accepted k s h = s
 
--- the premise of a call of a direction, and that it is kept
-pub record Good (d : Direction) (h : Held) : Type 0 where
-  pub sound : Sound (h .session)
-  pub carried : Carried d (h .session) (h .running)
-
-presenting-course : (h : Held) → Good Direction.presenting h → CourseSound (record { counters = h .session .presenting .counters; running = h .running })
+presenting-course : (h : Held) → Premise Direction.presenting h → CourseSound (course (h .session .presenting .counters) (h .running))
 presenting-course h g = record { counters = g .sound .presenting; none-open = g .carried .none-open; fits = g .carried .fits }
 
-receiving-course : (h : Held) → Good Direction.receiving h → CourseSound (record { counters = h .session .receiving .counters; running = h .running })
+receiving-course : (h : Held) → Premise Direction.receiving h → CourseSound (course (h .session .receiving .counters) (h .running))
 receiving-course h g = record { counters = g .sound .receiving; none-open = g .carried .none-open; fits = g .carried .fits }
 
--- every send, by what its own code lets pass
-pub send-keeps : (time code : ℕ) (effect : Effect) (body : List ℕ) (h : Held) → Good Direction.presenting h → (code ≡ 0 → Allowed effect (record { counters = h .session .presenting .counters; running = h .running })) → Good Direction.presenting (send time code effect body h .left)
-unfolding send
-send-keeps time code effect body h g allowed =
-    let bytes = message (nextEnvelope (h .session)) body in
-    either (λ (o : Outcome). Good Direction.presenting (o .left)) (sendRefusal time code bytes h) h _
-    (λ (k : ℕ). g)
-    (λ (e : sendRefusal time code bytes h ≡ 0).
-    let known = send-told time code bytes h e in
-    let a = allowed (known .unstopped) in
-    record {
-      sound = record { parties = g .sound .parties; sent = omega (arith, known .more); received = g .sound .received; presenting = g .sound .presenting; receiving = g .sound .receiving; pending = a .sound; places = g .sound .places };
-      carried = record { none-open = g .carried .none-open; fits = g .carried .fits; pending = a .carried };
-    })
+-- a send, by what its own code lets pass; each part of the premise for itself, for the calls that are lent no running totals
+sent-sound : (time : ℕ) (effect : Effect) (s : Session) → Sound s → s .presenting .serial < largestSerial → PendingSound effect (s .presenting .counters) → Sound (sent time effect s)
+sent-sound time effect s g more a = record { parties = g .parties; sent = omega (arith, more); received = g .received; presenting = g .presenting; receiving = g .receiving; pending = a; places = g .places }
 
-pub send-header-keeps : (time moment centre number : ℕ) (h : Held) → Good Direction.presenting h → Good Direction.presenting (sendHeader time moment centre number h .left)
+sent-carried : (time : ℕ) (effect : Effect) (s : Session) (t : Running) → Carried Direction.presenting s t → PendingCarried effect t → Carried Direction.presenting (sent time effect s) t
+sent-carried time effect s t g a = record { none-open = g .none-open; fits = g .fits; pending = a }
+
+module _ (time code : ℕ) (effect : Effect) (body : List ℕ) (h : Held) where
+  abbrev bytes : List ℕ
+  bytes = message (nextEnvelope (h .session)) body
+
+  pub send-sound : Sound (h .session) → (code ≡ 0 → PendingSound effect (h .session .presenting .counters)) → Sound (send time code effect body h .left .session)
+  unfolding send
+  send-sound g a =
+      either (λ (o : Outcome). Sound (o .left .session)) (sendRefusal time code bytes h) h (posted time effect body h)
+      (λ (k : ℕ). g)
+      (λ (e : sendRefusal time code bytes h ≡ 0). let known = send-told time code bytes h e in sent-sound time effect (h .session) g (known .more) (a (known .unstopped)))
+
+  pub send-carried : (t : Running) → Carried Direction.presenting (h .session) t → (code ≡ 0 → PendingCarried effect t) → Carried Direction.presenting (send time code effect body h .left .session) t
+  unfolding send
+  send-carried t g a =
+      either (λ (o : Outcome). Carried Direction.presenting (o .left .session) t) (sendRefusal time code bytes h) h (posted time effect body h)
+      (λ (k : ℕ). g)
+      (λ (e : sendRefusal time code bytes h ≡ 0). sent-carried time effect (h .session) t g (a (send-told time code bytes h e .unstopped)))
+
+  -- the running totals stay
+  send-running : send time code effect body h .left .running ≡ h .running
+  unfolding send
+  send-running = either (λ (o : Outcome). o .left .running ≡ h .running) (sendRefusal time code bytes h) h (posted time effect body h) (λ (k : ℕ). refl) (λ (e : sendRefusal time code bytes h ≡ 0). refl)
+
+  send-keeps : Premise Direction.presenting h → (code ≡ 0 → Allowed effect (course (h .session .presenting .counters) (h .running))) → Premise Direction.presenting (send time code effect body h .left)
+  send-keeps g a =
+      record {
+        sound = send-sound (g .sound) (λ (e : code ≡ 0). a e .sound);
+        carried = subst (Carried Direction.presenting (send time code effect body h .left .session)) (sym send-running) (send-carried (h .running) (g .carried) (λ (e : code ≡ 0). a e .carried));
+      }
+
+pub send-header-keeps : (time moment centre number : ℕ) (h : Held) → Premise Direction.presenting h → Premise Direction.presenting (sendHeader time moment centre number h .left)
 unfolding sendHeader
-send-header-keeps time moment centre number h g = send-keeps time _ _ _ h g (header-allowed (h .running) (h .session .presenting) (g .carried .fits) time moment centre number)
+send-header-keeps time moment centre number h g = send-keeps time _ _ _ h g (λ (e : headerStop time moment centre number (h .session .presenting) ≡ 0). record { sound = header-sound time moment centre number (h .session .presenting) e; carried = tt })
 
-pub send-detail-keeps : (time operation : ℕ) (part : List ℕ) (h : Held) → Good Direction.presenting h → Good Direction.presenting (sendDetail time operation part h .left)
+pub send-detail-keeps : (time operation : ℕ) (part : List ℕ) (h : Held) → Premise Direction.presenting h → Premise Direction.presenting (sendDetail time operation part h .left)
 unfolding sendDetail
 send-detail-keeps time operation part h g = send-keeps time _ _ _ h g (detail-allowed (h .running) (h .session .presenting) (g .carried .fits) operation (h .session .parties .partner) part)
 
-pub send-lot-total-keeps : (time : ℕ) (h : Held) → Good Direction.presenting h → Good Direction.presenting (sendLotTotal time h .left)
+pub send-lot-total-keeps : (time : ℕ) (h : Held) → Premise Direction.presenting h → Premise Direction.presenting (sendLotTotal time h .left)
 unfolding sendLotTotal
 send-lot-total-keeps time h g = send-keeps time _ _ _ h g (lot-total-allowed (h .running) (h .session .presenting) (g .carried .fits))
 
-pub send-session-total-keeps : (time : ℕ) (h : Held) → Good Direction.presenting h → Good Direction.presenting (sendSessionTotal time h .left)
+pub send-session-total-keeps : (time : ℕ) (h : Held) → Premise Direction.presenting h → Premise Direction.presenting (sendSessionTotal time h .left)
 unfolding sendSessionTotal
 send-session-total-keeps time h g = send-keeps time _ _ _ h g (λ (e : sessionTotalStop (h .session .presenting) ≡ 0). record { sound = tt; carried = tt })
 
 -- a reply, whatever code it brings
-pub reply-keeps : (time : ℕ) (bytes : List ℕ) (h : Held) → Good Direction.presenting h → Good Direction.presenting (takeReply time bytes h .left)
+pub reply-keeps : (time : ℕ) (bytes : List ℕ) (h : Held) → Premise Direction.presenting h → Premise Direction.presenting (takeReply time bytes h .left)
 unfolding takeReply
 reply-keeps time bytes h g =
-    either (λ (o : Outcome). Good Direction.presenting (o .left)) (replyRefusal time bytes (h .session)) h _
+    either (λ (o : Outcome). Premise Direction.presenting (o .left)) (replyRefusal time bytes (h .session)) h _
     (λ (k : ℕ). g)
     (λ (e : replyRefusal time bytes (h .session) ≡ 0).
     let p = h .session .presenting in
@@ -148,7 +167,7 @@ kept-length (Effect.Header number) accepted lots places = refl
 kept-length (Effect.Detail more) accepted lots places = refl
 kept-length Effect.SessionTotal accepted lots places = refl
 
-handled-keeps : (time : ℕ) (bytes : List ℕ) (h : Held) → Good Direction.receiving h → ReceiveTold bytes h → isNext bytes (h .session .receiving) ≡ true → Good Direction.receiving (afterNew time (bodyOf bytes) h)
+handled-keeps : (time : ℕ) (bytes : List ℕ) (h : Held) → Premise Direction.receiving h → ReceiveTold bytes h → isNext bytes (h .session .receiving) ≡ true → Premise Direction.receiving (afterNew time (bodyOf bytes) h)
 unfolding receivingAfter
 handled-keeps time bytes h g known next =
     let body = bodyOf bytes in
@@ -170,17 +189,17 @@ handled-keeps time bytes h g known next =
       carried = record { none-open = after .none-open; fits = after .fits; pending = tt };
     }
 
-pub receive-keeps : (time : ℕ) (bytes : List ℕ) (h : Held) → Good Direction.receiving h → Good Direction.receiving (receive time bytes h .left)
+pub receive-keeps : (time : ℕ) (bytes : List ℕ) (h : Held) → Premise Direction.receiving h → Premise Direction.receiving (receive time bytes h .left)
 unfolding receive
 receive-keeps time bytes h g =
-    either (λ (o : Outcome). Good Direction.receiving (o .left)) (receiveRefusal time bytes h) h _
+    either (λ (o : Outcome). Premise Direction.receiving (o .left)) (receiveRefusal time bytes h) h _
     (λ (k : ℕ). g)
     (λ (e : receiveRefusal time bytes h ≡ 0). same-good (afterMessage time bytes h) _ (go (isNext bytes (h .session .receiving)) refl (receive-told time bytes h e)))
   where
-    same-good : (a : Held) (line : List ℕ) → Good Direction.receiving a → Good Direction.receiving (record { session = a .session; running = a .running; line = line })
+    same-good : (a : Held) (line : List ℕ) → Premise Direction.receiving a → Premise Direction.receiving (record { session = a .session; running = a .running; line = line })
     same-good a line g = record { sound = g .sound; carried = g .carried }
 
-    go : (t : Bool) → isNext bytes (h .session .receiving) ≡ t → ReceiveTold bytes h → Good Direction.receiving (cond t (afterNew time (bodyOf bytes) h) (afterRepeat time h))
+    go : (t : Bool) → isNext bytes (h .session .receiving) ≡ t → ReceiveTold bytes h → Premise Direction.receiving (cond t (afterNew time (bodyOf bytes) h) (afterRepeat time h))
     go true n known = handled-keeps time bytes h g known n
     go false n known =
         record {
@@ -188,21 +207,35 @@ receive-keeps time bytes h g =
           carried = record { none-open = g .carried .none-open; fits = g .carried .fits; pending = tt };
         }
 
--- a clock call, in both directions
-pub clock-keeps : (time : ℕ) (d : Direction) (h : Held) → Good d h → Good d (clock time h .left)
-unfolding clock
-clock-keeps time d h g =
-    either (λ (o : Outcome). Good d (o .left)) (clockRefusal time (h .session)) h _
-    (λ (k : ℕ). g)
-    (λ (e : clockRefusal time (h .session) ≡ 0).
-    record {
-      sound = record { parties = g .sound .parties; sent = g .sound .sent; received = g .sound .received; presenting = g .sound .presenting; receiving = g .sound .receiving; pending = g .sound .pending; places = g .sound .places };
-      carried = ticked-carried d g;
-    })
-  where
-    ticked-carried : (d : Direction) → Good d h → Carried d (ticked time (h .session)) (h .running)
-    ticked-carried Direction.presenting g = record { none-open = g .carried .none-open; fits = g .carried .fits; pending = g .carried .pending }
-    ticked-carried Direction.receiving g = record { none-open = g .carried .none-open; fits = g .carried .fits; pending = tt }
+-- a clock call, again each part for itself, and whatever running totals are carried
+ticked-carried : (time : ℕ) (d : Direction) (s : Session) (t : Running) → Carried d s t → Carried d (ticked time s) t
+ticked-carried time Direction.presenting s t g = record { none-open = g .none-open; fits = g .fits; pending = g .pending }
+ticked-carried time Direction.receiving s t g = record { none-open = g .none-open; fits = g .fits; pending = tt }
+
+module _ (time : ℕ) (h : Held) where
+  abbrev ticking : Outcome
+  ticking = silent (record { session = ticked time (h .session); running = h .running; line = h .line })
+
+  pub clock-sound : Sound (h .session) → Sound (clock time h .left .session)
+  unfolding clock
+  clock-sound g =
+      either (λ (o : Outcome). Sound (o .left .session)) (clockRefusal time (h .session)) h ticking
+      (λ (k : ℕ). g)
+      (λ (e : clockRefusal time (h .session) ≡ 0). record { parties = g .parties; sent = g .sent; received = g .received; presenting = g .presenting; receiving = g .receiving; pending = g .pending; places = g .places })
+
+  pub clock-carried : (d : Direction) (t : Running) → Carried d (h .session) t → Carried d (clock time h .left .session) t
+  unfolding clock
+  clock-carried d t g =
+      either (λ (o : Outcome). Carried d (o .left .session) t) (clockRefusal time (h .session)) h ticking
+      (λ (k : ℕ). g)
+      (λ (e : clockRefusal time (h .session) ≡ 0). ticked-carried time d (h .session) t g)
+
+  clock-running : clock time h .left .running ≡ h .running
+  unfolding clock
+  clock-running = either (λ (o : Outcome). o .left .running ≡ h .running) (clockRefusal time (h .session)) h ticking (λ (k : ℕ). refl) (λ (e : clockRefusal time (h .session) ≡ 0). refl)
+
+  pub clock-keeps : (d : Direction) → Premise d h → Premise d (clock time h .left)
+  clock-keeps d g = record { sound = clock-sound (g .sound); carried = subst (Carried d (clock time h .left .session)) (sym clock-running) (clock-carried d (h .running) (g .carried)) }
 
 -- a start that is not refused; what stands beside 24 is sound as well
 pub fresh-sound : (parties : Parties) (close : Close) → PartiesSound parties → Sound (fresh parties close)
