@@ -6,6 +6,7 @@ pub mod Codes
 pub mod Allowed
 pub mod Sound
 pub mod EveryCall
+pub mod Running
 pub mod Ledger
 pub mod Lists
 pub mod Line

@@ -4,8 +4,10 @@ use Rattle.session.specs.declared.counters.Counters.{Counters}
 use Rattle.session.specs.declared.effect.Effect.{Effect}
 use Rattle.session.specs.declared.report.Tally.{Tally}
 use Rattle.session.specs.declared.report.Awaited.{Awaited}
+use Rattle.session.specs.declared.report.Positions.{Positions}
 use Rattle.session.specs.declared.report.Report.{Report}
 use Rattle.session.specs.declared.session.Session.{Session}
+use Rattle.session.specs.Running.{Running}
 
 -- the accepted lots
 abbrev pub tally : Counters → Tally
@@ -19,16 +21,16 @@ awaited Effect.Nothing = Awaited.Neither
 awaited (Effect.Header number) = Awaited.Neither
 awaited (Effect.Detail more) = Awaited.Neither
 
--- two positions, presented less received
+-- presented less received
+abbrev pub positions : (presented received : Running) → Positions
+positions p r = record { nominal = difference (p .nominal .0) (r .nominal .0); commission = difference (p .commission .0) (r .commission .0) }
+
 unfoldable pub report : Session → Report
 report s =
-    let presented = s .presenting .counters .gathered in
-    let received = s .receiving .counters .gathered in
     record {
       presented = tally (s .presenting .counters);
       received = tally (s .receiving .counters);
       close = s .close;
-      nominal = difference (presented .nominal .0) (received .nominal .0);
-      commission = difference (presented .commission .0) (received .commission .0);
+      positions = positions (s .presenting .counters .gathered) (s .receiving .counters .gathered);
       awaited = awaited (s .presenting .pending);
     }

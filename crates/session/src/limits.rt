@@ -6,7 +6,7 @@ ghost use Rattle.session.specs.Limits.{passesLot, lotsUsed};
 pub const LOT_DOCUMENTS: u64 = 2600;
 
 // The most accepted lots of a direction.
-pub const LOTS: usize = 64;
+pub const MOST_LOTS: usize = 64;
 
 // Whether a lot of so many documents would be too long.
 pub fn passes_lot(documents: u64) -> bool
@@ -19,5 +19,5 @@ pub fn passes_lot(documents: u64) -> bool
 pub fn lots_used(lots: usize) -> bool
     ensures { λ r. ⌜ r ≡ lotsUsed lots ⌝ }
 {
-    LOTS <= lots
+    MOST_LOTS <= lots
 }

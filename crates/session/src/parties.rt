@@ -31,6 +31,7 @@ fn real_date(date: u32) -> bool
     if LARGEST_DATE < date {
         return false;
     }
+    // 100 is a multiple of 4, so the date has the remainder of its year.
     let day = date / 100;
     day_and_month(day as u16) & ((day != LEAP_DAY) | (date % 4 == 0))
 }
@@ -73,7 +74,7 @@ pub fn parties_of(date: u32, own: u16, partner: u16, represented: &[u16]) -> Par
     }
 }
 
-// Parties of no session, within every limit.
+// Parties of no session: no start accepts them, and yet every number is in range.
 pub fn nobody() -> Parties
     ensures { λ r. ⌜ r ≡ nobody ⌝ }
 {

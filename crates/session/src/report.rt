@@ -16,12 +16,17 @@ pub enum Awaited {
     SessionTotal,
 }
 
-// Both directions, the close, the two signed positions (presented less received), and what is awaited.
+// What was presented less what was received, of the accepted lots.
+pub struct Positions {
+    pub nominal: i64,
+    pub commission: i64,
+}
+
+// Both directions, the close, the two signed positions, and what is awaited.
 pub struct Report {
     pub presented: Tally,
     pub received: Tally,
     pub close: Close,
-    pub nominal: i64,
-    pub commission: i64,
+    pub positions: Positions,
     pub awaited: Awaited,
 }

@@ -2,13 +2,13 @@
 use crate::counters::Counters;
 use crate::counters::Lot;
 use crate::counters::OpenLot;
+use crate::counters::empty;
 use crate::effect::Effect;
-use crate::limits::LOTS;
+use crate::limits::MOST_LOTS;
 use crate::parties::Parties;
 use crate::parties::nobody;
 use crate::parties::parties_good;
 use crate::parties::parties_of;
-use amounts::Totals;
 use codes::refusal::Refusal;
 use codes::reply::Code;
 use message::reply::Operation;
@@ -39,9 +39,10 @@ pub struct Receiving {
     pub reply: Reply,
     pub counters: Counters,
     pub ended: bool,
-    pub lots: [Lot; LOTS],
+    pub lots: [Lot; MOST_LOTS],
 }
 
+// All that a centre keeps of an evening, but for the running totals of its open lots, which are lent with each call.
 pub struct Session {
     pub parties: Parties,
     pub presenting: Presenting,
@@ -69,7 +70,7 @@ fn no_lots() -> Counters
     Counters {
         current: OpenLot::None,
         lots: 0,
-        gathered: Totals::zeros(),
+        gathered: empty(),
     }
 }
 
@@ -91,7 +92,7 @@ fn unheard() -> Receiving
 {
     let none = Lot {
         number: 0,
-        gathered: Totals::zeros(),
+        gathered: empty(),
     };
     Receiving {
         serial: 0,
@@ -101,7 +102,7 @@ fn unheard() -> Receiving
         },
         counters: no_lots(),
         ended: false,
-        lots: [none; LOTS],
+        lots: [none; MOST_LOTS],
     }
 }
 
@@ -126,7 +127,8 @@ impl Session {
 
     pub const CLOSE: u32 = 84_600;
 
-    // A session just started; or 24, beside a session that is closed and was never started.
+    // A session just started; or 24. What stands beside 24 the paper leaves open: a session that is closed, was never
+    // started, and meets the premise of every call.
     pub fn start(date: u32, own: u16, partner: u16, represented: &[u16]) -> Started
         ensures { λ r. ⌜ startSaid r ≡ start date own partner (now (represented .entry)) ⌝ }
     {

@@ -6,35 +6,34 @@ use mathlib.Core.Option.{Option, none, some}
 use Prim.Native.Nat.{ℕ, suc, _+_}
 use native.Mathlib.Omega.{arith}
 use lib.ListN.{length, length-append}
-use Rattle.amounts.proofs.Laws.Totals.{plus-zeros, zeros-plus, plus-assoc}
-use Rattle.document.specs.Amounts.{documentTotals, totalsOf}
 use Rattle.session.specs.declared.counters.OpenLot.{OpenLot}
 use Rattle.session.specs.declared.counters.Lot.{Lot}
 use Rattle.session.specs.declared.effect.Effect.{Effect}
 use Rattle.session.specs.Running.{Running, empty, gather, detailAdds}
 use Rattle.session.specs.Course.{Course, advance}
 use Rattle.session.specs.Sequence.{isOpen}
+use Rattle.session.proofs.Laws.Running.{gather-empty, empty-gather, gather-assoc, adds-none, adds-one}
 use Rattle.session.specs.Ledger.{Document, LedgerLot, Ledger, Entry, enter, ofOperation, sum, lotSum, lotsSum}
 
 -- sums join where lists do
 pub sum-append : (xs ys : List Document) → sum (xs ++ ys) ≡ gather (sum xs) (sum ys)
 unfolding sum
-sum-append [] ys = sym (zeros-plus (sum ys))
-sum-append (x ∷ xs) ys = ap (gather (detailAdds (x .operation) (x .bytes ∷ []))) (sum-append xs ys) ∙ sym (plus-assoc (detailAdds (x .operation) (x .bytes ∷ [])) (sum xs) (sum ys))
+sum-append [] ys = sym (empty-gather (sum ys))
+sum-append (x ∷ xs) ys = ap (gather (detailAdds (x .operation) (x .bytes ∷ []))) (sum-append xs ys) ∙ sym (gather-assoc (detailAdds (x .operation) (x .bytes ∷ [])) (sum xs) (sum ys))
 
 pub lots-last : (ls : List LedgerLot) (l : LedgerLot) → lotsSum (ls ++ l ∷ []) ≡ gather (lotsSum ls) (sum (l .documents))
 unfolding lotsSum
-lots-last [] l = plus-zeros (sum (l .documents)) ∙ sym (zeros-plus (sum (l .documents)))
-lots-last (x ∷ ls) l = ap (gather (sum (x .documents))) (lots-last ls l) ∙ sym (plus-assoc (sum (x .documents)) (lotsSum ls) (sum (l .documents)))
+lots-last [] l = gather-empty (sum (l .documents)) ∙ sym (empty-gather (sum (l .documents)))
+lots-last (x ∷ ls) l = ap (gather (sum (x .documents))) (lots-last ls l) ∙ sym (gather-assoc (sum (x .documents)) (lotsSum ls) (sum (l .documents)))
 
 pub one-longer : (ls : List LedgerLot) (l : LedgerLot) → length (ls ++ l ∷ []) ≡ suc (length ls)
 one-longer ls l = length-append ls (l ∷ []) ∙ omega arith
 
 -- a detail adds the sum of its documents
 pub detail-sum : (operation : ℕ) (ds : List (List ℕ)) → sum (ofOperation operation ds) ≡ detailAdds operation ds
-unfolding sum totalsOf
-detail-sum operation [] = refl
-detail-sum operation (d ∷ ds) = λ i. gather (plus-zeros (documentTotals d) i) (detail-sum operation ds i)
+unfolding sum
+detail-sum operation [] = sym (adds-none operation)
+detail-sum operation (d ∷ ds) = ap (gather (detailAdds operation (d ∷ []))) (detail-sum operation ds) ∙ sym (adds-one operation d ds)
 
 -- the counters of a ledger
 abbrev pub openOf : Option LedgerLot → OpenLot

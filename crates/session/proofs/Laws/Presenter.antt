@@ -10,7 +10,7 @@ use lib.Dec.{eqb, lit<}
 use lib.ListN.{length, take}
 use lib.Seq.{sets}
 use borrow.Author.Tests.{not-false}
-use Rattle.amounts.proofs.Laws.Totals.{plus-zeros}
+use Rattle.session.proofs.Laws.Running.{gather-empty}
 use Rattle.codes.proofs.Laws.Chain.{none-both}
 use Rattle.detail.specs.Codes.{presenterCode}
 use Rattle.detail.specs.Writing.{written}
@@ -168,7 +168,7 @@ module _ (x : End) (e : Engine) (ready : Ready e) (different : e .session .parti
           same (Entry.detail ds) accepted h = h
           same Entry.lotTotal accepted h = h
           same Entry.sessionTotal accepted h = h
-          same Entry.unknown true h = λ i. record { counters = summary (bp .ledger) .counters; running = plus-zeros (summary (bp .ledger) .running) i }
+          same Entry.unknown true h = λ i. record { counters = summary (bp .ledger) .counters; running = gather-empty (summary (bp .ledger) .running) i }
           same Entry.unknown false h = refl
 
       replied-joined : Written bytes trace → ReplyTold bytes (e .session) → Joined route (replied time (isAccepted bytes) replyHeld .session .presenting) (replied time (isAccepted bytes) replyHeld .running) r rt (answeredWith (isAccepted bytes) bp) br trace

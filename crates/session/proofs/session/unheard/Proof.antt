@@ -3,8 +3,8 @@ use borrow.Author.Needs.{needs}
 use Rattle.session.proofs.session.unheard.Statement.{statement}
 use Rattle.session.proofs.session.unheard.Tie as tie
 
-zeros-requires : tie.Need-zeros-requires
-zeros-requires c κs = search needs
+empty-requires : tie.Need-empty-requires
+empty-requires c κs = search needs
 
 no-lots-requires : tie.Need-no-lots-requires
 no-lots-requires c κs = search needs
@@ -13,4 +13,4 @@ returns : tie.Need-returns
 returns c = cc
 
 pub unheard-spec : {M : Type 1} → statement M
-unheard-spec = tie.close (tie.spec zeros-requires no-lots-requires returns)
+unheard-spec = tie.close (tie.spec empty-requires no-lots-requires returns)
