@@ -133,7 +133,8 @@ fifth-again time =
           };
     }
 
-all-due :
+starred-cases :
+    -- beside a reply: number of the call, operation, code, open lot or 0, its documents
     let cases : List Case =
     -- the printed body, and as it is changed
     Asked.code printed is Answer.number 0
@@ -167,4 +168,4 @@ all-due :
     in
     map (λ (c : Case). answer (c .asked)) cases ≡ map (λ (c : Case). c .due) cases
 unfolding computing
-all-due = refl
+starred-cases = refl

@@ -6,7 +6,7 @@ use Rattle.session.specs.declared.session.Session.{Session}
 use Rattle.session.specs.Hours.{atClose}
 use Rattle.session.specs.Outcome.{Held, Outcome, decided, silent, clockRefusal}
 
--- in order if both session totals are accepted as this centre knows, else forced
+-- in order where both directions have ended, as far as this end knows
 abbrev pub closing : Session → Close
 closing s = cond (s .presenting .ended && s .receiving .ended) Close.Ordered Close.Forced
 

@@ -31,20 +31,20 @@ abbrev pub oneMoreLot : Lot → Counters → Counters
 oneMoreLot l c = record { current = OpenLot.None; lots = suc (c .lots); gathered = gather (c .gathered) (l .gathered) }
 
 unfoldable pub advance : Effect → (accepted : Bool) → Course → Course
--- An accepted header opens a lot.
+-- a header opens its lot
 advance (Effect.Header number) true k = record { counters = reopened (OpenLot.Numbered number) (k .counters); running = empty }
--- An accepted detail adds its documents.
+-- a detail adds its documents
 advance (Effect.Detail more) true k = record { counters = k .counters; running = gather (k .running) more }
--- An accepted lot total counts the lot; any other reply to it ends the lot as not transmitted.
+-- a lot total counts the lot, or ends it as not transmitted
 advance (Effect.LotTotal lot) true k = record { counters = oneMoreLot lot (k .counters); running = empty }
 advance (Effect.LotTotal lot) false k = record { counters = reopened OpenLot.None (k .counters); running = empty }
--- Nothing else moves them.
+-- nothing else moves
 advance (Effect.Header number) false k = k
 advance (Effect.Detail more) false k = k
 advance Effect.SessionTotal accepted k = k
 advance Effect.Nothing accepted k = k
 
--- An accepted session total ends the direction.
+-- an accepted session total ends the direction
 abbrev pub ends : Effect → (accepted : Bool) → Bool
 ends Effect.SessionTotal accepted = accepted
 ends Effect.Nothing accepted = false
@@ -52,7 +52,7 @@ ends (Effect.Header number) accepted = false
 ends (Effect.Detail more) accepted = false
 ends (Effect.LotTotal lot) accepted = false
 
--- A receiver also keeps each lot that it accepted, in the next free place.
+-- a receiver also keeps each lot that it accepted, in the next free place
 unfoldable pub kept : Effect → (accepted : Bool) → (lots : ℕ) → List Lot → List Lot
 kept (Effect.LotTotal lot) true lots places = set places lots lot
 kept (Effect.LotTotal lot) false lots places = places

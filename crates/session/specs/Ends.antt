@@ -38,7 +38,7 @@ pub record Step : Type 0 where
   pub call : Call
   pub line : List ℕ
 
--- it gets the state and the running totals that the last call at its end left
+-- one call, on what the last one at its end left
 unfoldable pub act : Step → World → World
 act s w =
     let d = perform (s .call) (s .line) (w .engine (s .at)) in
@@ -73,7 +73,7 @@ abbrev pub engines : (here there : Engine) → End → Engine
 engines here there End.near = here
 engines here there End.far = there
 
--- two sessions just started, of one date, own and partner exchanged, running totals zero
+-- both ends at the beginning: two starts with the pair exchanged, and nothing gathered
 unfoldable pub begun : (date nearEntity farEntity : ℕ) (represented : End → List ℕ) → World
 begun date nearEntity farEntity represented =
     record {

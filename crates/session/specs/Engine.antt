@@ -33,7 +33,7 @@ meaning (Call.reply time bytes) h = takeReply time bytes h
 meaning (Call.clock time) h = Clock.clock time h
 meaning Call.report h = silent h
 
--- the direction whose running totals it gets and leaves
+-- the direction whose running totals stand in what it is lent; header, session total, clock call and report do not use them
 abbrev pub directionOf : Call → Direction
 directionOf (Call.receive time bytes) = Direction.receiving
 directionOf (Call.header time moment centre number) = Direction.presenting

@@ -1,4 +1,5 @@
--- 01, 'Both ends together': the two books of a direction, made of the calls' arguments, their refusals and the reply codes, never of a session.
+-- 01, 'Both ends together': when a message is entered into the ledgers of a direction, at its presenter and at its receiver. All that decides it are
+-- arguments of calls, refusals and reply codes, never a session.
 use Prim.Native.Nat.{ℕ}
 use mathlib.Core.Bool.{Bool, true, false, _&&_, cond}
 use mathlib.Core.List.{List, [], _∷_}
@@ -13,7 +14,7 @@ use Rattle.session.specs.Ledger.{LedgerLot, Ledger, Entry, blank, enter,
 use Rattle.session.specs.Engine.{Call}
 use Rattle.session.specs.Ends.{End, Event}
 
--- the presenter's: a ledger, and the message whose reply is still to come
+-- at the presenter: the ledger, and the message whose reply is still to come
 pub record Confirming : Type 0 where
   pub ledger : Ledger
   pub waiting : Option Entry
@@ -39,7 +40,7 @@ presents (Call.receive time bytes) b = b
 presents (Call.clock time) b = b
 presents Call.report b = b
 
--- the receiver's: a ledger, and the serials that were received
+-- at the receiver: the ledger, and the serials that were received
 pub record Counting : Type 0 where
   pub ledger : Ledger
   pub serials : List ℕ
@@ -58,7 +59,7 @@ receives (Call.reply time bytes) written b = b
 receives (Call.clock time) written b = b
 receives Call.report written b = b
 
--- a call enters the books of its own end alone, and none if it was refused
+-- a call enters the ledgers of its own end alone, and none if it was refused
 abbrev pub sameEnd : End → End → Bool
 sameEnd End.near End.near = true
 sameEnd End.far End.far = true

@@ -1,4 +1,4 @@
--- 01, 'Both ends together': a ledger, how a message is entered, and the counts and sums over it. Each direction has one at each end.
+-- 01, 'Both ends together': a ledger, 01's book, how a message is entered, and the counts and sums over it. Each direction has one at each end.
 use Prim.Native.Nat.{ℕ}
 use mathlib.Core.Path.{_≡_}
 use mathlib.Core.Bool.{Bool, true, false}
@@ -54,13 +54,13 @@ moved lots none = lots
 moved lots (some l) = lots ++ l ∷ []
 
 unfoldable pub enter : Entry → (accepted : Bool) → Ledger → Ledger
--- On 00 a header opens a lot, a detail adds its documents in order, a lot total moves the open lot to the list's end.
+-- accepted
 enter (Entry.header number) true b = record { lots = b .lots; current = some (record { number = number; documents = [] }) }
 enter (Entry.detail ds) true b = record { lots = b .lots; current = longer ds (b .current) }
 enter Entry.lotTotal true b = record { lots = moved (b .lots) (b .current); current = none }
--- On another code a lot total drops the open lot.
+-- a lot total that is not accepted drops the open lot
 enter Entry.lotTotal false b = record { lots = b .lots; current = none }
--- Else the book stays.
+-- nothing else is entered
 enter (Entry.header number) false b = b
 enter (Entry.detail ds) false b = b
 enter Entry.sessionTotal accepted b = b

@@ -30,7 +30,7 @@ abbrev pub answerNumber : Answer → ℕ
 answerNumber Answer.Done = 0
 answerNumber (Answer.Refused r) = refusalNumber r
 
--- A refused call gives its number and changes nothing.
+-- a refusal: its number, nothing written, and all as it was lent
 abbrev pub refused : ℕ → Held → Outcome
 refused number h = record { number = number; written = 0; left = h }
 

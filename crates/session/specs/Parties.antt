@@ -12,7 +12,7 @@ use Rattle.message.specs.declared.route.Route.{Route}
 use Rattle.session.specs.declared.parties.Parties.{Parties}
 use Rattle.session.specs.Limits.{largestDate, leapDay}
 
--- a day of the years 2000 to 2099 as DDMMYY; of these every fourth, from 2000 on, has a 29 February
+-- a day of the years 2000 to 2099 as DDMMYY; of these every fourth, from 2000 on, has a 29 February, and the last two digits tell which
 unfoldable pub realDate : ℕ → Bool
 realDate date = leb date largestDate && dayAndMonth (date / 100) && (not (eqb (date / 100) leapDay) || eqb (date % 4) 0)
 
@@ -35,7 +35,7 @@ nobody = partiesOf 0 0 0 []
 abbrev pub representedBy : Parties → List ℕ
 representedBy p = take (p .count) (p .represented)
 
--- the way of what the centre presents, and of what it receives
+-- the route of what the centre presents, and of what it receives
 abbrev pub presentingRoute : Parties → Route
 presentingRoute p = record { date = p .date; presenting = p .own; receiving = p .partner }
 

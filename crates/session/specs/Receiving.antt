@@ -77,7 +77,7 @@ sessionTotalCode body r =
     orelse sessionTotalSequence (r .ended) (r .counters .current)
     orelse 8 when not (eqb (r .counters .lots) (read .number) && same (stated (r .counters .gathered)) (read .stated))
 
--- Byte 3 alone says what a body is.
+-- the chain of what a body is
 unfoldable pub codeBy : Content → (time : ℕ) (body : List ℕ) → Parties → Running → Receiving → ℕ
 codeBy Content.Header time body p running r = headerCode time body p r
 codeBy Content.Detail time body p running r = detailCode body p running r
@@ -122,16 +122,18 @@ isLast bytes r = eqb (serialOf bytes) (r .serial)
 abbrev pub isNext : (bytes : List ℕ) → Receiving → Bool
 isNext bytes r = eqb (serialOf bytes) (suc (r .serial))
 
--- The receiver handles the last serial plus 1; for the last serial, without reading the body, only the last seen time moves.
+-- a new message is handled
 abbrev pub afterNew : (time : ℕ) (body : List ℕ) → Held → Held
 afterNew time body h =
     let code = codeFor time body h in
     let r = h .session .receiving in
     record { session = withReceiving time (receivingAfter code body (h .running) r) (h .session); running = receivingCourse code body (h .running) r .running; line = h .line }
 
+-- of the last one again no body is read, and only the last seen time moves
 abbrev pub afterRepeat : (time : ℕ) → Held → Held
 afterRepeat time h = record { session = withReceiving time (h .session .receiving) (h .session); running = h .running; line = h .line }
 
+-- which of the two it is, its serial tells
 abbrev pub afterMessage : (time : ℕ) (bytes : List ℕ) → Held → Held
 afterMessage time bytes h = cond (isNext bytes (h .session .receiving)) (afterNew time (bodyOf bytes) h) (afterRepeat time h)
 

@@ -16,7 +16,7 @@ empty = zeros
 abbrev pub gather : Running → Running → Running
 gather a b = plus a b
 
--- what the documents of a detail of this operation add
+-- what the documents of a detail of this operation add; as long as both operations are counted together, it is not asked
 abbrev pub detailAdds : (operation : ℕ) (documents : List (List ℕ)) → Running
 detailAdds operation documents = totalsOf documents
 

@@ -35,7 +35,7 @@ isPending (Effect.Detail more) = true
 isPending (Effect.LotTotal lot) = true
 isPending Effect.SessionTotal = true
 
--- The presenter sends serials from 1.
+-- each message has the next serial, the first 1
 abbrev pub nextEnvelope : Session → Envelope
 nextEnvelope s = record { route = presentingRoute (s .parties); serial = suc (s .presenting .serial) }
 
@@ -109,7 +109,7 @@ sendDetail time operation part h =
     send time (detailStop operation (h .session .parties .partner) part (h .running) (h .session .presenting)) (Effect.Detail (partAdds operation part))
     (written (packedByte operation) part) h
 
--- The presenter writes totals from its own counters, and a lot total with the open lot's number.
+-- totals are what this end has counted; the lot's number is that of the open one
 unfoldable pub sendLotTotal : (time : ℕ) → Held → Outcome
 sendLotTotal time h =
     let lot = endingLot (h .session .presenting .counters) (h .running) in

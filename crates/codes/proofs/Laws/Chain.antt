@@ -39,6 +39,10 @@ unfolding _orelse_
 none-both zero rest e = (refl, e)
 none-both (suc a) rest e = absurd (omega arith)
 
+-- so of one test and the rest: it does not hold, and the rest gives none
+pub passed : (n : ℕ) (test : Bool) (rest : ℕ) → 0 < n → (n when test orelse rest) ≡ 0 → (test ≡ false) × (rest ≡ 0)
+passed n test rest h e = let both = none-both (n when test) rest e in (none-test n test h (both .0), both .1)
+
 pub joins : (a b c : ℕ) → ((a orelse b) orelse c) ≡ (a orelse b orelse c)
 unfolding _orelse_
 joins zero b c = refl

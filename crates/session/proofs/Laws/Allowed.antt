@@ -12,7 +12,7 @@ use Rattle.packed.specs.Pieces.{pieces}
 use Rattle.packed.specs.Writing.{packedByte}
 use Rattle.packed.proofs.Laws.Told.{both, three}
 use Rattle.codes.specs.Body.{operationOf}
-use Rattle.codes.proofs.Laws.Chain.{none-test, none-both}
+use Rattle.codes.proofs.Laws.Chain.{passed, none-test, none-both}
 use Rattle.document.specs.Limits.{documentBytes}
 use Rattle.document.specs.Fields.{amountsGood}
 use Rattle.document.specs.Amounts.{totalsOf}
@@ -40,7 +40,6 @@ use Rattle.session.specs.Sequence.{isOpen, isThis, headerSequence, lotSe
 use Rattle.session.specs.Sending.{headerStop, detailStop, lotTotalStop, partAdds, openNumber, endingLot}
 use Rattle.session.specs.Receiving.{acceptedLots, numberUsed, headerCode, detailCode, lotTotalCode, codeBy, effectBy}
 use Rattle.session.specs.Premise.{Fits, PendingSound, PendingCarried}
-use Rattle.session.proofs.Laws.Refusals.{passed}
 
 -- amounts of digits fit, and add
 documents-fit : (operation receiving : ℕ) (ds : List (List ℕ)) → every (amountsGood operation receiving) ds ≡ true → Fits (length ds) (totalsOf ds)
@@ -80,10 +79,10 @@ header-sound time moment centre number p e =
     (leb-true number largestNumber (both (leb 1 number) (leb number largestNumber) order .1), leb-false mostLots (p .counters .lots) (none-test 11 (lotsUsed (p .counters .lots)) (lit< tt) (late .1)))
 
 module _ (t : Running) (p : Presenting) (fits : Fits lotDocuments t) where
-  abbrev pub presented : Course
-  presented = course (p .counters) t
+  abbrev pub ownCourse : Course
+  ownCourse = course (p .counters) t
 
-  pub detail-allowed : (operation partner : ℕ) (part : List ℕ) → detailStop operation partner part t p ≡ 0 → Allowed (Effect.Detail (partAdds operation part)) presented
+  pub detail-allowed : (operation partner : ℕ) (part : List ℕ) → detailStop operation partner part t p ≡ 0 → Allowed (Effect.Detail (partAdds operation part)) ownCourse
   unfolding detailStop
   detail-allowed operation partner part e =
       let ds = pieces documentBytes part in
@@ -96,7 +95,7 @@ module _ (t : Running) (p : Presenting) (fits : Fits lotDocuments t) where
         carried = fits-gather lotDocuments (length ds) lotDocuments t more room fits (documents-fit (packedByte operation) partner ds (accepted-part operation partner part (own .0) .1));
       }
 
-  pub lot-total-allowed : lotTotalStop p ≡ 0 → Allowed (Effect.LotTotal (endingLot (p .counters) t)) presented
+  pub lot-total-allowed : lotTotalStop p ≡ 0 → Allowed (Effect.LotTotal (endingLot (p .counters) t)) ownCourse
   unfolding lotTotalStop
   lot-total-allowed e = record { sound = numbered-open (p .counters .current) (open-told (p .ended) (p .counters .current) e); carried = refl }
 

@@ -1,7 +1,7 @@
 -- What one end writes is of one direction only: its messages go from own to partner, its replies answer what came from partner to own.
 use mathlib.Core.Path.{_≡_, ap, sym, _∙_}
-use mathlib.Core.Bool.{true}
-use mathlib.Core.List.{List}
+use mathlib.Core.Bool.{true, false, false≢true}
+use mathlib.Core.List.{List, []}
 use Prim.Native.Nat.{ℕ, _<_}
 use native.Mathlib.Omega.{arith}
 use Rattle.codes.specs.Field.{tableTakes}
@@ -17,7 +17,17 @@ use Rattle.session.specs.declared.session.Session.{Session}
 use Rattle.session.specs.Parties.{presentingRoute, receivingRoute}
 use Rattle.session.specs.Sending.{nextEnvelope}
 use Rattle.session.specs.Premise.{Sound}
-use Rattle.session.proofs.Laws.Line.{Foreign, message-no-reply, reply-no-message, route-told}
+use Rattle.session.proofs.Laws.Line.{message-no-reply, reply-no-message, route-told}
+
+-- neither a message nor a reply of the direction
+pub record Foreign (route : Route) (bytes : List ℕ) : Type 0 where
+  pub no-message : envelopeGood Kind.Message bytes ≡ true → envelopeOf bytes .route ≡ route → ⊥
+  pub no-reply : envelopeGood Kind.Reply bytes ≡ true → envelopeOf bytes .route ≡ route → ⊥
+
+-- nothing written is nobody's
+pub nothing-foreign : (route : Route) → Foreign route []
+unfolding envelopeGood
+nothing-foreign route = record { no-message = λ (g : false ≡ true) (w : envelopeOf [] .route ≡ route). false≢true g; no-reply = λ (g : false ≡ true) (w : envelopeOf [] .route ≡ route). false≢true g }
 
 module _ (s : Session) (sound : Sound s) where
   -- the next envelope can be written, and so can that of a reply to anything that came this way

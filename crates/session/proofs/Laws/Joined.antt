@@ -21,10 +21,11 @@ use Rattle.session.specs.Ledger.{LedgerLot, Ledger, Entry, enter, lotSum
 use Rattle.session.specs.Ends.{Event, Written}
 use Rattle.session.specs.Entering.{Confirming, Counting}
 use Rattle.session.proofs.Laws.Ledger.{summary, effectOf}
-use Rattle.session.proofs.Laws.Line.{accepts, MessageFact, ReplyFact, Foreign}
+use Rattle.session.proofs.Laws.Foreign.{Foreign}
+use Rattle.session.proofs.Laws.Line.{accepts, MessageFact, ReplyFact}
 use Rattle.session.proofs.Laws.Lists.{upTo}
 
--- what waits, as the presenter's state has it; what is no message never does
+-- what waits, as the presenter's state has it; an unknown body never waits, and is put down as pending so that whatever waits is
 abbrev pub waitingEffect : Option Entry → Ledger → Effect
 waitingEffect none b = Effect.Nothing
 waitingEffect (some (Entry.header number)) b = effectOf (Entry.header number) b

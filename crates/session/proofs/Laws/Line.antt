@@ -40,11 +40,6 @@ MessageFact route serial waiting bytes =
 abbrev pub ReplyFact : Route → (serial : ℕ) → Code → List ℕ → Type 0
 ReplyFact route serial code bytes = envelopeGood Kind.Reply bytes ≡ true → envelopeOf bytes .route ≡ route → (serialOf bytes ≤ serial) × (serialOf bytes ≡ serial → isAccepted bytes ≡ accepts code)
 
--- neither a message nor a reply of the direction
-pub record Foreign (route : Route) (bytes : List ℕ) : Type 0 where
-  pub no-message : envelopeGood Kind.Message bytes ≡ true → envelopeOf bytes .route ≡ route → ⊥
-  pub no-reply : envelopeGood Kind.Reply bytes ≡ true → envelopeOf bytes .route ≡ route → ⊥
-
 isReply : Kind → Bool
 isReply Kind.Message = false
 isReply Kind.Reply = true
@@ -58,16 +53,7 @@ pub reply-no-message : (e : Envelope) (r : Reply) → envelopeGood Kind.Message 
 unfolding isReply
 reply-no-message e r g = false≢true (ap isReply (kind-told Kind.Reply Kind.Message e (writtenReplyBody r) g))
 
--- nothing written is nobody's
-pub nothing-foreign : (route : Route) → Foreign route []
-unfolding envelopeGood
-nothing-foreign route = record { no-message = λ (g : false ≡ true) (w : envelopeOf [] .route ≡ route). false≢true g; no-reply = λ (g : false ≡ true) (w : envelopeOf [] .route ≡ route). false≢true g }
-
--- an envelope of either way between sound parties can be written
-pub carries : (p : Parties) → PartiesSound p → (route : Route) → route .date ≡ p .date → route .presenting ≤ 9999 → route .receiving ≤ 9999 → (serial : ℕ) → 1 ≤ serial → serial ≤ largestSerial → tableTakes envelopeFields (envelopeValues (record { route = route; serial = serial })) ≡ true
-carries p s route d a b serial least most = in-range (record { route = route; serial = serial }) (omega (arith, d, s .date)) (omega (arith, a)) (omega (arith, b)) least most
-
--- so its route and its serial are read back
+-- the route and the serial of an envelope that can be written are read back
 module _ (kind : Kind) (e : Envelope) (body : List ℕ) (fits : tableTakes envelopeFields (envelopeValues e) ≡ true) where
   pub route-told : envelopeOf (writtenEnvelope kind e ++ body) .route ≡ e .route
   route-told = ap (λ (x : Envelope). x .route) (envelope-told kind e body fits)

@@ -8,7 +8,7 @@ use lib.Dec.{lit<}
 use lib.ListN.{length, take}
 use lib.Seq.{take-suc-set}
 use Rattle.codes.specs.Body.{operationOf}
-use Rattle.codes.proofs.Laws.Chain.{none-both}
+use Rattle.codes.proofs.Laws.Chain.{passed, none-both}
 use Rattle.document.specs.Entities.{member}
 use Rattle.detail.specs.Groups.{documents}
 use Rattle.message.specs.declared.content.Content.{Content}
@@ -28,7 +28,6 @@ use Rattle.session.specs.Sequence.{isOpen, headerSequence}
 use Rattle.session.specs.Sending.{openNumber}
 use Rattle.session.specs.Receiving.{acceptedLots, numberUsed, headerCode, codeBy, effectBy}
 use Rattle.session.specs.Ledger.{Document, LedgerLot, Ledger, Entry, longer, moved, enter, entryBy, ofOperation, sum, lotSum, numbers, Distinct}
-use Rattle.session.proofs.Laws.Refusals.{passed}
 use Rattle.session.proofs.Laws.Allowed.{Allowed}
 use Rattle.session.proofs.Laws.Ledger.{summary, openOf, runningOf, effectOf, lotOf, detail-sum, mirrors}
 use Rattle.session.proofs.Laws.Lists.{distinct-last, numbers-last, sums-last, number-used}

@@ -11,7 +11,7 @@ use lib.ListN.{length, take}
 use lib.Seq.{sets}
 use borrow.Author.Tests.{not-false}
 use Rattle.session.proofs.Laws.Running.{gather-empty}
-use Rattle.codes.proofs.Laws.Chain.{none-both}
+use Rattle.codes.proofs.Laws.Chain.{passed, none-both}
 use Rattle.detail.specs.Codes.{presenterCode}
 use Rattle.detail.specs.Writing.{written}
 use Rattle.detail.proofs.Laws.Codes.{accepted-part}
@@ -46,11 +46,11 @@ use Rattle.session.specs.Ends.{End, Event, Written, Brought}
 use Rattle.session.specs.Entering.{Confirming, Counting, waitingFor, enterWaiting, answeredWith, presents}
 use Rattle.session.specs.Claim.{Ready}
 use Rattle.session.proofs.Laws.Decided.{either, first-bytes}
-use Rattle.session.proofs.Laws.Refusals.{passed, SendTold, send-told, ReceiveTold, receive-told, ReplyTold, reply-told}
+use Rattle.session.proofs.Laws.Refusals.{SendTold, send-told, ReceiveTold, receive-told, ReplyTold, reply-told}
 use Rattle.session.proofs.Laws.Ledger.{summary, openOf, Finds, effectOf, detail-sum, mirrors}
-use Rattle.session.proofs.Laws.Line.{accepts, MessageFact, ReplyFact, Foreign, message-no-reply, nothing-foreign, serial-read}
+use Rattle.session.proofs.Laws.Line.{accepts, MessageFact, ReplyFact, message-no-reply, serial-read}
 use Rattle.session.proofs.Laws.Joined.{waitingEffect, Link, Joined, passed-by, refused-by, not-entered}
-use Rattle.session.proofs.Laws.Foreign.{next-fits, reply-foreign}
+use Rattle.session.proofs.Laws.Foreign.{Foreign, nothing-foreign, next-fits, reply-foreign}
 use Rattle.session.proofs.Laws.Entries.{header-entry, detail-entry, lot-total-entry, session-total-entry, open-lot-same}
 
 pending-some : (e : Entry) (b : Ledger) → isPending (waitingEffect (some e) b) ≡ true

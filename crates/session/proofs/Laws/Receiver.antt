@@ -42,11 +42,11 @@ use Rattle.session.specs.Claim.{Ready}
 use Rattle.session.proofs.Laws.Decided.{either, first-bytes}
 use Rattle.session.proofs.Laws.Refusals.{send-told, ReceiveTold, receive-told}
 use Rattle.session.proofs.Laws.Allowed.{Allowed, received-allowed}
-use Rattle.session.proofs.Laws.Line.{accepts, MessageFact, ReplyFact, Foreign, reply-no-message, nothing-foreign, serial-read, code-read}
+use Rattle.session.proofs.Laws.Line.{accepts, MessageFact, ReplyFact, reply-no-message, serial-read, code-read}
 use Rattle.session.proofs.Laws.Lists.{next-unseen, up-to-next}
 use Rattle.session.proofs.Laws.Joined.{Mirrored, Link, Joined, passed-by, refused-by, not-entered}
 use Rattle.session.proofs.Laws.Mirror.{course-mirrors, lots-mirror, numbers-mirror, free-header}
-use Rattle.session.proofs.Laws.Foreign.{message-foreign, reply-fits}
+use Rattle.session.proofs.Laws.Foreign.{Foreign, nothing-foreign, message-foreign, reply-fits}
 
 -- an open lot has a place among the accepted ones
 has-room : (lot : OpenLot) (lots : ℕ) → OpenSound lot lots → isOpen lot ≡ true → lots < mostLots

@@ -9,7 +9,7 @@ use borrow.Author.Tests.{leb-false, ltb-false, eqb-true, not-false}
 use Rattle.packed.proofs.Laws.Told.{three}
 use Rattle.codes.specs.Body.{operationOf}
 use Rattle.codes.specs.Chain.{_when_, _orelse_}
-use Rattle.codes.proofs.Laws.Chain.{none-test, none-both}
+use Rattle.codes.proofs.Laws.Chain.{passed, none-test, none-both}
 use Rattle.message.specs.declared.envelope.Kind.{Kind}
 use Rattle.message.specs.Limits.{largestSerial, envelopeBytes, replyBytes}
 use Rattle.message.specs.Route.{sameRoute}
@@ -22,10 +22,6 @@ use Rattle.session.specs.Outcome.{Held, noRoom, timeRefusal}
 use Rattle.session.specs.Sending.{isPending, sendRefusal}
 use Rattle.session.specs.Receiving.{isLast, isNext, receiveRefusal}
 use Rattle.session.specs.Reply.{awaitedOperation, isAwaited, replyRefusal}
-
--- the test before the rest of a chain that gives nothing failed
-pub passed : (n : ℕ) (test : Bool) (rest : ℕ) → 0 < n → (n when test orelse rest) ≡ 0 → (test ≡ false) × (rest ≡ 0)
-passed n test rest h e = let both = none-both (n when test) rest e in (none-test n test h (both .0), both .1)
 
 pub record SendTold (code : ℕ) (bytes : List ℕ) (h : Held) : Type 0 where
   pub idle : isPending (h .session .presenting .pending) ≡ false

@@ -43,10 +43,7 @@ pub record CourseSound (k : Course) : Type 0 where
   pub none-open : k .counters .current ≡ OpenLot.None → k .running ≡ empty
   pub fits : Fits lotDocuments (k .running)
 
--- nothing about a lot that is open can be said of none
-not-none : (n : ℕ) {A : Type 0} → OpenLot.Numbered n ≡ OpenLot.None → A
-not-none n e = absurd (false≢true (sym (ap isOpen e)))
-
+-- a lot that is open is not none
 none-while-open : (lot : OpenLot) {A : Type 0} → isOpen lot ≡ true → lot ≡ OpenLot.None → A
 none-while-open lot o e = absurd (false≢true (sym (ap isOpen e) ∙ o))
 
