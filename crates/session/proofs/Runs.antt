@@ -1,5 +1,6 @@
--- The agreement of both ends (specs/Claim) is not idle: four lists of calls that the line allows, and what each leads to. Lots of both operations
--- are counted both ways; a lot is named that the other end has counted, one that it has not, and one when both have closed.
+-- The agreement of both ends (specs/Claim) is not idle: lists of calls that the line allows, and what each leads to. Lots of both operations are
+-- counted both ways; a lot is named that the other end has counted, one that it has not, and one when both have closed; a lost reply is found; a
+-- lot is dropped and its number used again, while the line plays tricks.
 use mathlib.Core.Path.{_≡_, refl}
 use mathlib.Core.Bool.{Bool, true, false, false≢true, _&&_, _||_, cond}
 use mathlib.Core.List.{List, [], _∷_, _++_}
@@ -27,7 +28,7 @@ use Rattle.session.specs.Ledger.{LedgerLot, ofOperation}
 use Rattle.session.specs.Engine.{Call}
 use Rattle.session.specs.Ends.{End, other, Event, World, Step, act, run, Written, Brought, Possible, begun}
 use Rattle.session.specs.Claim.{confirmed, counted, reportAt, presentedTally, receivedTally}
-use Rattle.session.proofs.Examples.{computing, buffer, Sent, sending, receiving, replied}
+use Rattle.session.proofs.Examples.{computing, buffer, Sent, messageFrom, replyTo, sending, receiving, replied}
 
 -- whether bytes are those of an unrefused call, and so whether a list of calls is possible
 abbrev sameBytes : List ℕ → List ℕ → Bool
@@ -156,15 +157,18 @@ abbrev exchanged : End → (serial : ℕ) → List Sent → List Step
 exchanged p serial [] = []
 exchanged p serial (x ∷ xs) = sent p x ∷ arrived p serial x ∷ answered 80000 p serial x Code.Accepted ∷ exchanged p (suc serial) xs
 
--- both clocks reach 23:30
+-- both clocks reach 23:30; a second before nothing is closed, or the next clock call would be refused
 abbrev closed : List Step
-closed = record { at = End.near; call = Call.clock close; line = buffer } ∷ record { at = End.far; call = Call.clock close; line = buffer } ∷ []
+closed = record { at = End.near; call = Call.clock 84599; line = buffer } ∷ record { at = End.near; call = Call.clock close; line = buffer } ∷ record { at = End.far; call = Call.clock close; line = buffer } ∷ []
 
--- a document for an entity, which is its drawee too
-abbrev document : (entity nominal commission : ℕ) → List ℕ
-document entity nominal commission =
+-- a document for an entity and a drawee; and one whose drawee the entity is
+abbrev drawnOn : (drawee entity nominal commission : ℕ) → List ℕ
+drawnOn drawee entity nominal commission =
     tableWritten (documentFields presented entity)
-    (1 ∷ 0 ∷ 2434157 ∷ 1403 ∷ 81 ∷ 110 ∷ 28 ∷ entity ∷ 8 ∷ 810110 ∷ nominal ∷ entity ∷ 110 ∷ 123456 ∷ 1 ∷ 1 ∷ commission ∷ 0 ∷ [])
+    (1 ∷ 0 ∷ 2434157 ∷ 1403 ∷ 81 ∷ 110 ∷ 28 ∷ entity ∷ 8 ∷ 810110 ∷ nominal ∷ drawee ∷ 110 ∷ 123456 ∷ 1 ∷ 1 ∷ commission ∷ 0 ∷ [])
+
+abbrev document : (entity nominal commission : ℕ) → List ℕ
+document entity nominal commission = drawnOn entity entity nominal commission
 
 abbrev tally : (lots : ℕ) → Totals → Tally
 tally lots t = record { lots = lots; gathered = t }
@@ -225,6 +229,39 @@ ahead close = record { counted = lot 7 ∷ []; confirmed = []; received = tally 
 named-and-counted : Leads lost (record { refused = []; replies = replicate 4 0; near = ahead Close.Open; far = level [] (tally 0 zeros) Close.Open })
 unfolding computing
 named-and-counted = record { possible = possible lost justStarted refl; leads = refl }
+
+-- Then one of the two replies comes, and the other after it, which is for nothing that is awaited.
+abbrev found : List Step
+found = lost ++ answered 80000 End.near 3 (Sent.lotTotal 7 one) Code.Accepted ∷ answered 80000 End.near 3 (Sent.lotTotal 7 one) Code.Accepted ∷ []
+
+settled-late : Leads found (record { refused = 35 ∷ []; replies = replicate 4 0; near = level (lot 7 ∷ []) (tally 1 one) Close.Open; far = level [] (tally 0 zeros) Close.Open })
+unfolding computing
+settled-late = record { possible = possible found justStarted refl; leads = refl }
+
+-- A header is handed back to its own end, to the reply call, and its reply to receiving. A detail of a drawee that is not served gets 06, so the
+-- lot is ended by a total of zeros, with 07; its number is used again.
+abbrev stray : Sent
+stray = Sent.detail 30 (drawnOn 9999 72 500 1)
+
+abbrev again : List Step
+again =
+    sent End.near (Sent.header 7)
+    ∷ record { at = End.near; call = receiving 80000 End.near 1 (Sent.header 7); line = buffer }
+    ∷ record { at = End.near; call = Call.reply 80000 (messageFrom End.near 1 (Sent.header 7)); line = buffer }
+    ∷ arrived End.near 1 (Sent.header 7)
+    ∷ record { at = End.far; call = Call.receive 80000 (replyTo End.near 1 (Sent.header 7) Code.Accepted); line = buffer }
+    ∷ answered 80000 End.near 1 (Sent.header 7) Code.Accepted
+    ∷ sent End.near stray
+    ∷ arrived End.near 2 stray
+    ∷ answered 80000 End.near 2 stray Code.WrongDrawee
+    ∷ sent End.near (Sent.lotTotal 7 zeros)
+    ∷ arrived End.near 3 (Sent.lotTotal 7 zeros)
+    ∷ answered 80000 End.near 3 (Sent.lotTotal 7 zeros) Code.WrongSequence
+    ∷ exchanged End.near 4 (opening 7 ++ Sent.lotTotal 7 one ∷ [])
+
+number-used-again : Leads again (record { refused = 21 ∷ 21 ∷ 33 ∷ []; replies = 0 ∷ 0 ∷ 0 ∷ 7 ∷ 6 ∷ 0 ∷ []; near = level (lot 7 ∷ []) (tally 1 one) Close.Open; far = level [] (tally 0 zeros) Close.Open })
+unfolding computing
+number-used-again = record { possible = possible again justStarted refl; leads = refl }
 
 -- A second lot has the totals of the first: the receiver replies 04, and the reply is lost.
 abbrev duplicate : List Step

@@ -8,7 +8,6 @@ use lib.Dec.{eqb}
 use Rattle.document.specs.Entities.{member}
 use Rattle.message.specs.Envelope.{serialOf, bodyOf}
 use Rattle.session.specs.declared.report.Awaited.{Awaited}
-
 use Rattle.session.specs.Reply.{isAccepted}
 use Rattle.session.specs.Ledger.{LedgerLot, Ledger, Entry, blank, enter, partEntry, bodyEntry, lotSum}
 use Rattle.session.specs.Engine.{Call}

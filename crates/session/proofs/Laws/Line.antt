@@ -22,7 +22,6 @@ use Rattle.message.specs.Reply.{writtenReplyBody}
 use Rattle.message.specs.Line.{message, wholeReply}
 use Rattle.message.proofs.Laws.Envelope.{in-range, envelope-told, body-told, kind-told}
 use Rattle.session.specs.declared.parties.Parties.{Parties}
-
 use Rattle.session.specs.Reply.{isAccepted}
 use Rattle.session.specs.Premise.{PartiesSound}
 use Rattle.session.specs.Ledger.{Entry, bodyEntry}
