@@ -104,7 +104,9 @@ module _ (r : Receiving) (t : Running) (b : Ledger) (m : Mirrored r t b) where
 
     -- the accepted lots
     abbrev pub keptLots : (c : Content) (accepted : Bool) → List Lot
-    keptLots c accepted = take (advance (effectBy c body t) accepted course .counters .lots) (kept (effectBy c body t) accepted (r .counters .lots) (r .lots))
+    keptLots c accepted =
+        let effect = effectBy c body t in
+        acceptedLots (record { serial = r .serial; reply = r .reply; counters = advance effect accepted course .counters; ended = r .ended; lots = kept effect accepted (r .counters .lots) (r .lots) })
 
     pub lots-mirror : (c : Content) (accepted : Bool) → (accepted ≡ true → Allowed (effectBy c body t) course) → (isOpen (r .counters .current) ≡ true → r .counters .lots < length (r .lots)) → keptLots c accepted ≡ map lotSum (enter (entryBy c body) accepted b .lots)
     unfolding effectBy entryBy advance enter kept
