@@ -77,7 +77,7 @@ sessionTotalCode body r =
     orelse sessionTotalSequence (r .ended) (r .counters .current)
     orelse 8 when not (eqb (r .counters .lots) (read .number) && same (stated (r .counters .gathered)) (read .stated))
 
--- the chain of what a body is
+-- a body's own chain, by what it is
 unfoldable pub codeBy : Content → (time : ℕ) (body : List ℕ) → Parties → Running → Receiving → ℕ
 codeBy Content.Header time body p running r = headerCode time body p r
 codeBy Content.Detail time body p running r = detailCode body p running r
