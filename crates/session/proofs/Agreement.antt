@@ -31,18 +31,29 @@ use Rattle.session.specs.Claim.{oneMore, confirmed, counted, reportAt, p
 use Rattle.session.proofs.Laws.Parties.{Told, told}
 use Rattle.session.proofs.Laws.Ledger.{openOf, lotOf, lots-last, one-longer}
 use Rattle.session.proofs.Laws.Line.{accepts}
-use Rattle.session.proofs.Laws.Joined.{waitingEffect, Link, Joined}
+use Rattle.session.proofs.Laws.Joined.{waitingEffect, Link, Joined, PresentingEnd, ReceivingEnd, presentingEnd, receivingEnd}
 use Rattle.session.proofs.Laws.Presenter.{presenter-step}
 use Rattle.session.proofs.Laws.Receiver.{receiver-step}
 use Rattle.session.proofs.Laws.Sound.{fresh-sound, fresh-carried}
 use Rattle.session.proofs.Laws.EveryCall.{ready-kept, parties-kept}
+
+-- an engine as the presenting end of a direction, and as the receiving end
+abbrev presentsWith : Engine → Confirming → PresentingEnd
+presentsWith e b = presentingEnd (e .session .presenting) (e .presenting) b
+
+abbrev receivesWith : Engine → Counting → ReceivingEnd
+receivesWith e b = receivingEnd (e .session .receiving) (e .receiving) b
+
+-- the direction in which an end presents is joined
+abbrev pub JoinedAt : World → End → Type 0
+JoinedAt w p = Joined (presentingRoute (w .engine p .session .parties)) (presentsWith (w .engine p) (confirmingAt p (w .trace))) (receivesWith (w .engine (other p)) (countingAt (other p) (w .trace))) (w .trace)
 
 -- both directions joined, and both ends ready
 pub record Whole (w : World) : Type 0 where
   pub ready : (x : End) → Ready (w .engine x)
   pub different : (x : End) → w .engine x .session .parties .own ≡ w .engine x .session .parties .partner → ⊥
   pub ways : (x : End) → presentingRoute (w .engine x .session .parties) ≡ receivingRoute (w .engine (other x) .session .parties)
-  pub joined : (p : End) → Joined (presentingRoute (w .engine p .session .parties)) (w .engine p .session .presenting) (w .engine p .presenting) (w .engine (other p) .session .receiving) (w .engine (other p) .receiving) (confirmingAt p (w .trace)) (countingAt (other p) (w .trace)) (w .trace)
+  pub joined : (p : End) → JoinedAt w p
 
 -- a direction seen from a call at its presenting end, and from one at its receiving end
 module _ (x : End) (call : Call) (line : List ℕ) (e f : Engine) (bp : Confirming) (br : Counting) (trace : List Event) (ready : Ready e) (different : e .session .parties .own ≡ e .session .parties .partner → ⊥) (brought : Brought call trace) where
@@ -52,13 +63,13 @@ module _ (x : End) (call : Call) (line : List ℕ) (e f : Engine) (bp : Confirmi
   abbrev event : Event
   event = record { at = x; call = call; said = perform call line e .said }
 
-  at-presenter : Joined (presentingRoute (e .session .parties)) (e .session .presenting) (e .presenting) (f .session .receiving) (f .receiving) bp br trace → Joined (presentingRoute (d .session .parties)) (d .session .presenting) (d .presenting) (f .session .receiving) (f .receiving) (cond (eqb (event .said .number) 0) (presents call bp) bp) br (event ∷ trace)
-  at-presenter j = subst (λ (p : Parties). Joined (presentingRoute p) (d .session .presenting) (d .presenting) (f .session .receiving) (f .receiving) (cond (eqb (event .said .number) 0) (presents call bp) bp) br (event ∷ trace)) (sym (parties-kept call line e)) (presenter-step x e ready different (f .session .receiving) (f .receiving) bp br trace j call line brought)
+  at-presenter : Joined (presentingRoute (e .session .parties)) (presentsWith e bp) (receivesWith f br) trace → Joined (presentingRoute (d .session .parties)) (presentsWith d (cond (eqb (event .said .number) 0) (presents call bp) bp)) (receivesWith f br) (event ∷ trace)
+  at-presenter j = subst (λ (p : Parties). Joined (presentingRoute p) (presentsWith d (cond (eqb (event .said .number) 0) (presents call bp) bp)) (receivesWith f br) (event ∷ trace)) (sym (parties-kept call line e)) (presenter-step x e ready different (receivesWith f br) bp trace j call line brought)
 
-  at-receiver : presentingRoute (f .session .parties) ≡ receivingRoute (e .session .parties) → Joined (presentingRoute (f .session .parties)) (f .session .presenting) (f .presenting) (e .session .receiving) (e .receiving) bp br trace → Joined (presentingRoute (f .session .parties)) (f .session .presenting) (f .presenting) (d .session .receiving) (d .receiving) bp (cond (eqb (event .said .number) 0) (receives call (event .said .bytes) br) br) (event ∷ trace)
+  at-receiver : presentingRoute (f .session .parties) ≡ receivingRoute (e .session .parties) → Joined (presentingRoute (f .session .parties)) (presentsWith f bp) (receivesWith e br) trace → Joined (presentingRoute (f .session .parties)) (presentsWith f bp) (receivesWith d (cond (eqb (event .said .number) 0) (receives call (event .said .bytes) br) br)) (event ∷ trace)
   at-receiver way j =
-      subst (λ (route : Route). Joined route (f .session .presenting) (f .presenting) (d .session .receiving) (d .receiving) bp (cond (eqb (event .said .number) 0) (receives call (event .said .bytes) br) br) (event ∷ trace)) (sym way)
-      (receiver-step x e ready different (f .session .presenting) (f .presenting) bp br trace (subst (λ (route : Route). Joined route (f .session .presenting) (f .presenting) (e .session .receiving) (e .receiving) bp br trace) way j) call line brought)
+      subst (λ (route : Route). Joined route (presentsWith f bp) (receivesWith d (cond (eqb (event .said .number) 0) (receives call (event .said .bytes) br) br)) (event ∷ trace)) (sym way)
+      (receiver-step x e ready different (presentsWith f bp) br trace (subst (λ (route : Route). Joined route (presentsWith f bp) (receivesWith e br) trace) way j) call line brought)
 
 -- what holds of the engine after a call, and of the other end, holds of both
 both-ends : (Q : End → Engine → Type 0) (x : End) (e : Engine) (engine : End → Engine) → Q x e → Q (other x) (engine (other x)) → (y : End) → Q y (replaced x e engine y)
@@ -75,7 +86,7 @@ module _ (w : World) (all : Whole w) (call : Call) (line : List ℕ) (brought : 
   parties-same : (x y : End) → after x y .session .parties ≡ w .engine y .session .parties
   parties-same x = both-ends (λ (y : End) (e : Engine). e .session .parties ≡ w .engine y .session .parties) x _ (w .engine) (parties-kept call line (w .engine x)) refl
 
-  stay-joined : (x p : End) → let w' = act (record { at = x; call = call; line = line }) w in Joined (presentingRoute (w' .engine p .session .parties)) (w' .engine p .session .presenting) (w' .engine p .presenting) (w' .engine (other p) .session .receiving) (w' .engine (other p) .receiving) (confirmingAt p (w' .trace)) (countingAt (other p) (w' .trace)) (w' .trace)
+  stay-joined : (x p : End) → JoinedAt (act (record { at = x; call = call; line = line }) w) p
   unfolding act confirmingAt countingAt
   stay-joined End.near End.near = at-presenter End.near call line _ (w .engine End.far) _ _ (w .trace) (all .ready End.near) (all .different End.near) brought (all .joined End.near)
   stay-joined End.far End.far = at-presenter End.far call line _ (w .engine End.near) _ _ (w .trace) (all .ready End.far) (all .different End.far) brought (all .joined End.far)
@@ -99,7 +110,7 @@ run-keeps [] w all possible = all
 run-keeps (s ∷ steps) w all possible = run-keeps steps (act s w) (act-keeps w all (s .call) (s .line) (possible .0) (s .at)) (possible .1)
 
 -- the beginning
-fresh-joined : (a b : Parties) (route : Route) → let s = fresh a Close.Open in let t = fresh b Close.Open in Joined route (s .presenting) empty (t .receiving) empty (record { ledger = blank; waiting = none }) (record { ledger = blank; serials = [] }) []
+fresh-joined : (a b : Parties) (route : Route) → let s = fresh a Close.Open in let t = fresh b Close.Open in Joined route (presentingEnd (s .presenting) empty (record { ledger = blank; waiting = none })) (receivingEnd (t .receiving) empty (record { ledger = blank; serials = [] })) []
 unfolding fresh lotsSum every
 fresh-joined a b route =
     record {
@@ -144,7 +155,7 @@ begun-whole date one two represented begins =
     ways End.near = refl
     ways End.far = refl
 
-    joined : (p : End) → Joined (presentingRoute (world .engine p .session .parties)) (world .engine p .session .presenting) (world .engine p .presenting) (world .engine (other p) .session .receiving) (world .engine (other p) .receiving) (confirmingAt p []) (countingAt (other p) []) []
+    joined : (p : End) → JoinedAt world p
     joined End.near = fresh-joined (partiesOf date one two (represented End.near)) (partiesOf date two one (represented End.far)) _
     joined End.far = fresh-joined (partiesOf date two one (represented End.far)) (partiesOf date one two (represented End.near)) _
 

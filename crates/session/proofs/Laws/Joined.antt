@@ -62,30 +62,47 @@ pub data Link (p : Presenting) (r : Receiving) (waiting : Option Entry) (confirm
   sent : (e : Entry) → waiting ≡ some e → p .serial ≡ suc (r .serial) → confirming ≡ counting → Link p r waiting confirming counting
   taken : (e : Entry) → waiting ≡ some e → p .serial ≡ r .serial → counting ≡ enter e (accepts (r .reply .code)) confirming → Link p r waiting confirming counting
 
-pub record Joined (route : Route) (p : Presenting) (pt : Running) (r : Receiving) (rt : Running) (bp : Confirming) (br : Counting) (trace : List Event) : Type 0 where
-  pub presenter : PresenterSide p pt bp
-  pub receiver : Mirrored r rt (br .ledger)
-  pub seen : Seen (r .serial) (br .serials)
-  pub link : Link p r (bp .waiting) (bp .ledger) (br .ledger)
-  pub messages : (bytes : List ℕ) → Written bytes trace → MessageFact route (p .serial) (bp .waiting) bytes
-  pub replies : (bytes : List ℕ) → Written bytes trace → ReplyFact route (r .serial) (r .reply .code) bytes
+-- the two ends of a direction: the record in the session, the running totals, and what was entered
+pub record PresentingEnd : Type 0 where
+  pub state : Presenting
+  pub running : Running
+  pub entered : Confirming
 
-module _ (route : Route) (p : Presenting) (pt : Running) (r : Receiving) (rt : Running) (bp : Confirming) (br : Counting) (trace : List Event) (j : Joined route p pt r rt bp br trace) where
+pub record ReceivingEnd : Type 0 where
+  pub state : Receiving
+  pub running : Running
+  pub entered : Counting
+
+abbrev pub presentingEnd : Presenting → Running → Confirming → PresentingEnd
+presentingEnd p t b = record { state = p; running = t; entered = b }
+
+abbrev pub receivingEnd : Receiving → Running → Counting → ReceivingEnd
+receivingEnd r t b = record { state = r; running = t; entered = b }
+
+pub record Joined (route : Route) (p : PresentingEnd) (r : ReceivingEnd) (trace : List Event) : Type 0 where
+  pub presenter : PresenterSide (p .state) (p .running) (p .entered)
+  pub receiver : Mirrored (r .state) (r .running) (r .entered .ledger)
+  pub seen : Seen (r .state .serial) (r .entered .serials)
+  pub link : Link (p .state) (r .state) (p .entered .waiting) (p .entered .ledger) (r .entered .ledger)
+  pub messages : (bytes : List ℕ) → Written bytes trace → MessageFact route (p .state .serial) (p .entered .waiting) bytes
+  pub replies : (bytes : List ℕ) → Written bytes trace → ReplyFact route (r .state .serial) (r .state .reply .code) bytes
+
+module _ (route : Route) (p : PresentingEnd) (r : ReceivingEnd) (trace : List Event) (j : Joined route p r trace) where
   -- a call that writes nothing of this direction
-  pub passed-by : (e : Event) → (e .said .number ≡ 0 → Foreign route (e .said .bytes)) → Joined route p pt r rt bp br (e ∷ trace)
+  pub passed-by : (e : Event) → (e .said .number ≡ 0 → Foreign route (e .said .bytes)) → Joined route p r (e ∷ trace)
   passed-by e foreign =
       record { presenter = j .presenter; receiver = j .receiver; seen = j .seen; link = j .link; messages = all-messages; replies = all-replies }
     where
-      all-messages : (bytes : List ℕ) → Written bytes (e ∷ trace) → MessageFact route (p .serial) (bp .waiting) bytes
-      all-messages bytes (inl w) = subst (MessageFact route (p .serial) (bp .waiting)) (w .1) (λ g way. absurd (foreign (w .0) .no-message g way))
+      all-messages : (bytes : List ℕ) → Written bytes (e ∷ trace) → MessageFact route (p .state .serial) (p .entered .waiting) bytes
+      all-messages bytes (inl w) = subst (MessageFact route (p .state .serial) (p .entered .waiting)) (w .1) (λ g way. absurd (foreign (w .0) .no-message g way))
       all-messages bytes (inr w) = j .messages bytes w
 
-      all-replies : (bytes : List ℕ) → Written bytes (e ∷ trace) → ReplyFact route (r .serial) (r .reply .code) bytes
-      all-replies bytes (inl w) = subst (ReplyFact route (r .serial) (r .reply .code)) (w .1) (λ g way. absurd (foreign (w .0) .no-reply g way))
+      all-replies : (bytes : List ℕ) → Written bytes (e ∷ trace) → ReplyFact route (r .state .serial) (r .state .reply .code) bytes
+      all-replies bytes (inl w) = subst (ReplyFact route (r .state .serial) (r .state .reply .code)) (w .1) (λ g way. absurd (foreign (w .0) .no-reply g way))
       all-replies bytes (inr w) = j .replies bytes w
 
   -- a refused call
-  pub refused-by : (e : Event) (k : ℕ) → e .said .number ≡ suc k → Joined route p pt r rt bp br (e ∷ trace)
+  pub refused-by : (e : Event) (k : ℕ) → e .said .number ≡ suc k → Joined route p r (e ∷ trace)
   refused-by e k n = passed-by e (λ (z : e .said .number ≡ 0). absurd (never n z))
     where
       never : {m l : ℕ} → m ≡ suc l → m ≡ 0 → ⊥

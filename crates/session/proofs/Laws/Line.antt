@@ -1,10 +1,9 @@
 -- What the line tells: whose message or reply some written bytes are, and what they bring.
 use mathlib.Core.Path.{_≡_, ap, _∙_}
 use mathlib.Core.Bool.{Bool, true, false, true≢false, false≢true}
-use mathlib.Core.List.{List, [], _++_}
+use mathlib.Core.List.{List, _++_}
 use mathlib.Core.Option.{Option, some}
 use Prim.Native.Nat.{ℕ, _≤_}
-use native.Mathlib.Omega.{arith}
 use lib.Dec.{eqb}
 use Rattle.packed.specs.Part.{byteAt}
 use Rattle.packed.specs.Number.{byteValue}
@@ -16,14 +15,11 @@ use Rattle.message.specs.declared.route.Route.{Route}
 use Rattle.message.specs.declared.envelope.Kind.{Kind}
 use Rattle.message.specs.declared.envelope.Envelope.{Envelope}
 use Rattle.message.specs.declared.reply.Reply.{Reply}
-use Rattle.message.specs.Limits.{largestSerial}
 use Rattle.message.specs.Envelope.{serialOf, envelopeFields, envelopeGood, envelopeOf, envelopeValues, writtenEnvelope, bodyOf}
 use Rattle.message.specs.Reply.{writtenReplyBody}
 use Rattle.message.specs.Line.{message, wholeReply}
-use Rattle.message.proofs.Laws.Envelope.{in-range, envelope-told, body-told, kind-told}
-use Rattle.session.specs.declared.parties.Parties.{Parties}
+use Rattle.message.proofs.Laws.Envelope.{envelope-told, body-told, kind-told}
 use Rattle.session.specs.Reply.{isAccepted}
-use Rattle.session.specs.Premise.{PartiesSound}
 use Rattle.session.specs.Ledger.{Entry, bodyEntry}
 
 -- whether a code accepts

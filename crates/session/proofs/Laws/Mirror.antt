@@ -5,7 +5,7 @@ use mathlib.Core.List.{List, [], _∷_, _++_, map}
 use mathlib.Core.Option.{Option, none, some}
 use Prim.Native.Nat.{ℕ, _<_}
 use lib.Dec.{lit<}
-use lib.ListN.{length, take}
+use lib.ListN.{length}
 use lib.Seq.{take-suc-set}
 use Rattle.codes.specs.Body.{operationOf}
 use Rattle.codes.proofs.Laws.Chain.{passed, none-both}

@@ -29,7 +29,6 @@ use Rattle.message.specs.Line.{Body, bodyBytes, message, wholeReply}
 use Rattle.message.proofs.Laws.Envelope.{body-told, whole-length}
 use Rattle.session.specs.declared.effect.Effect.{Effect}
 use Rattle.session.specs.declared.session.Presenting.{Presenting}
-use Rattle.session.specs.declared.session.Receiving.{Receiving}
 use Rattle.session.specs.Parties.{presentingRoute}
 use Rattle.session.specs.Running.{Running}
 use Rattle.session.specs.Course.{Direction, Course, advance}
@@ -43,13 +42,13 @@ use Rattle.session.specs.Premise.{PendingSound}
 use Rattle.session.specs.Ledger.{Entry, Ledger, enter, bodyEntry, partEntry, numbers, Distinct}
 use Rattle.session.specs.Engine.{Call, Engine, saidBy, meaning, lent, perform}
 use Rattle.session.specs.Ends.{End, Event, Written, Brought}
-use Rattle.session.specs.Entering.{Confirming, Counting, waitingFor, enterWaiting, answeredWith, presents}
+use Rattle.session.specs.Entering.{Confirming, waitingFor, enterWaiting, answeredWith, presents}
 use Rattle.session.specs.Claim.{Ready}
 use Rattle.session.proofs.Laws.Decided.{either, first-bytes}
 use Rattle.session.proofs.Laws.Refusals.{SendTold, send-told, ReceiveTold, receive-told, ReplyTold, reply-told}
 use Rattle.session.proofs.Laws.Ledger.{summary, openOf, Finds, effectOf, detail-sum, mirrors}
 use Rattle.session.proofs.Laws.Line.{accepts, MessageFact, ReplyFact, message-no-reply, serial-read}
-use Rattle.session.proofs.Laws.Joined.{waitingEffect, Link, Joined, passed-by, refused-by, not-entered}
+use Rattle.session.proofs.Laws.Joined.{waitingEffect, Link, PresentingEnd, ReceivingEnd, presentingEnd, Joined, passed-by, refused-by, not-entered}
 use Rattle.session.proofs.Laws.Foreign.{Foreign, nothing-foreign, next-fits, reply-foreign}
 use Rattle.session.proofs.Laws.Entries.{header-entry, detail-entry, lot-total-entry, session-total-entry, open-lot-same}
 
@@ -60,7 +59,7 @@ pending-some Entry.lotTotal b = refl
 pending-some Entry.sessionTotal b = refl
 pending-some Entry.unknown b = refl
 
-module _ (x : End) (e : Engine) (ready : Ready e) (different : e .session .parties .own ≡ e .session .parties .partner → ⊥) (r : Receiving) (rt : Running) (bp : Confirming) (br : Counting) (trace : List Event) where
+module _ (x : End) (e : Engine) (ready : Ready e) (different : e .session .parties .own ≡ e .session .parties .partner → ⊥) (r : ReceivingEnd) (bp : Confirming) (trace : List Event) where
   abbrev route : Route
   route = presentingRoute (e .session .parties)
 
@@ -70,17 +69,20 @@ module _ (x : End) (e : Engine) (ready : Ready e) (different : e .session .parti
   abbrev pt : Running
   pt = e .presenting
 
-  module _ (j : Joined route p pt r rt bp br trace) where
+  abbrev here : PresentingEnd
+  here = presentingEnd p pt bp
+
+  module _ (j : Joined route here r trace) where
     -- what is pending, where an entry waits
     pending-is : (d : Entry) → bp .waiting ≡ some d → p .pending ≡ waitingEffect (some d) (bp .ledger)
     pending-is d w = j .presenter .pending ∙ ap (λ (o : Option Entry). waitingEffect o (bp .ledger)) w
 
     -- the ends after a call with this outcome, in which the running totals are the call's own or not
     abbrev After : Call → Running → Outcome → Type 0
-    After call t o = Joined route (o .left .session .presenting) t r rt (cond (eqb (o .number) 0) (presents call bp) bp) br (record { at = x; call = call; said = saidBy o } ∷ trace)
+    After call t o = Joined route (presentingEnd (o .left .session .presenting) t (cond (eqb (o .number) 0) (presents call bp) bp)) r (record { at = x; call = call; said = saidBy o } ∷ trace)
 
-    refused-after : (call : Call) (k : ℕ) → Joined route p pt r rt (cond (eqb (suc k) 0) (presents call bp) bp) br (record { at = x; call = call; said = record { number = suc k; bytes = [] } } ∷ trace)
-    refused-after call k = subst (λ (b : Confirming). Joined route p pt r rt b br (record { at = x; call = call; said = record { number = suc k; bytes = [] } } ∷ trace)) (sym (not-entered k (presents call bp) bp)) (refused-by route p pt r rt bp br trace j (record { at = x; call = call; said = record { number = suc k; bytes = [] } }) k refl)
+    refused-after : (call : Call) (k : ℕ) → Joined route (presentingEnd p pt (cond (eqb (suc k) 0) (presents call bp) bp)) r (record { at = x; call = call; said = record { number = suc k; bytes = [] } } ∷ trace)
+    refused-after call k = subst (λ (b : Confirming). Joined route (presentingEnd p pt b) r (record { at = x; call = call; said = record { number = suc k; bytes = [] } } ∷ trace)) (sym (not-entered k (presents call bp) bp)) (refused-by route here r trace j (record { at = x; call = call; said = record { number = suc k; bytes = [] } }) k refl)
 
     module _ (call : Call) (time code : ℕ) (effect : Effect) (body line : List ℕ) (entry : Entry) where
       abbrev h : Held
@@ -93,7 +95,7 @@ module _ (x : End) (e : Engine) (ready : Ready e) (different : e .session .parti
       event = record { at = x; call = call; said = record { number = 0; bytes = bytes } }
 
       -- the message is on the line, and waits
-      sent-joined : SendTold code bytes h → effect ≡ waitingEffect (some entry) (bp .ledger) → bodyEntry body ≡ entry → Joined route (sent time effect (e .session) .presenting) pt r rt (waitingFor entry bp) br (event ∷ trace)
+      sent-joined : SendTold code bytes h → effect ≡ waitingEffect (some entry) (bp .ledger) → bodyEntry body ≡ entry → Joined route (presentingEnd (sent time effect (e .session) .presenting) pt (waitingFor entry bp)) r (event ∷ trace)
       sent-joined told matching reads =
           record {
             presenter = record { course = j .presenter .course; pending = matching; once = j .presenter .once };
@@ -107,7 +109,7 @@ module _ (x : End) (e : Engine) (ready : Ready e) (different : e .session .parti
           waits : (d : Entry) → bp .waiting ≡ some d → ⊥
           waits d w = false≢true (sym (told .idle) ∙ ap isPending (pending-is d w) ∙ pending-some d (bp .ledger))
 
-          linked : Link p r (bp .waiting) (bp .ledger) (br .ledger) → Link (sent time effect (e .session) .presenting) r (some entry) (bp .ledger) (br .ledger)
+          linked : Link p (r .state) (bp .waiting) (bp .ledger) (r .entered .ledger) → Link (sent time effect (e .session) .presenting) (r .state) (some entry) (bp .ledger) (r .entered .ledger)
           linked (Link.idle w s b) = Link.sent entry refl (ap suc s) b
           linked (Link.sent d w s b) = absurd (waits d w)
           linked (Link.taken d w s b) = absurd (waits d w)
@@ -124,8 +126,8 @@ module _ (x : End) (e : Engine) (ready : Ready e) (different : e .session .parti
               let old = j .messages b w g way .0 in
               (omega (arith, old), λ (d : Entry) (s : serialOf b ≡ suc (p .serial)) (same : some entry ≡ some d). absurd (omega (arith, old, s)))
 
-          all-replies : (b : List ℕ) → Written b (event ∷ trace) → ReplyFact route (r .serial) (r .reply .code) b
-          all-replies b (inl w) = subst (ReplyFact route (r .serial) (r .reply .code)) (w .1) (λ (g : envelopeGood Kind.Reply bytes ≡ true) (way : envelopeOf bytes .route ≡ route). absurd (message-no-reply (nextEnvelope (e .session)) body g))
+          all-replies : (b : List ℕ) → Written b (event ∷ trace) → ReplyFact route (r .state .serial) (r .state .reply .code) b
+          all-replies b (inl w) = subst (ReplyFact route (r .state .serial) (r .state .reply .code)) (w .1) (λ (g : envelopeGood Kind.Reply bytes ≡ true) (way : envelopeOf bytes .route ≡ route). absurd (message-no-reply (nextEnvelope (e .session)) body g))
           all-replies b (inr w) = j .replies b w
 
       -- so for every send, if its code lets nothing else pass
@@ -137,8 +139,8 @@ module _ (x : End) (e : Engine) (ready : Ready e) (different : e .session .parti
           (λ (z : sendRefusal time code bytes h ≡ 0).
           let told = send-told time code bytes h z in
           let fit = fits (told .unstopped) in
-          subst (λ (w : List ℕ). Joined route (sent time effect (e .session) .presenting) pt r rt (presents call bp) br (record { at = x; call = call; said = record { number = 0; bytes = w } } ∷ trace)) (sym (first-bytes bytes line (told .room)))
-          (subst (λ (b : Confirming). Joined route (sent time effect (e .session) .presenting) pt r rt b br (event ∷ trace)) (sym books) (sent-joined told (fit .0) (fit .1))))
+          subst (λ (w : List ℕ). Joined route (presentingEnd (sent time effect (e .session) .presenting) pt (presents call bp)) r (record { at = x; call = call; said = record { number = 0; bytes = w } } ∷ trace)) (sym (first-bytes bytes line (told .room)))
+          (subst (λ (b : Confirming). Joined route (presentingEnd (sent time effect (e .session) .presenting) pt b) r (event ∷ trace)) (sym books) (sent-joined told (fit .0) (fit .1))))
 
     -- a reply enters what waits, with the code that the receiver kept
     module _ (time : ℕ) (bytes line : List ℕ) where
@@ -171,17 +173,17 @@ module _ (x : End) (e : Engine) (ready : Ready e) (different : e .session .parti
           same Entry.unknown true h = λ i. record { counters = summary (bp .ledger) .counters; running = gather-empty (summary (bp .ledger) .running) i }
           same Entry.unknown false h = refl
 
-      replied-joined : Written bytes trace → ReplyTold bytes (e .session) → Joined route (replied time (isAccepted bytes) replyHeld .session .presenting) (replied time (isAccepted bytes) replyHeld .running) r rt (answeredWith (isAccepted bytes) bp) br trace
+      replied-joined : Written bytes trace → ReplyTold bytes (e .session) → Joined route (presentingEnd (replied time (isAccepted bytes) replyHeld .session .presenting) (replied time (isAccepted bytes) replyHeld .running) (answeredWith (isAccepted bytes) bp)) r trace
       replied-joined brought told = go (j .link)
         where
-          go : Link p r (bp .waiting) (bp .ledger) (br .ledger) → Joined route (replied time (isAccepted bytes) replyHeld .session .presenting) (replied time (isAccepted bytes) replyHeld .running) r rt (answeredWith (isAccepted bytes) bp) br trace
+          go : Link p (r .state) (bp .waiting) (bp .ledger) (r .entered .ledger) → Joined route (presentingEnd (replied time (isAccepted bytes) replyHeld .session .presenting) (replied time (isAccepted bytes) replyHeld .running) (answeredWith (isAccepted bytes) bp)) r trace
           go (Link.idle w s b) = absurd (false≢true (ap isPending (sym (ap (λ (o : Option Entry). waitingEffect o (bp .ledger)) w) ∙ sym (j .presenter .pending)) ∙ told .awaited))
           go (Link.sent d w s b) = absurd (omega (arith, told .serial, s, j .replies bytes brought (told .good) (told .way) .0))
           go (Link.taken d w s b) =
               let accepted = isAccepted bytes in
-              let same : accepted ≡ accepts (r .reply .code) = j .replies bytes brought (told .good) (told .way) .1 (told .serial ∙ s) in
+              let same : accepted ≡ accepts (r .state .reply .code) = j .replies bytes brought (told .good) (told .way) .1 (told .serial ∙ s) in
               let after : answeredWith accepted bp .ledger ≡ enter d accepted (bp .ledger) = ap (λ (o : Option Entry). enterWaiting accepted o (bp .ledger)) w in
-              let level : answeredWith accepted bp .ledger ≡ br .ledger = after ∙ ap (λ (t : Bool). enter d t (bp .ledger)) same ∙ sym b in
+              let level : answeredWith accepted bp .ledger ≡ r .entered .ledger = after ∙ ap (λ (t : Bool). enter d t (bp .ledger)) same ∙ sym b in
               record {
                 presenter = record { course = entered d accepted w ∙ ap summary (sym after); pending = refl; once = subst (λ (l : Ledger). Distinct (numbers (l .lots))) (sym level) (j .receiver .once) };
                 receiver = j .receiver;
@@ -199,14 +201,14 @@ module _ (x : End) (e : Engine) (ready : Ready e) (different : e .session .parti
           either (λ (o : Outcome). After (Call.reply time bytes) (o .left .running) o) (replyRefusal time bytes (e .session)) replyHeld _
           (λ (k : ℕ). refused-after (Call.reply time bytes) k)
           (λ (z : replyRefusal time bytes (e .session) ≡ 0).
-          passed-by route _ _ r rt _ br trace (replied-joined brought (reply-told time bytes (e .session) z)) _ (λ (n : 0 ≡ 0). nothing-foreign route))
+          passed-by route (presentingEnd _ _ _) r trace (replied-joined brought (reply-told time bytes (e .session) z)) _ (λ (n : 0 ≡ 0). nothing-foreign route))
 
     -- what arrives here is of the other direction
-    foreign-reply : (time : ℕ) (bytes line : List ℕ) (reply : Reply) → ReceiveTold bytes (lent Direction.receiving line e) → Joined route p pt r rt bp br (record { at = x; call = Call.receive time bytes; said = record { number = 0; bytes = take (length (wholeReply (envelopeOf bytes) reply)) (sets line 0 (wholeReply (envelopeOf bytes) reply)) } } ∷ trace)
+    foreign-reply : (time : ℕ) (bytes line : List ℕ) (reply : Reply) → ReceiveTold bytes (lent Direction.receiving line e) → Joined route here r (record { at = x; call = Call.receive time bytes; said = record { number = 0; bytes = take (length (wholeReply (envelopeOf bytes) reply)) (sets line 0 (wholeReply (envelopeOf bytes) reply)) } } ∷ trace)
     foreign-reply time bytes line reply told =
         let whole = wholeReply (envelopeOf bytes) reply in
         let room : length whole ≤ length line = omega (arith, told .room, whole-length Kind.Reply (envelopeOf bytes) (writtenReplyBody reply)) in
-        passed-by route p pt r rt bp br trace j _ (λ (n : 0 ≡ 0). subst (Foreign route) (sym (first-bytes whole line room)) (reply-foreign (e .session) (ready .sound) different bytes reply (told .good) (told .way)))
+        passed-by route here r trace j _ (λ (n : 0 ≡ 0). subst (Foreign route) (sym (first-bytes whole line room)) (reply-foreign (e .session) (ready .sound) different bytes reply (told .good) (told .way)))
 
     message-after : (time : ℕ) (bytes line : List ℕ) → After (Call.receive time bytes) pt (receive time bytes (lent Direction.receiving line e))
     unfolding receive
@@ -225,7 +227,7 @@ module _ (x : End) (e : Engine) (ready : Ready e) (different : e .session .parti
     tick-after time line =
         either (λ (o : Outcome). After (Call.clock time) (o .left .running) o) (clockRefusal time (e .session)) (lent Direction.presenting line e) (silent (record { session = ticked time (e .session); running = pt; line = line }))
         (λ (k : ℕ). refused-after (Call.clock time) k)
-        (λ (z : clockRefusal time (e .session) ≡ 0). passed-by route p pt r rt bp br trace j _ (λ (n : 0 ≡ 0). nothing-foreign route))
+        (λ (z : clockRefusal time (e .session) ≡ 0). passed-by route here r trace j _ (λ (n : 0 ≡ 0). nothing-foreign route))
 
     -- what a presenter's own code lets pass is a message that its receiver reads as it was meant
     header-fits : (time moment centre number : ℕ) → headerStop time moment centre number p ≡ 0 → (Effect.Header number ≡ waitingEffect (some (Entry.header number)) (bp .ledger)) × (bodyEntry (bodyBytes route (Body.opening (record { time = moment; centre = centre; number = number }))) ≡ Entry.header number)
@@ -241,7 +243,7 @@ module _ (x : End) (e : Engine) (ready : Ready e) (different : e .session .parti
         let own = none-both (presenterCode operation (e .session .parties .partner) part) _ z in
         (ap Effect.Detail (sym (detail-sum (packedByte operation) (pieces documentBytes part))), detail-entry operation part (accepted-part operation (e .session .parties .partner) part (own .0) .0))
 
-    pub presenter-step : (call : Call) (line : List ℕ) → Brought call trace → let d = perform call line e in Joined route (d .engine .session .presenting) (d .engine .presenting) r rt (cond (eqb (d .said .number) 0) (presents call bp) bp) br (record { at = x; call = call; said = d .said } ∷ trace)
+    pub presenter-step : (call : Call) (line : List ℕ) → Brought call trace → let d = perform call line e in Joined route (presentingEnd (d .engine .session .presenting) (d .engine .presenting) (cond (eqb (d .said .number) 0) (presents call bp) bp)) r (record { at = x; call = call; said = d .said } ∷ trace)
     unfolding perform meaning sendHeader sendDetail sendLotTotal sendSessionTotal
     presenter-step (Call.header time moment centre number) line brought = send-after (Call.header time moment centre number) time _ _ _ line (Entry.header number) refl (header-fits time moment centre number)
     presenter-step (Call.detail time operation part) line brought = send-after (Call.detail time operation part) time _ _ _ line (partEntry operation part) refl (detail-fits operation part)
@@ -250,4 +252,4 @@ module _ (x : End) (e : Engine) (ready : Ready e) (different : e .session .parti
     presenter-step (Call.receive time bytes) line brought = message-after time bytes line
     presenter-step (Call.reply time bytes) line brought = reply-after time bytes line brought
     presenter-step (Call.clock time) line brought = tick-after time line
-    presenter-step Call.report line brought = passed-by route p pt r rt bp br trace j _ (λ (n : 0 ≡ 0). nothing-foreign route)
+    presenter-step Call.report line brought = passed-by route here r trace j _ (λ (n : 0 ≡ 0). nothing-foreign route)

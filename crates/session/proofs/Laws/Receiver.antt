@@ -22,7 +22,6 @@ use Rattle.message.proofs.Laws.Envelope.{serial-told, whole-length}
 use Rattle.session.specs.Course.{Direction}
 use Rattle.session.specs.declared.counters.OpenLot.{OpenLot}
 use Rattle.session.specs.declared.effect.Effect.{Effect}
-use Rattle.session.specs.declared.session.Presenting.{Presenting}
 use Rattle.session.specs.declared.session.Receiving.{Receiving}
 use Rattle.session.specs.Limits.{mostLots}
 use Rattle.session.specs.Parties.{receivingRoute}
@@ -37,14 +36,14 @@ use Rattle.session.specs.Premise.{OpenSound}
 use Rattle.session.specs.Ledger.{enter, bodyEntry}
 use Rattle.session.specs.Engine.{Call, Engine, saidBy, meaning, lent, perform}
 use Rattle.session.specs.Ends.{End, Event, Written, Brought}
-use Rattle.session.specs.Entering.{Confirming, Counting, received, receives}
+use Rattle.session.specs.Entering.{Counting, received, receives}
 use Rattle.session.specs.Claim.{Ready}
 use Rattle.session.proofs.Laws.Decided.{either, first-bytes}
 use Rattle.session.proofs.Laws.Refusals.{send-told, ReceiveTold, receive-told}
 use Rattle.session.proofs.Laws.Allowed.{Allowed, received-allowed}
 use Rattle.session.proofs.Laws.Line.{accepts, MessageFact, ReplyFact, reply-no-message, serial-read, code-read}
 use Rattle.session.proofs.Laws.Lists.{next-unseen, up-to-next}
-use Rattle.session.proofs.Laws.Joined.{Mirrored, Link, Joined, passed-by, refused-by, not-entered}
+use Rattle.session.proofs.Laws.Joined.{Mirrored, Link, Joined, passed-by, refused-by, not-entered, PresentingEnd, ReceivingEnd, receivingEnd}
 use Rattle.session.proofs.Laws.Mirror.{course-mirrors, lots-mirror, numbers-mirror, free-header}
 use Rattle.session.proofs.Laws.Foreign.{Foreign, nothing-foreign, message-foreign, reply-fits}
 
@@ -53,7 +52,7 @@ has-room : (lot : OpenLot) (lots : ℕ) → OpenSound lot lots → isOpen lot �
 has-room OpenLot.None lots s e = absurd (false≢true e)
 has-room (OpenLot.Numbered n) lots s e = s .1
 
-module _ (x : End) (e : Engine) (ready : Ready e) (different : e .session .parties .own ≡ e .session .parties .partner → ⊥) (p : Presenting) (pt : Running) (bp : Confirming) (br : Counting) (trace : List Event) where
+module _ (x : End) (e : Engine) (ready : Ready e) (different : e .session .parties .own ≡ e .session .parties .partner → ⊥) (p : PresentingEnd) (br : Counting) (trace : List Event) where
   abbrev route : Route
   route = receivingRoute (e .session .parties)
 
@@ -63,12 +62,15 @@ module _ (x : End) (e : Engine) (ready : Ready e) (different : e .session .parti
   abbrev rt : Running
   rt = e .receiving
 
-  module _ (j : Joined route p pt r rt bp br trace) where
-    abbrev After : Call → Running → Outcome → Type 0
-    After call t o = Joined route p pt (o .left .session .receiving) t bp (cond (eqb (o .number) 0) (receives call (saidBy o .bytes) br) br) (record { at = x; call = call; said = saidBy o } ∷ trace)
+  abbrev here : ReceivingEnd
+  here = receivingEnd r rt br
 
-    refused-after : (call : Call) (k : ℕ) → Joined route p pt r rt bp (cond (eqb (suc k) 0) (receives call [] br) br) (record { at = x; call = call; said = record { number = suc k; bytes = [] } } ∷ trace)
-    refused-after call k = subst (λ (b : Counting). Joined route p pt r rt bp b (record { at = x; call = call; said = record { number = suc k; bytes = [] } } ∷ trace)) (sym (not-entered k (receives call [] br) br)) (refused-by route p pt r rt bp br trace j (record { at = x; call = call; said = record { number = suc k; bytes = [] } }) k refl)
+  module _ (j : Joined route p here trace) where
+    abbrev After : Call → Running → Outcome → Type 0
+    After call t o = Joined route p (receivingEnd (o .left .session .receiving) t (cond (eqb (o .number) 0) (receives call (saidBy o .bytes) br) br)) (record { at = x; call = call; said = saidBy o } ∷ trace)
+
+    refused-after : (call : Call) (k : ℕ) → Joined route p (receivingEnd r rt (cond (eqb (suc k) 0) (receives call [] br) br)) (record { at = x; call = call; said = record { number = suc k; bytes = [] } } ∷ trace)
+    refused-after call k = subst (λ (b : Counting). Joined route p (receivingEnd r rt b) (record { at = x; call = call; said = record { number = suc k; bytes = [] } } ∷ trace)) (sym (not-entered k (receives call [] br) br)) (refused-by route p here trace j (record { at = x; call = call; said = record { number = suc k; bytes = [] } }) k refl)
 
     -- what is sent from here is of the other direction
     send-after : (call : Call) (time code : ℕ) (effect : Effect) (body line : List ℕ) → ((w : List ℕ) → receives call w br ≡ br) → After call rt (send time code effect body (lent Direction.presenting line e))
@@ -80,22 +82,22 @@ module _ (x : End) (e : Engine) (ready : Ready e) (different : e .session .parti
         (λ (k : ℕ). refused-after call k)
         (λ (z : sendRefusal time code bytes h ≡ 0).
         let told = send-told time code bytes h z in
-        subst (λ (b : Counting). Joined route p pt r rt bp b (record { at = x; call = call; said = record { number = 0; bytes = take (length bytes) (sets line 0 bytes) } } ∷ trace)) (sym (books _))
-        (passed-by route p pt r rt bp br trace j _ (λ (n : 0 ≡ 0). subst (Foreign route) (sym (first-bytes bytes line (told .room))) (message-foreign (e .session) (ready .sound) different body (told .more)))))
+        subst (λ (b : Counting). Joined route p (receivingEnd r rt b) (record { at = x; call = call; said = record { number = 0; bytes = take (length bytes) (sets line 0 bytes) } } ∷ trace)) (sym (books _))
+        (passed-by route p here trace j _ (λ (n : 0 ≡ 0). subst (Foreign route) (sym (first-bytes bytes line (told .room))) (message-foreign (e .session) (ready .sound) different body (told .more)))))
 
     reply-after : (time : ℕ) (bytes line : List ℕ) → After (Call.reply time bytes) rt (takeReply time bytes (lent Direction.presenting line e))
     unfolding takeReply
     reply-after time bytes line =
         either (After (Call.reply time bytes) rt) (replyRefusal time bytes (e .session)) (lent Direction.presenting line e) _
         (λ (k : ℕ). refused-after (Call.reply time bytes) k)
-        (λ (z : replyRefusal time bytes (e .session) ≡ 0). passed-by route p pt r rt bp br trace j _ (λ (n : 0 ≡ 0). nothing-foreign route))
+        (λ (z : replyRefusal time bytes (e .session) ≡ 0). passed-by route p here trace j _ (λ (n : 0 ≡ 0). nothing-foreign route))
 
     tick-after : (time : ℕ) (line : List ℕ) → After (Call.clock time) rt (clock time (lent Direction.presenting line e))
     unfolding clock
     tick-after time line =
         either (After (Call.clock time) rt) (clockRefusal time (e .session)) (lent Direction.presenting line e) _
         (λ (k : ℕ). refused-after (Call.clock time) k)
-        (λ (z : clockRefusal time (e .session) ≡ 0). passed-by route p pt r rt bp br trace j _ (λ (n : 0 ≡ 0). nothing-foreign route))
+        (λ (z : clockRefusal time (e .session) ≡ 0). passed-by route p here trace j _ (λ (n : 0 ≡ 0). nothing-foreign route))
 
     module _ (time : ℕ) (bytes line : List ℕ) (brought : Written bytes trace) (told : ReceiveTold bytes (lent Direction.receiving line e)) where
       abbrev h : Held
@@ -118,8 +120,8 @@ module _ (x : End) (e : Engine) (ready : Ready e) (different : e .session .parti
         fits : length whole ≤ length line
         fits = omega (arith, told .room, whole-length Kind.Reply (envelopeOf bytes) (writtenReplyBody reply))
 
-        all-messages : (b : List ℕ) → Written b (event ∷ trace) → MessageFact route (p .serial) (bp .waiting) b
-        all-messages b (inl w) = subst (MessageFact route (p .serial) (bp .waiting)) (w .1) (λ (g : envelopeGood Kind.Message whole ≡ true) (way : envelopeOf whole .route ≡ route). absurd (reply-no-message (envelopeOf bytes) reply g))
+        all-messages : (b : List ℕ) → Written b (event ∷ trace) → MessageFact route (p .state .serial) (p .entered .waiting) b
+        all-messages b (inl w) = subst (MessageFact route (p .state .serial) (p .entered .waiting)) (w .1) (λ (g : envelopeGood Kind.Message whole ≡ true) (way : envelopeOf whole .route ≡ route). absurd (reply-no-message (envelopeOf bytes) reply g))
         all-messages b (inr w) = j .messages b w
 
         all-replies : ((b : List ℕ) → Written b trace → ReplyFact route (after .serial) (after .reply .code) b) → (b : List ℕ) → Written b (event ∷ trace) → ReplyFact route (after .serial) (after .reply .code) b
@@ -160,7 +162,7 @@ module _ (x : End) (e : Engine) (ready : Ready e) (different : e .session .parti
             new = numbers .1;
           }
 
-      linked : serialOf bytes ≡ suc (r .serial) → Link p r (bp .waiting) (bp .ledger) (br .ledger) → Link p (receivingAfter code body rt r) (bp .waiting) (bp .ledger) (entered .ledger)
+      linked : serialOf bytes ≡ suc (r .serial) → Link (p .state) r (p .entered .waiting) (p .entered .ledger) (br .ledger) → Link (p .state) (receivingAfter code body rt r) (p .entered .waiting) (p .entered .ledger) (entered .ledger)
       unfolding receivingAfter
       linked next (Link.idle w s b) = absurd (omega (arith, next, s, j .messages bytes brought (told .good) (told .way) .0))
       linked next (Link.taken d w s b) = absurd (omega (arith, next, s, j .messages bytes brought (told .good) (told .way) .0))
@@ -168,7 +170,7 @@ module _ (x : End) (e : Engine) (ready : Ready e) (different : e .session .parti
           let reads : bodyEntry body ≡ d = j .messages bytes brought (told .good) (told .way) .1 d (next ∙ sym s) w in
           Link.taken d w s (λ i. enter (reads i) (sym (code-accepts code) i) (sym b i))
 
-      taken-joined : serialOf bytes ≡ suc (r .serial) → Joined route p pt (receivingAfter code body rt r) (receivingCourse code body rt r .running) bp entered (record { at = x; call = Call.receive time bytes; said = record { number = 0; bytes = wholeReply (envelopeOf bytes) kept } } ∷ trace)
+      taken-joined : serialOf bytes ≡ suc (r .serial) → Joined route p (receivingEnd (receivingAfter code body rt r) (receivingCourse code body rt r .running) entered) (record { at = x; call = Call.receive time bytes; said = record { number = 0; bytes = wholeReply (envelopeOf bytes) kept } } ∷ trace)
       unfolding receivingAfter member
       taken-joined next =
           record {
@@ -195,7 +197,7 @@ module _ (x : End) (e : Engine) (ready : Ready e) (different : e .session .parti
       not-again : serialOf bytes ≡ r .serial → (accepted : Bool) → received (serialOf bytes) (bodyEntry body) accepted br ≡ br
       not-again same accepted = ap (λ (t : Bool). cond t br (record { ledger = enter (bodyEntry body) accepted (br .ledger); serials = serialOf bytes ∷ br .serials })) (seen-before same)
 
-      repeated-joined : serialOf bytes ≡ r .serial → Joined route p pt r rt bp br (record { at = x; call = Call.receive time bytes; said = record { number = 0; bytes = wholeReply (envelopeOf bytes) (r .reply) } } ∷ trace)
+      repeated-joined : serialOf bytes ≡ r .serial → Joined route p here (record { at = x; call = Call.receive time bytes; said = record { number = 0; bytes = wholeReply (envelopeOf bytes) (r .reply) } } ∷ trace)
       repeated-joined same =
           record { presenter = j .presenter; receiver = j .receiver; seen = j .seen; link = j .link; messages = all-messages r (r .reply) same refl; replies = all-replies r (r .reply) same refl (j .replies) }
 
@@ -218,16 +220,16 @@ module _ (x : End) (e : Engine) (ready : Ready e) (different : e .session .parti
             let after = receivingAfter code (bodyOf bytes) rt r in
             let running = receivingCourse code (bodyOf bytes) rt r .running in
             let whole = wholeReply (envelopeOf bytes) (after .reply) in
-            subst (λ (w : List ℕ). Joined route p pt after running bp (receives (Call.receive time bytes) w br) (record { at = x; call = Call.receive time bytes; said = record { number = 0; bytes = w } } ∷ trace)) (sym (first-bytes whole line (fits time bytes line brought told after (after .reply) next refl)))
-            (subst (λ (b : Counting). Joined route p pt after running bp b (record { at = x; call = Call.receive time bytes; said = record { number = 0; bytes = whole } } ∷ trace)) (sym (first-time time bytes line brought told next)) (taken-joined time bytes line brought told next))
+            subst (λ (w : List ℕ). Joined route p (receivingEnd after running (receives (Call.receive time bytes) w br)) (record { at = x; call = Call.receive time bytes; said = record { number = 0; bytes = w } } ∷ trace)) (sym (first-bytes whole line (fits time bytes line brought told after (after .reply) next refl)))
+            (subst (λ (b : Counting). Joined route p (receivingEnd after running b) (record { at = x; call = Call.receive time bytes; said = record { number = 0; bytes = whole } } ∷ trace)) (sym (first-time time bytes line brought told next)) (taken-joined time bytes line brought told next))
         go false n told =
             let same = last-serial bytes n (told .known) in
             let whole = wholeReply (envelopeOf bytes) (r .reply) in
             let event : List ℕ → Event = λ (w : List ℕ). record { at = x; call = Call.receive time bytes; said = record { number = 0; bytes = w } } in
-            subst (λ (w : List ℕ). Joined route p pt r rt bp (receives (Call.receive time bytes) w br) (event w ∷ trace)) (sym (first-bytes whole line (fits time bytes line brought told r (r .reply) same refl)))
-            (subst (λ (b : Counting). Joined route p pt r rt bp b (event whole ∷ trace)) (sym (not-again time bytes line brought told same (isAccepted whole))) (repeated-joined time bytes line brought told same))
+            subst (λ (w : List ℕ). Joined route p (receivingEnd r rt (receives (Call.receive time bytes) w br)) (event w ∷ trace)) (sym (first-bytes whole line (fits time bytes line brought told r (r .reply) same refl)))
+            (subst (λ (b : Counting). Joined route p (receivingEnd r rt b) (event whole ∷ trace)) (sym (not-again time bytes line brought told same (isAccepted whole))) (repeated-joined time bytes line brought told same))
 
-    pub receiver-step : (call : Call) (line : List ℕ) → Brought call trace → let d = perform call line e in Joined route p pt (d .engine .session .receiving) (d .engine .receiving) bp (cond (eqb (d .said .number) 0) (receives call (d .said .bytes) br) br) (record { at = x; call = call; said = d .said } ∷ trace)
+    pub receiver-step : (call : Call) (line : List ℕ) → Brought call trace → let d = perform call line e in Joined route p (receivingEnd (d .engine .session .receiving) (d .engine .receiving) (cond (eqb (d .said .number) 0) (receives call (d .said .bytes) br) br)) (record { at = x; call = call; said = d .said } ∷ trace)
     unfolding perform meaning sendHeader sendDetail sendLotTotal sendSessionTotal
     receiver-step (Call.header time moment centre number) line brought = send-after (Call.header time moment centre number) time _ _ _ line (λ (w : List ℕ). refl)
     receiver-step (Call.detail time operation part) line brought = send-after (Call.detail time operation part) time _ _ _ line (λ (w : List ℕ). refl)
@@ -236,4 +238,4 @@ module _ (x : End) (e : Engine) (ready : Ready e) (different : e .session .parti
     receiver-step (Call.receive time bytes) line brought = message-after time bytes line brought
     receiver-step (Call.reply time bytes) line brought = reply-after time bytes line
     receiver-step (Call.clock time) line brought = tick-after time line
-    receiver-step Call.report line brought = passed-by route p pt r rt bp br trace j _ (λ (n : 0 ≡ 0). nothing-foreign route)
+    receiver-step Call.report line brought = passed-by route p here trace j _ (λ (n : 0 ≡ 0). nothing-foreign route)

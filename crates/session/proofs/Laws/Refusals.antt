@@ -1,6 +1,6 @@
 -- What a call that is not refused tells: every test of its chain passed.
 use mathlib.Core.Path.{_≡_}
-use mathlib.Core.Bool.{Bool, true, false, not, _||_}
+use mathlib.Core.Bool.{true, false, not, _||_}
 use mathlib.Core.List.{List}
 use Prim.Native.Nat.{ℕ, _+_, _≤_, _<_}
 use lib.Dec.{eqb, leb, lit<}
@@ -8,7 +8,6 @@ use lib.ListN.{length}
 use borrow.Author.Tests.{leb-false, ltb-false, eqb-true, not-false}
 use Rattle.packed.proofs.Laws.Told.{three}
 use Rattle.codes.specs.Body.{operationOf}
-use Rattle.codes.specs.Chain.{_when_, _orelse_}
 use Rattle.codes.proofs.Laws.Chain.{passed, none-test, none-both}
 use Rattle.message.specs.declared.envelope.Kind.{Kind}
 use Rattle.message.specs.Limits.{largestSerial, envelopeBytes, replyBytes}
