@@ -1,8 +1,9 @@
--- 01, 'Cases': the starred ones, each beside what the paper says of it: one table, one theorem.
+-- 01, 'Cases': the starred ones, each beside what the paper says of it: one table, one theorem. A second table has the numbers that no starred
+-- case earns.
 use mathlib.Core.Path.{_≡_, refl}
 use mathlib.Core.List.{List, [], _∷_, map}
 use Prim.Native.Nat.{ℕ, _-_}
-use lib.ListN.{set, drop}
+use lib.ListN.{set, drop, replicate}
 use Rattle.packed.specs.Part.{byteAt}
 use Rattle.packed.specs.Number.{byteValue}
 use Rattle.amounts.specs.Totals.{totals, zeros}
@@ -10,19 +11,22 @@ use Rattle.codes.specs.declared.reply.Code.{Code}
 use Rattle.document.specs.Operation.{presentedNumber}
 use Rattle.detail.specs.Limits.{headBytes}
 use Rattle.detail.specs.Codes.{receiverCode}
+use Rattle.session.specs.declared.counters.Counters.{Counters}
 use Rattle.session.specs.Running.{documentsIn}
 use Rattle.session.specs.Start.{start}
 use Rattle.session.specs.Sending.{openNumber}
 use Rattle.session.specs.Engine.{Call, Engine, Done, perform, withEmpty}
 use Rattle.session.specs.Ends.{End}
-use Rattle.session.proofs.Examples.{computing, buffer, Sent, sending, receiving, replied}
+use Rattle.session.proofs.Examples.{computing, buffer, moment, Sent, messageFrom, replyTo, sending, receiving, replied}
 
--- what a case asks: the code of a detail; the number of a call; its number and the reply that it writes; all that it says and leaves
+-- what a case asks: the code of a detail; the number of a call; its number and the reply that it writes; all that it says and leaves; its number
+-- with a line buffer of so many bytes
 data Asked : Type 0 where
   code : (body : List ℕ) → Asked
   number : Engine → Call → Asked
   reply : Engine → Call → Asked
   everything : Engine → Call → Asked
+  inRoom : (bytes : ℕ) → Engine → Call → Asked
 
 -- and what it gets; beside a reply stand the open lot, 0 for none, and its documents
 data Answer : Type 0 where
@@ -40,6 +44,7 @@ answer (Asked.code body) = Answer.number (receiverCode 72 [] body)
 answer (Asked.number e call) = Answer.number (perform call buffer e .said .number)
 answer (Asked.reply e call) = replied-by (perform call buffer e)
 answer (Asked.everything e call) = Answer.everything (perform call buffer e)
+answer (Asked.inRoom bytes e call) = Answer.number (perform call (replicate bytes 0) e .said .number)
 
 -- a case beside the paper's answer
 record Case : Type 0 where
@@ -169,3 +174,103 @@ starred-cases :
     map (λ (c : Case). answer (c .asked)) cases ≡ map (λ (c : Case). c .due) cases
 unfolding computing
 starred-cases = refl
+
+-- a session of which so many lots were accepted both ways, and one that has used so many serials
+abbrev withLots : (lots : ℕ) → Engine → Engine
+withLots n e =
+    let s = e .session in
+    let p = s .presenting in
+    let r = s .receiving in
+    let many : Counters → Counters = λ (c : Counters). record { current = c .current; lots = n; gathered = c .gathered } in
+    record {
+      session =
+          record {
+            parties = s .parties;
+            presenting = record { serial = p .serial; pending = p .pending; counters = many (p .counters); ended = p .ended };
+            receiving = record { serial = r .serial; reply = r .reply; counters = many (r .counters); ended = r .ended; lots = r .lots };
+            seen = s .seen;
+            close = s .close;
+          };
+      presenting = e .presenting;
+      receiving = e .receiving;
+    }
+
+abbrev withSerial : (serial : ℕ) → Engine → Engine
+withSerial n e =
+    let s = e .session in
+    let p = s .presenting in
+    record {
+      session = record { parties = s .parties; presenting = record { serial = n; pending = p .pending; counters = p .counters; ended = p .ended }; receiving = s .receiving; seen = s .seen; close = s .close };
+      presenting = e .presenting;
+      receiving = e .receiving;
+    }
+
+-- the receiver when lot 7 was accepted, and when the direction has ended
+abbrev onePast : Engine
+onePast = after (arriving 80000 2 detail ∷ arriving 80000 3 (total 7) ∷ []) openReceiver
+
+abbrev endedReceiver : Engine
+endedReceiver = after (arriving 80000 1 (Sent.sessionTotal 0 zeros) ∷ []) receiver
+
+-- Beside the starred cases, every other number that the state, the clock, the line or the buffer decides, each where it begins and where it does
+-- not yet: one table, one theorem.
+every-number :
+    let cases : List Case =
+    -- 20, 30, 31, 32
+    Asked.number presenter (sending 86400 (Sent.header 7)) is Answer.number 20
+    ∷ Asked.number (after (Call.clock 80000 ∷ []) presenter) (sending 79999 (Sent.header 7)) is Answer.number 30
+    ∷ Asked.number (after (Call.clock 80000 ∷ []) presenter) (sending 80000 (Sent.header 7)) is Answer.number 0
+    ∷ Asked.number presenter (sending 75599 (Sent.header 7)) is Answer.number 31
+    ∷ Asked.number presenter (sending 75600 (Sent.header 7)) is Answer.number 0
+    ∷ Asked.number presenter (sending 84599 (Sent.sessionTotal 0 zeros)) is Answer.number 0
+    ∷ Asked.number presenter (sending 84600 (Sent.sessionTotal 0 zeros)) is Answer.number 31
+    ∷ Asked.number presenter (Call.clock 0) is Answer.number 0
+    ∷ Asked.number (after (Call.clock 84600 ∷ []) presenter) (Call.clock 84601) is Answer.number 32
+    -- 21, 33, 22, 35: what the line hands over
+    ∷ Asked.number receiver (Call.receive 80000 (replyTo End.near 1 (Sent.header 7) Code.Accepted)) is Answer.number 21
+    ∷ Asked.number presenter (Call.reply 80000 (messageFrom End.near 1 (Sent.header 7))) is Answer.number 21
+    ∷ Asked.number presenter (Call.receive 80000 (messageFrom End.near 1 (Sent.header 7))) is Answer.number 33
+    ∷ Asked.number receiver (Call.reply 80000 (replyTo End.near 1 (Sent.header 7) Code.Accepted)) is Answer.number 33
+    ∷ Asked.number presenter (Call.reply 80000 (with-byte 16 0x13 (replyTo End.near 1 (Sent.header 7) Code.Accepted))) is Answer.number 22
+    ∷ Asked.number presenter (replied 80000 End.near 1 (Sent.header 7) Code.Accepted) is Answer.number 35
+    ∷ Asked.number (after (sending 80000 (Sent.header 7) ∷ []) presenter) (replied 80000 End.near 1 (total 7) Code.Accepted) is Answer.number 35
+    ∷ Asked.number receiver (arriving 80000 2 (Sent.header 7)) is Answer.number 35
+    -- 34, 36, 23
+    ∷ Asked.number (after (sending 80000 (Sent.header 7) ∷ []) presenter) (sending 80000 (Sent.header 8)) is Answer.number 34
+    ∷ Asked.number (withSerial 99999998 presenter) (sending 80000 (Sent.header 7)) is Answer.number 0
+    ∷ Asked.number (withSerial 99999999 presenter) (sending 80000 (Sent.header 7)) is Answer.number 36
+    ∷ Asked.inRoom 30 presenter (sending 80000 (Sent.header 7)) is Answer.number 23
+    ∷ Asked.inRoom 31 presenter (sending 80000 (Sent.header 7)) is Answer.number 0
+    ∷ Asked.inRoom 15 receiver (arriving 80000 1 (Sent.header 7)) is Answer.number 23
+    ∷ Asked.inRoom 16 receiver (arriving 80000 1 (Sent.header 7)) is Answer.number 0
+    -- 01 and 07 of a presenter's own calls
+    ∷ Asked.number presenter (Call.header 80000 24000000 1 7) is Answer.number 1
+    ∷ Asked.number presenter (Call.header 80000 moment 1 0) is Answer.number 1
+    ∷ Asked.number presenter (Call.detail 80000 31 (drop headBytes printed)) is Answer.number 1
+    ∷ Asked.number openPresenter (sending 80000 (Sent.header 8)) is Answer.number 7
+    ∷ Asked.number presenter (sending 80000 detail) is Answer.number 7
+    ∷ Asked.number presenter (sending 80000 (total 7)) is Answer.number 7
+    ∷ Asked.number openPresenter (sending 80000 (Sent.sessionTotal 0 zeros)) is Answer.number 7
+    ∷ Asked.number openPresenter (sending 80000 (total 7)) is Answer.number 0
+    -- 07 in replies
+    ∷ Asked.reply openReceiver (arriving 80000 2 (Sent.header 8)) is Answer.reply 0 86 7 7 0
+    ∷ Asked.reply receiver (arriving 80000 1 detail) is Answer.reply 0 86 7 0 0
+    ∷ Asked.reply (after (arriving 80000 2 detail ∷ []) openReceiver) (arriving 80000 3 (total 8)) is Answer.reply 0 87 7 0 0
+    ∷ Asked.reply openReceiver (arriving 80000 2 (Sent.sessionTotal 0 zeros)) is Answer.reply 0 97 7 7 0
+    ∷ Asked.reply endedReceiver (arriving 80000 2 (Sent.header 7)) is Answer.reply 0 86 7 0 0
+    ∷ Asked.reply endedReceiver (arriving 80000 2 (Sent.sessionTotal 0 zeros)) is Answer.reply 0 97 7 0 0
+    -- 04, 11, 08
+    ∷ Asked.reply onePast (arriving 80000 4 (Sent.header 7)) is Answer.reply 0 86 4 0 0
+    ∷ Asked.reply (withLots 63 receiver) (arriving 80000 1 (Sent.header 7)) is Answer.reply 0 86 0 7 0
+    ∷ Asked.reply (withLots 64 receiver) (arriving 80000 1 (Sent.header 7)) is Answer.reply 0 86 11 0 0
+    ∷ Asked.number (withLots 63 presenter) (sending 80000 (Sent.header 7)) is Answer.number 0
+    ∷ Asked.number (withLots 64 presenter) (sending 80000 (Sent.header 7)) is Answer.number 11
+    ∷ Asked.reply (after (arriving 80000 2 detail ∷ []) openReceiver) (arriving 80000 3 (Sent.lotTotal 7 (totals 1 15000 31))) is Answer.reply 0 87 8 0 0
+    ∷ Asked.reply onePast (arriving 80000 4 (Sent.sessionTotal 1 (totals 1 15000 30))) is Answer.reply 0 97 0 0 0
+    ∷ Asked.reply onePast (arriving 80000 4 (Sent.sessionTotal 2 (totals 1 15000 30))) is Answer.reply 0 97 8 0 0
+    ∷ Asked.reply onePast (arriving 80000 4 (Sent.sessionTotal 1 (totals 1 15001 30))) is Answer.reply 0 97 8 0 0
+    ∷ []
+    in
+    map (λ (c : Case). answer (c .asked)) cases ≡ map (λ (c : Case). c .due) cases
+unfolding computing
+every-number = refl

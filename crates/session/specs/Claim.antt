@@ -69,24 +69,23 @@ pub record Ready (e : Engine) : Type 0 where
 
 -- the claim about one direction, in which the end p presents
 pub record Agreement (w : World) (p : End) : Type 0 where
-  -- 'the lots that the receiver has counted are exactly the presenter's confirmed ones; or the presenter's report names one unconfirmed lot, and
-  -- the receiver has counted exactly the confirmed ones and then that lot'
+  -- the clause on the lots: counted are the confirmed ones; or the report names an unconfirmed one, and counted are the confirmed and then it
   pub agreed : Level w p ⊎ Ahead w p
-  -- 'no number stands twice in either'
+  -- on the numbers: none stands twice in either list
   pub counted-once : Distinct (numbers (counted w p))
   pub confirmed-once : Distinct (numbers (confirmed w p))
-  -- 'a report's totals are the counts and sums over its end's lists'
+  -- on a report's totals: they are counts and sums over its end's list
   pub presented : presentedTally w p ≡ tallied (confirmed w p)
   pub received : receivedTally w p ≡ tallied (counted w p)
-  -- 'it names the presenter's open lot, with number, counts and sums, exactly from the unrefused send of its total until the unrefused reply
-  -- call for it'
+  -- on what a report names: the open lot, with number, counts and sums, from the send of its total that was not refused until the reply call for
+  -- it that was not, and at no other time
   pub named : reportAt w p .awaited ≡ toBeNamed (confirmingAt p (w .trace))
-  -- 'demand 3's last sentence holds right after that call': nothing is named and the ends are level; so it is after a reply to any message
+  -- the last sentence: right after that reply call, and after one for any other message, nothing is named and the ends are level
   pub settled : JustReplied w p → (reportAt w p .awaited ≡ Awaited.Neither) × Level w p
-  -- the theorem is about the engine that runs: the premise of every call holds at both ends
+  -- beside the demand: the premise of every call holds at both ends, so the theorem is about the engine that runs
   pub ready : (x : End) → Ready (w .engine x)
 
--- 'a single claim about a whole list of calls': two sessions just started, of one date, own and partner exchanged, with any represented
--- entities; any list of calls at either end with any arguments, over a line that brings what was written and nothing else; both directions
+-- one claim about a whole list of calls: whatever the date, the pair and the represented entities of two starts that were not refused, after any
+-- calls at either end, with any arguments, over a line that brings what was written and nothing else, both directions agree
 abbrev pub BothEndsTogether : Type 0
 BothEndsTogether = (date nearEntity farEntity : ℕ) (represented : End → List ℕ) → Begins date nearEntity farEntity represented → (steps : List Step) → Possible steps (begun date nearEntity farEntity represented) → (p : End) → Agreement (run steps (begun date nearEntity farEntity represented)) p
