@@ -51,7 +51,7 @@ unfoldable pub computing : Unit {0}
 unfolding flatMap every anyOf isDigits byteValue number cut packedByte packedBytes _when_ _orelse_ earning tableWritten numbered codes codeByte codeOf readCode knownCode nominal commission totalsOf drawee draweeServed member documentFields fieldsGood amountsGood monthDays DetailCodes.receiverCode DetailCodes.sendable DetailCodes.presenterCode Groups.groups Groups.groupGood Groups.shapeGood Groups.oneOperation Groups.documents written byOperation envelopeFields envelopeGood headerFields sendable shapeGood bodyCode bodyBytes operationByte replyGood lotTotalFields sessionTotalFields realDate partiesGood padded fresh start advance kept headerSequence lotSequence lotTotalSequence sessionTotalSequence decided clockRefusal timeRefusal sendRefusal send headerStop detailStop lotTotalStop sessionTotalStop sendHeader sendDetail sendLotTotal sendSessionTotal headerCode detailCode lotTotalCode sessionTotalCode codeBy effectBy receivingAfter receiveRefusal receive isAwaited replyRefusal takeReply clock report enter entryBy sum lotsSum meaning perform act run confirmingAt countingAt begun
 computing = tt
 
--- the way in which an end presents
+-- the route on which an end presents
 abbrev pub way : End → Route
 way End.near = record { date = 140328; presenting = 81; receiving = 72 }
 way End.far = record { date = 140328; presenting = 72; receiving = 81 }

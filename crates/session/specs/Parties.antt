@@ -1,4 +1,4 @@
--- 01, 'Centres and directions': the date and the entities of a session, and the two ways between them.
+-- 01, 'Centres and directions': the date and the entities of a session, and the two routes between them.
 use Prim.Native.Nat.{ℕ, _/_, _%_}
 use mathlib.Core.Bool.{Bool, not, _&&_, _||_}
 use mathlib.Core.List.{List, []}
