@@ -4,5 +4,6 @@
 // what every body begins with.
 
 pub mod body;
+pub mod chain;
 pub mod refusal;
 pub mod reply;

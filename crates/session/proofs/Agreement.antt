@@ -12,13 +12,14 @@ use Rattle.packed.specs.Every.{every}
 use Rattle.codes.proofs.Laws.Chain.{none-test}
 use Rattle.message.specs.declared.route.Route.{Route}
 use Rattle.session.specs.declared.counters.OpenLot.{OpenLot}
+use Rattle.session.specs.declared.counters.Course.{Course}
 use Rattle.session.specs.declared.effect.Effect.{Effect}
 use Rattle.session.specs.declared.parties.Parties.{Parties}
 use Rattle.session.specs.declared.report.Awaited.{Awaited}
 use Rattle.session.specs.declared.session.Close.{Close}
 use Rattle.session.specs.Parties.{partiesGood, partiesOf, nobody, presentingRoute, receivingRoute}
 use Rattle.session.specs.Running.{empty}
-use Rattle.session.specs.Course.{Direction, Course}
+use Rattle.session.specs.Course.{Direction}
 use Rattle.session.specs.Sequence.{isOpen}
 use Rattle.session.specs.Start.{fresh, started, start}
 use Rattle.session.specs.Report.{tally, awaited, report}

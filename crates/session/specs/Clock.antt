@@ -15,4 +15,4 @@ abbrev pub ticked : (time : ℕ) → Session → Session
 ticked time s = record { parties = s .parties; presenting = s .presenting; receiving = s .receiving; seen = time; close = cond (atClose time) (closing s) (s .close) }
 
 unfoldable pub clock : (time : ℕ) → Held → Outcome
-clock time h = decided (clockRefusal time (h .session)) h (silent (record { session = ticked time (h .session); running = h .running; line = h .line }))
+clock time h = decided (clockRefusal time (h .session .seen) (h .session .close)) h (silent (record { session = ticked time (h .session); running = h .running; line = h .line }))

@@ -6,6 +6,7 @@ use lib.ListN.{set}
 use Rattle.session.specs.declared.counters.OpenLot.{OpenLot}
 use Rattle.session.specs.declared.counters.Lot.{Lot}
 use Rattle.session.specs.declared.counters.Counters.{Counters}
+use Rattle.session.specs.declared.counters.Course.{Course}
 use Rattle.session.specs.declared.effect.Effect.{Effect}
 use Rattle.session.specs.Running.{Running, empty, gather}
 
@@ -14,11 +15,11 @@ pub data Direction : Type 0 where
   presenting : Direction
   receiving : Direction
 
--- the counters of a direction, and the running totals that are lent with them
-pub record Course : Type 0 where
-  pub counters : Counters
-  pub running : Running
+abbrev pub opposite : Direction → Direction
+opposite Direction.presenting = Direction.receiving
+opposite Direction.receiving = Direction.presenting
 
+-- counters, and the running totals beside them
 abbrev pub course : Counters → Running → Course
 course c t = record { counters = c; running = t }
 

@@ -57,14 +57,14 @@ isClosed Close.Ordered = true
 isClosed Close.Forced = true
 
 -- 01, 'Order, first that applies': a clock call
-unfoldable pub clockRefusal : (time : ℕ) → Session → ℕ
-clockRefusal time s =
+unfoldable pub clockRefusal : (time seen : ℕ) → Close → ℕ
+clockRefusal time seen close =
     20 when pastDay time
-    orelse 32 when isClosed (s .close)
-    orelse 30 when ltb time (s .seen)
+    orelse 32 when isClosed close
+    orelse 30 when ltb time seen
 
 -- and every other call with a time
-unfoldable pub timeRefusal : (time : ℕ) → Session → ℕ
-timeRefusal time s =
-    clockRefusal time s
+unfoldable pub timeRefusal : (time seen : ℕ) → Close → ℕ
+timeRefusal time seen close =
+    clockRefusal time seen close
     orelse 31 when not (withinHours time)

@@ -14,7 +14,7 @@ use Rattle.session.specs.declared.parties.Parties.{Parties}
 use Rattle.session.specs.declared.session.Session.{Session}
 use Rattle.session.specs.Limits.{lotDocuments, mostLots, largestDate}
 use Rattle.session.specs.Running.{Running, empty, gather, documentsIn}
-use Rattle.session.specs.Course.{Direction}
+use Rattle.session.specs.Course.{Direction, opposite}
 use Rattle.session.specs.Sequence.{isOpen}
 use Rattle.session.specs.Outcome.{Held}
 
@@ -86,3 +86,13 @@ pub record Carried (d : Direction) (s : Session) (t : Running) : Type 0 where
 pub record Premise (d : Direction) (h : Held) : Type 0 where
   pub sound : Sound (h .session)
   pub carried : Carried d (h .session) (h .running)
+
+-- A call keeps the premise. One that is lent no running totals leaves a sound session, and whatever is carried in a direction still is.
+pub record Kept (before after : Session) : Type 0 where
+  pub sound : Sound after
+  pub carried : (d : Direction) (t : Running) → Carried d before t → Carried d after t
+
+-- One that is lent those of its direction leaves what meets the premise, and whatever is carried in the other direction still is.
+pub record KeptBeside (d : Direction) (before : Session) (after : Held) : Type 0 where
+  pub premise : Premise d after
+  pub other : (t : Running) → Carried (opposite d) before t → Carried (opposite d) (after .session) t

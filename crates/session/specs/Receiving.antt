@@ -24,6 +24,7 @@ use Rattle.message.specs.Total.{lotTotal, lotTotalFields, sessionTotal, session
 use Rattle.message.specs.Reply.{replyOperation}
 use Rattle.message.specs.Line.{wholeReply}
 use Rattle.session.specs.declared.counters.Lot.{Lot}
+use Rattle.session.specs.declared.counters.Course.{Course}
 use Rattle.session.specs.declared.effect.Effect.{Effect}
 use Rattle.session.specs.declared.parties.Parties.{Parties}
 use Rattle.session.specs.declared.session.Receiving.{Receiving}
@@ -32,7 +33,7 @@ use Rattle.session.specs.Limits.{passesLot, lotsUsed}
 use Rattle.session.specs.Hours.{receiverLate}
 use Rattle.session.specs.Parties.{representedBy, receivingRoute}
 use Rattle.session.specs.Running.{Running, detailAdds, stated, documentsIn}
-use Rattle.session.specs.Course.{Course, course, advance, ends, kept}
+use Rattle.session.specs.Course.{course, advance, ends, kept}
 use Rattle.session.specs.Sequence.{headerSequence, lotSequence, lotTotalSequence, sessionTotalSequence}
 use Rattle.session.specs.Outcome.{Held, Outcome, decided, wrote, noRoom, timeRefusal}
 
@@ -139,7 +140,7 @@ afterMessage time bytes h = cond (isNext bytes (h .session .receiving)) (afterNe
 
 unfoldable pub receiveRefusal : (time : ℕ) (bytes : List ℕ) → Held → ℕ
 receiveRefusal time bytes h =
-    timeRefusal time (h .session)
+    timeRefusal time (h .session .seen) (h .session .close)
     orelse 21 when not (envelopeGood Kind.Message bytes)
     orelse 33 when not (sameRoute (envelopeOf bytes .route) (receivingRoute (h .session .parties)))
     orelse 35 when not (isLast bytes (h .session .receiving) || isNext bytes (h .session .receiving))

@@ -12,12 +12,13 @@ use Rattle.message.specs.declared.reply.Operation.{Operation}
 use Rattle.message.specs.Route.{sameRoute}
 use Rattle.message.specs.Envelope.{serialOf, envelopeGood, envelopeOf, bodyOf}
 use Rattle.message.specs.Reply.{operationByte, replyGood}
+use Rattle.session.specs.declared.counters.Course.{Course}
 use Rattle.session.specs.declared.effect.Effect.{Effect}
 use Rattle.session.specs.declared.session.Presenting.{Presenting}
 use Rattle.session.specs.declared.session.Session.{Session}
 use Rattle.session.specs.Parties.{presentingRoute}
 use Rattle.session.specs.Running.{Running}
-use Rattle.session.specs.Course.{Course, course, advance, ends}
+use Rattle.session.specs.Course.{course, advance, ends}
 use Rattle.session.specs.Outcome.{Held, Outcome, decided, silent, timeRefusal}
 use Rattle.session.specs.Sending.{isPending}
 
@@ -43,7 +44,7 @@ isAccepted bytes = eqb (replyCode bytes) 0
 
 unfoldable pub replyRefusal : (time : ℕ) (bytes : List ℕ) → Session → ℕ
 replyRefusal time bytes s =
-    timeRefusal time s
+    timeRefusal time (s .seen) (s .close)
     orelse 21 when not (envelopeGood Kind.Reply bytes)
     orelse 33 when not (sameRoute (envelopeOf bytes .route) (presentingRoute (s .parties)))
     orelse 22 when not (replyGood (bodyOf bytes))

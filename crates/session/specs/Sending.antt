@@ -41,7 +41,7 @@ nextEnvelope s = record { route = presentingRoute (s .parties); serial = suc (s 
 
 unfoldable pub sendRefusal : (time code : ℕ) (bytes : List ℕ) → Held → ℕ
 sendRefusal time code bytes h =
-    timeRefusal time (h .session)
+    timeRefusal time (h .session .seen) (h .session .close)
     orelse 34 when isPending (h .session .presenting .pending)
     orelse 36 when leb largestSerial (h .session .presenting .serial)
     orelse code

@@ -1,7 +1,8 @@
 // What is counted in a direction. Presenter and receiver keep the same counters.
 use amounts::Totals;
 ghost use mathlib.Core.Path.{_≡_};
-ghost use Rattle.session.specs.Running.{empty};
+ghost use Rattle.amounts.specs.Totals.{SumFits};
+ghost use Rattle.session.specs.Running.{empty, gather, stated, documentsIn};
 
 // What a lot gathers while its details are accepted: the running totals of 01. A message states three totals; what is
 // gathered may grow by counts that no message states, so it has a name of its own.
@@ -12,6 +13,28 @@ pub fn empty() -> Running
     ensures { λ r. ⌜ r ≡ empty ⌝ }
 {
     Totals::zeros()
+}
+
+// With more that was gathered.
+pub fn gather(running: Running, more: Running) -> Running
+    requires { ⌜ SumFits running more ⌝ }
+    ensures { λ r. ⌜ r ≡ gather running more ⌝ }
+{
+    running.plus(more)
+}
+
+// The three totals that a message states of them.
+pub fn stated(running: Running) -> Totals
+    ensures { λ r. ⌜ r ≡ stated running ⌝ }
+{
+    running
+}
+
+// How many documents there are.
+pub fn documents_in(running: Running) -> u64
+    ensures { λ r. ⌜ r ≡ documentsIn running ⌝ }
+{
+    running.documents.0
 }
 
 // A lot that is open, by its order number.
@@ -31,4 +54,10 @@ pub struct Counters {
     pub current: OpenLot,
     pub lots: usize,
     pub gathered: Running,
+}
+
+// The counters of a direction, and the running totals that are lent with them.
+pub struct Course {
+    pub counters: Counters,
+    pub running: Running,
 }

@@ -1,5 +1,6 @@
 // The limits of a direction: how many documents a lot may have, and how many accepted lots there may be.
 ghost use mathlib.Core.Path.{_≡_};
+ghost use Prim.Native.Nat.{_+_};
 ghost use Rattle.session.specs.Limits.{passesLot, lotsUsed};
 
 // The most documents of a lot.
@@ -8,11 +9,15 @@ pub const LOT_DOCUMENTS: u64 = 2600;
 // The most accepted lots of a direction.
 pub const MOST_LOTS: usize = 64;
 
-// Whether a lot of so many documents would be too long.
-pub fn passes_lot(documents: u64) -> bool
-    ensures { λ r. ⌜ r ≡ passesLot documents ⌝ }
+// Whether a lot that has gathered so many documents would be too long with so many more. Nothing is added that might not
+// fit, so that it may be asked of any two numbers.
+pub fn passes_lot(gathered: u64, more: u64) -> bool
+    ensures { λ r. ⌜ r ≡ passesLot (gathered + more) ⌝ }
 {
-    LOT_DOCUMENTS < documents
+    if LOT_DOCUMENTS < gathered {
+        return true;
+    }
+    LOT_DOCUMENTS - gathered < more
 }
 
 // Whether a direction with so many accepted lots may have no more.

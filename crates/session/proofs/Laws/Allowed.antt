@@ -27,6 +27,7 @@ use Rattle.message.specs.Header.{timeOfDay, orderNumber, header, headerOf, send
 use Rattle.message.specs.Total.{lotTotal, lotTotalFields, totalOf}
 use Rattle.message.proofs.Laws.Header.{order-told}
 use Rattle.session.specs.declared.counters.OpenLot.{OpenLot}
+use Rattle.session.specs.declared.counters.Course.{Course}
 use Rattle.session.specs.declared.effect.Effect.{Effect}
 use Rattle.session.specs.declared.parties.Parties.{Parties}
 use Rattle.session.specs.declared.session.Presenting.{Presenting}
@@ -35,7 +36,7 @@ use Rattle.session.specs.Limits.{lotDocuments, mostLots, passesLot, lots
 use Rattle.session.specs.Hours.{presenterLate, receiverLate}
 use Rattle.session.specs.Parties.{receivingRoute, representedBy}
 use Rattle.session.specs.Running.{Running, empty, gather, detailAdds, documentsIn}
-use Rattle.session.specs.Course.{Course, course}
+use Rattle.session.specs.Course.{course}
 use Rattle.session.specs.Sequence.{isOpen, isThis, headerSequence, lotSequence, lotTotalSequence}
 use Rattle.session.specs.Sending.{headerStop, detailStop, lotTotalStop, partAdds, openNumber, endingLot}
 use Rattle.session.specs.Receiving.{acceptedLots, numberUsed, headerCode, detailCode, lotTotalCode, codeBy, effectBy}

@@ -25,8 +25,8 @@ use Rattle.message.proofs.Laws.Header.{header-told, in-range}
 use Rattle.message.proofs.Laws.Line.{content-told}
 use Rattle.session.specs.declared.counters.Counters.{Counters}
 use Rattle.session.specs.declared.counters.Lot.{Lot}
+use Rattle.session.specs.declared.counters.Course.{Course}
 use Rattle.session.specs.Running.{Running}
-use Rattle.session.specs.Course.{Course}
 use Rattle.session.specs.Sending.{openNumber, endingLot}
 use Rattle.session.specs.Ledger.{LedgerLot, Ledger, Entry, entryBy, bodyEntry, partEntry, ofOperation}
 use Rattle.session.proofs.Laws.Ledger.{summary, openOf, runningOf, lotOf}

@@ -6,21 +6,23 @@ use Prim.Native.Nat.{ℕ, zero, suc}
 use native.Mathlib.Omega.{arith}
 use Rattle.message.specs.Envelope.{envelopeOf, bodyOf}
 use Rattle.message.specs.Line.{wholeReply}
-use Rattle.session.specs.Course.{Direction}
+use Rattle.session.specs.Course.{Direction, opposite}
 use Rattle.session.specs.declared.counters.OpenLot.{OpenLot}
 use Rattle.session.specs.declared.session.Presenting.{Presenting}
 use Rattle.session.specs.declared.session.Receiving.{Receiving}
 use Rattle.session.specs.declared.session.Session.{Session}
+use Rattle.session.specs.Running.{Running}
 use Rattle.session.specs.Outcome.{Held, Outcome, refused, decided, silent, wrote, timeRefusal, clockRefusal}
-use Rattle.session.specs.Sending.{sendRefusal, send, sendHeader, sendDetail, sendLotTotal, sendSessionTotal}
+use Rattle.session.specs.Sending.{sendRefusal, send, headerStop, sessionTotalStop, sendHeader, sendDetail, sendLotTotal, sendSessionTotal}
 use Rattle.session.specs.Receiving.{isNext, receiveRefusal, receive, receivingAfter, afterNew, afterRepeat, afterMessage, replying}
 use Rattle.session.specs.Reply.{replyRefusal, takeReply}
 use Rattle.session.specs.Clock.{clock}
-use Rattle.session.specs.Premise.{PendingCarried, Premise}
+use Rattle.session.specs.Premise.{PendingCarried, Sound, Carried, Premise, Kept, KeptBeside}
 use Rattle.session.specs.Engine.{Call, Engine, meaning, directionOf, lent, givenBack, perform}
 use Rattle.session.specs.Claim.{Ready}
 use Rattle.session.proofs.Laws.Decided.{either, unrefused, refused-keeps}
-use Rattle.session.proofs.Laws.Sound.{send-header-keeps, send-detail-keeps, send-lot-total-keeps, send-session-total-keeps, receive-keeps, reply-keeps, clock-keeps}
+use Rattle.session.proofs.Laws.Allowed.{header-sound}
+use Rattle.session.proofs.Laws.Sound.{send-sound, send-carried, clock-sound, clock-carried, send-header-keeps, send-detail-keeps, send-lot-total-keeps, send-session-total-keeps, receive-keeps, reply-keeps, clock-keeps}
 
 -- a call is a refusal that leaves what it was lent, or what it does where its chain gives 0
 pub record Decided (h : Held) (o : Outcome) : Type 0 where
@@ -145,30 +147,52 @@ keeps (Call.reply time bytes) h g = reply-keeps time bytes h g
 keeps (Call.clock time) h g = clock-keeps time h Direction.presenting g
 keeps Call.report h g = g
 
+-- What the other direction carries it carries on, since its record stays.
+other-carried : (d : Direction) (before after : Session) → OtherSide d before after → (t : Running) → Carried (opposite d) before t → Carried (opposite d) after t
+other-carried Direction.presenting before after same t g =
+    record { none-open = λ (q : after .receiving .counters .current ≡ OpenLot.None). g .none-open (ap (λ (x : Receiving). x .counters .current) (sym same) ∙ q); fits = g .fits; pending = tt }
+other-carried Direction.receiving before after same t g =
+    record {
+      none-open = λ (q : after .presenting .counters .current ≡ OpenLot.None). g .none-open (ap (λ (x : Presenting). x .counters .current) (sym same) ∙ q);
+      fits = g .fits;
+      pending = subst (λ (x : Presenting). PendingCarried (x .pending) t) (sym same) (g .pending);
+    }
+
+-- So every call keeps the premise of both.
+pub kept-beside : (call : Call) (h : Held) → Premise (directionOf call) h → KeptBeside (directionOf call) (h .session) (meaning call h .left)
+kept-beside call h g = record { premise = keeps call h g; other = other-carried (directionOf call) (h .session) (meaning call h .left .session) (untouched call h .otherSide) }
+
+-- and those that are lent no running totals, whatever both carry
+sends-kept : (h : Held) (after : Session) → OtherSide Direction.presenting (h .session) after → Sound after → ((t : Running) → Carried Direction.presenting (h .session) t → Carried Direction.presenting after t) → Kept (h .session) after
+sends-kept h after same g own = record { sound = g; carried = each }
+  where
+    each : (d : Direction) (t : Running) → Carried d (h .session) t → Carried d after t
+    each Direction.presenting t c = own t c
+    each Direction.receiving t c = other-carried Direction.presenting (h .session) after same t c
+
+pub header-kept : (time moment centre number : ℕ) (h : Held) → Sound (h .session) → Kept (h .session) (sendHeader time moment centre number h .left .session)
+unfolding sendHeader meaning
+header-kept time moment centre number h g =
+    sends-kept h _ (untouched (Call.header time moment centre number) h .otherSide) (send-sound time _ _ _ h g (header-sound time moment centre number (h .session .presenting)))
+    (λ (t : Running) (c : Carried Direction.presenting (h .session) t). send-carried time _ _ _ h t c (λ (e : headerStop time moment centre number (h .session .presenting) ≡ 0). tt))
+
+pub session-total-kept : (time : ℕ) (h : Held) → Sound (h .session) → Kept (h .session) (sendSessionTotal time h .left .session)
+unfolding sendSessionTotal meaning
+session-total-kept time h g =
+    sends-kept h _ (untouched (Call.sessionTotal time) h .otherSide) (send-sound time _ _ _ h g (λ (e : sessionTotalStop (h .session .presenting) ≡ 0). tt))
+    (λ (t : Running) (c : Carried Direction.presenting (h .session) t). send-carried time _ _ _ h t c (λ (e : sessionTotalStop (h .session .presenting) ≡ 0). tt))
+
+pub clock-kept : (time : ℕ) (h : Held) → Sound (h .session) → Kept (h .session) (clock time h .left .session)
+clock-kept time h g = record { sound = clock-sound time h g; carried = clock-carried time h }
+
 -- so an engine that is ready stays so
 pub ready-kept : (call : Call) (line : List ℕ) (e : Engine) → Ready e → Ready (perform call line e .engine)
 unfolding perform
-ready-kept call line e r = go (directionOf call) refl
+ready-kept call line e r = go (directionOf call) (λ (h : Held) (g : Premise (directionOf call) h). kept-beside call h g)
   where
-    go : (d : Direction) → directionOf call ≡ d → Ready (givenBack d (meaning call (lent d line e) .left) e)
-    go Direction.presenting way =
-        let h = lent Direction.presenting line e in
-        let after = subst (λ (d : Direction). Premise d h → Premise d (meaning call h .left)) way (keeps call h) (record { sound = r .sound; carried = r .presenting }) in
-        let same : meaning call h .left .session .receiving ≡ e .session .receiving = subst (λ (d : Direction). OtherSide d (h .session) (meaning call h .left .session)) way (untouched call h .otherSide) in
-        record {
-          sound = after .sound;
-          presenting = record { none-open = after .carried .none-open; fits = after .carried .fits; pending = after .carried .pending };
-          receiving = record { none-open = λ (q : meaning call h .left .session .receiving .counters .current ≡ OpenLot.None). r .receiving .none-open (ap (λ (x : Receiving). x .counters .current) (sym same) ∙ q); fits = r .receiving .fits; pending = tt };
-        }
-    go Direction.receiving way =
-        let h = lent Direction.receiving line e in
-        let after = subst (λ (d : Direction). Premise d h → Premise d (meaning call h .left)) way (keeps call h) (record { sound = r .sound; carried = r .receiving }) in
-        let same : meaning call h .left .session .presenting ≡ e .session .presenting = subst (λ (d : Direction). OtherSide d (h .session) (meaning call h .left .session)) way (untouched call h .otherSide) in
-        record {
-          sound = after .sound;
-          presenting = record { none-open = λ (q : meaning call h .left .session .presenting .counters .current ≡ OpenLot.None). r .presenting .none-open (ap (λ (x : Presenting). x .counters .current) (sym same) ∙ q); fits = r .presenting .fits; pending = subst (λ (x : Presenting). PendingCarried (x .pending) (e .presenting)) (sym same) (r .presenting .pending) };
-          receiving = record { none-open = after .carried .none-open; fits = after .carried .fits; pending = tt };
-        }
+    go : (d : Direction) → ((h : Held) → Premise d h → KeptBeside d (h .session) (meaning call h .left)) → Ready (givenBack d (meaning call (lent d line e) .left) e)
+    go Direction.presenting k = let after = k (lent Direction.presenting line e) (record { sound = r .sound; carried = r .presenting }) in record { sound = after .premise .sound; presenting = after .premise .carried; receiving = after .other (e .receiving) (r .receiving) }
+    go Direction.receiving k = let after = k (lent Direction.receiving line e) (record { sound = r .sound; carried = r .receiving }) in record { sound = after .premise .sound; presenting = after .other (e .presenting) (r .presenting); receiving = after .premise .carried }
 
 -- and its parties stay
 pub parties-kept : (call : Call) (line : List ℕ) (e : Engine) → perform call line e .engine .session .parties ≡ e .session .parties

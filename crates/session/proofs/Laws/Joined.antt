@@ -11,11 +11,11 @@ use lib.Dec.{eqb}
 use borrow.Author.Tests.{ne-eqb}
 use Rattle.document.specs.Entities.{member}
 use Rattle.message.specs.declared.route.Route.{Route}
+use Rattle.session.specs.declared.counters.Course.{Course}
 use Rattle.session.specs.declared.effect.Effect.{Effect}
 use Rattle.session.specs.declared.session.Presenting.{Presenting}
 use Rattle.session.specs.declared.session.Receiving.{Receiving}
 use Rattle.session.specs.Running.{Running, empty}
-use Rattle.session.specs.Course.{Course}
 use Rattle.session.specs.Receiving.{acceptedLots}
 use Rattle.session.specs.Ledger.{LedgerLot, Ledger, Entry, enter, lotSum, numbers, Distinct}
 use Rattle.session.specs.Ends.{Event, Written}

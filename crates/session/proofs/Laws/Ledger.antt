@@ -8,9 +8,10 @@ use native.Mathlib.Omega.{arith}
 use lib.ListN.{length, length-append}
 use Rattle.session.specs.declared.counters.OpenLot.{OpenLot}
 use Rattle.session.specs.declared.counters.Lot.{Lot}
+use Rattle.session.specs.declared.counters.Course.{Course}
 use Rattle.session.specs.declared.effect.Effect.{Effect}
 use Rattle.session.specs.Running.{Running, empty, gather, detailAdds}
-use Rattle.session.specs.Course.{Course, advance}
+use Rattle.session.specs.Course.{advance}
 use Rattle.session.specs.Sequence.{isOpen}
 use Rattle.session.proofs.Laws.Running.{gather-empty, empty-gather, gather-assoc, adds-none, adds-one}
 use Rattle.session.specs.Ledger.{Document, LedgerLot, Ledger, Entry, enter, ofOperation, sum, lotSum, lotsSum}

@@ -17,13 +17,14 @@ use Rattle.message.specs.Header.{header, headerOf}
 use Rattle.message.specs.Total.{lotTotalFields, totalOf}
 use Rattle.session.specs.declared.counters.OpenLot.{OpenLot}
 use Rattle.session.specs.declared.counters.Lot.{Lot}
+use Rattle.session.specs.declared.counters.Course.{Course}
 use Rattle.session.specs.declared.effect.Effect.{Effect}
 use Rattle.session.specs.declared.parties.Parties.{Parties}
 use Rattle.session.specs.declared.session.Receiving.{Receiving}
 use Rattle.session.specs.Hours.{receiverLate}
 use Rattle.session.specs.Parties.{receivingRoute}
 use Rattle.session.specs.Running.{Running}
-use Rattle.session.specs.Course.{Course, advance, kept}
+use Rattle.session.specs.Course.{advance, kept}
 use Rattle.session.specs.Sequence.{isOpen, headerSequence}
 use Rattle.session.specs.Sending.{openNumber}
 use Rattle.session.specs.Receiving.{acceptedLots, numberUsed, headerCode, codeBy, effectBy}

@@ -27,11 +27,12 @@ use Rattle.message.specs.Envelope.{serialOf, envelopeGood, envelopeOf, bodyOf}
 use Rattle.message.specs.Header.{sendable}
 use Rattle.message.specs.Line.{Body, bodyBytes, message, wholeReply}
 use Rattle.message.proofs.Laws.Envelope.{body-told, whole-length}
+use Rattle.session.specs.declared.counters.Course.{Course}
 use Rattle.session.specs.declared.effect.Effect.{Effect}
 use Rattle.session.specs.declared.session.Presenting.{Presenting}
 use Rattle.session.specs.Parties.{presentingRoute}
 use Rattle.session.specs.Running.{Running}
-use Rattle.session.specs.Course.{Direction, Course, advance}
+use Rattle.session.specs.Course.{Direction, advance}
 use Rattle.session.specs.Sequence.{isOpen}
 use Rattle.session.specs.Outcome.{Held, Outcome, clockRefusal, silent}
 use Rattle.session.specs.Sending.{posted, isPending, nextEnvelope, sendRefusal, sent, send, headerStop, detailStop, lotTotalStop, sessionTotalStop, partAdds, sendHeader, sendDetail, sendLotTotal, sendSessionTotal}
@@ -225,9 +226,9 @@ module _ (x : End) (e : Engine) (ready : Ready e) (different : e .session .parti
     tick-after : (time : ℕ) (line : List ℕ) → After (Call.clock time) (clock time (lent Direction.presenting line e) .left .running) (clock time (lent Direction.presenting line e))
     unfolding clock
     tick-after time line =
-        either (λ (o : Outcome). After (Call.clock time) (o .left .running) o) (clockRefusal time (e .session)) (lent Direction.presenting line e) (silent (record { session = ticked time (e .session); running = pt; line = line }))
+        either (λ (o : Outcome). After (Call.clock time) (o .left .running) o) (clockRefusal time (e .session .seen) (e .session .close)) (lent Direction.presenting line e) (silent (record { session = ticked time (e .session); running = pt; line = line }))
         (λ (k : ℕ). refused-after (Call.clock time) k)
-        (λ (z : clockRefusal time (e .session) ≡ 0). passed-by route here r trace j _ (λ (n : 0 ≡ 0). nothing-foreign route))
+        (λ (z : clockRefusal time (e .session .seen) (e .session .close) ≡ 0). passed-by route here r trace j _ (λ (n : 0 ≡ 0). nothing-foreign route))
 
     -- what a presenter's own code lets pass is a message that its receiver reads as it was meant
     header-fits : (time moment centre number : ℕ) → headerStop time moment centre number p ≡ 0 → (Effect.Header number ≡ waitingEffect (some (Entry.header number)) (bp .ledger)) × (bodyEntry (bodyBytes route (Body.opening (record { time = moment; centre = centre; number = number }))) ≡ Entry.header number)

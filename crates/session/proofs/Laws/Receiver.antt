@@ -95,9 +95,9 @@ module _ (x : End) (e : Engine) (ready : Ready e) (different : e .session .parti
     tick-after : (time : ℕ) (line : List ℕ) → After (Call.clock time) rt (clock time (lent Direction.presenting line e))
     unfolding clock
     tick-after time line =
-        either (After (Call.clock time) rt) (clockRefusal time (e .session)) (lent Direction.presenting line e) _
+        either (After (Call.clock time) rt) (clockRefusal time (e .session .seen) (e .session .close)) (lent Direction.presenting line e) _
         (λ (k : ℕ). refused-after (Call.clock time) k)
-        (λ (z : clockRefusal time (e .session) ≡ 0). passed-by route p here trace j _ (λ (n : 0 ≡ 0). nothing-foreign route))
+        (λ (z : clockRefusal time (e .session .seen) (e .session .close) ≡ 0). passed-by route p here trace j _ (λ (n : 0 ≡ 0). nothing-foreign route))
 
     module _ (time : ℕ) (bytes line : List ℕ) (brought : Written bytes trace) (told : ReceiveTold bytes (lent Direction.receiving line e)) where
       abbrev h : Held

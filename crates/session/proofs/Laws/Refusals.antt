@@ -32,7 +32,7 @@ pub send-told : (time code : ℕ) (bytes : List ℕ) (h : Held) → sendRefusal 
 unfolding sendRefusal
 send-told time code bytes h e =
     let p = h .session .presenting in
-    let clock = none-both (timeRefusal time (h .session)) _ e in
+    let clock = none-both (timeRefusal time (h .session .seen) (h .session .close)) _ e in
     let idle = passed 34 (isPending (p .pending)) _ (lit< tt) (clock .1) in
     let used = passed 36 (leb largestSerial (p .serial)) _ (lit< tt) (idle .1) in
     let own = none-both code _ (used .1) in
@@ -50,7 +50,7 @@ receive-told time bytes h e =
     let good = envelopeGood Kind.Message bytes in
     let way = sameRoute (envelopeOf bytes .route) (receivingRoute (h .session .parties)) in
     let known = isLast bytes (h .session .receiving) || isNext bytes (h .session .receiving) in
-    let clock = none-both (timeRefusal time (h .session)) _ e in
+    let clock = none-both (timeRefusal time (h .session .seen) (h .session .close)) _ e in
     let first = passed 21 (not good) _ (lit< tt) (clock .1) in
     let second = passed 33 (not way) _ (lit< tt) (first .1) in
     let third = passed 35 (not known) _ (lit< tt) (second .1) in
@@ -73,7 +73,7 @@ reply-told time bytes s e =
     let p = s .presenting in
     let good = envelopeGood Kind.Reply bytes in
     let way = sameRoute (envelopeOf bytes .route) (presentingRoute (s .parties)) in
-    let clock = none-both (timeRefusal time s) _ e in
+    let clock = none-both (timeRefusal time (s .seen) (s .close)) _ e in
     let first = passed 21 (not good) _ (lit< tt) (clock .1) in
     let second = passed 33 (not way) _ (lit< tt) (first .1) in
     let third = passed 22 (not (replyGood (bodyOf bytes))) _ (lit< tt) (second .1) in

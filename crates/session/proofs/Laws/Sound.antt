@@ -16,6 +16,7 @@ use Rattle.message.proofs.Laws.Envelope.{serial-told}
 use Rattle.message.specs.Limits.{largestSerial}
 use Rattle.session.specs.declared.counters.OpenLot.{OpenLot}
 use Rattle.session.specs.declared.counters.Lot.{Lot}
+use Rattle.session.specs.declared.counters.Course.{Course}
 use Rattle.session.specs.declared.effect.Effect.{Effect}
 use Rattle.session.specs.declared.parties.Parties.{Parties}
 use Rattle.session.specs.declared.session.Close.{Close}
@@ -23,7 +24,7 @@ use Rattle.session.specs.declared.session.Session.{Session}
 use Rattle.session.specs.Limits.{lotDocuments, mostLots}
 use Rattle.session.specs.Parties.{partiesGood, partiesOf, nobody}
 use Rattle.session.specs.Running.{Running, empty}
-use Rattle.session.specs.Course.{Direction, Course, advance, kept, course}
+use Rattle.session.specs.Course.{Direction, advance, kept, course}
 use Rattle.session.specs.Sequence.{isOpen}
 use Rattle.session.specs.Start.{noLots, fresh, started, start}
 use Rattle.session.specs.Outcome.{Held, Outcome, clockRefusal, silent}
@@ -216,20 +217,20 @@ module _ (time : ℕ) (h : Held) where
   pub clock-sound : Sound (h .session) → Sound (clock time h .left .session)
   unfolding clock
   clock-sound g =
-      either (λ (o : Outcome). Sound (o .left .session)) (clockRefusal time (h .session)) h ticking
+      either (λ (o : Outcome). Sound (o .left .session)) (clockRefusal time (h .session .seen) (h .session .close)) h ticking
       (λ (k : ℕ). g)
-      (λ (e : clockRefusal time (h .session) ≡ 0). record { parties = g .parties; sent = g .sent; received = g .received; presenting = g .presenting; receiving = g .receiving; pending = g .pending; places = g .places })
+      (λ (e : clockRefusal time (h .session .seen) (h .session .close) ≡ 0). record { parties = g .parties; sent = g .sent; received = g .received; presenting = g .presenting; receiving = g .receiving; pending = g .pending; places = g .places })
 
   pub clock-carried : (d : Direction) (t : Running) → Carried d (h .session) t → Carried d (clock time h .left .session) t
   unfolding clock
   clock-carried d t g =
-      either (λ (o : Outcome). Carried d (o .left .session) t) (clockRefusal time (h .session)) h ticking
+      either (λ (o : Outcome). Carried d (o .left .session) t) (clockRefusal time (h .session .seen) (h .session .close)) h ticking
       (λ (k : ℕ). g)
-      (λ (e : clockRefusal time (h .session) ≡ 0). ticked-carried time d (h .session) t g)
+      (λ (e : clockRefusal time (h .session .seen) (h .session .close) ≡ 0). ticked-carried time d (h .session) t g)
 
   clock-running : clock time h .left .running ≡ h .running
   unfolding clock
-  clock-running = either (λ (o : Outcome). o .left .running ≡ h .running) (clockRefusal time (h .session)) h ticking (λ (k : ℕ). refl) (λ (e : clockRefusal time (h .session) ≡ 0). refl)
+  clock-running = either (λ (o : Outcome). o .left .running ≡ h .running) (clockRefusal time (h .session .seen) (h .session .close)) h ticking (λ (k : ℕ). refl) (λ (e : clockRefusal time (h .session .seen) (h .session .close) ≡ 0). refl)
 
   pub clock-keeps : (d : Direction) → Premise d h → Premise d (clock time h .left)
   clock-keeps d g = record { sound = clock-sound (g .sound); carried = subst (Carried d (clock time h .left .session)) (sym clock-running) (clock-carried d (h .running) (g .carried)) }

@@ -1,0 +1,38 @@
+-- Sums that a call may come to fit the counters: the limits of a lot and of all lots are far below theirs.
+use mathlib.Core.Path.{refl, sym, subst}
+use mathlib.Core.Bool.{true}
+use native.Mathlib.Omega.{arith}
+use Rattle.amounts.specs.Totals.{SumFits}
+use Rattle.amounts.specs.Difference.{DifferenceFits}
+use Rattle.session.specs.declared.counters.Lot.{Lot}
+use Rattle.session.specs.declared.counters.Counters.{Counters}
+use Rattle.session.specs.declared.effect.Effect.{Effect}
+use Rattle.session.specs.Limits.{lotDocuments, mostLots}
+use Rattle.session.specs.Running.{Running, gather}
+use Rattle.session.specs.Premise.{Fits, CountersSound}
+use Rattle.calls.specs.Course.{Countable}
+
+-- a detail that a lot may still gather
+pub detail-fits : (more t : Running) → Fits lotDocuments (gather t more) → SumFits t more
+detail-fits more t f = record { documents = omega (arith, f .documents); nominal = omega (arith, f .documents, f .nominal); commission = omega (arith, f .documents, f .commission) }
+
+-- a lot beside all that were accepted
+pub lot-fits : (lot : Lot) (c : Counters) (t : Running) → Countable (Effect.LotTotal lot) true c t → SumFits (c .gathered) (lot .gathered)
+lot-fits lot c t h =
+    let f = subst (Fits lotDocuments) (sym (h .carried refl)) (h .running) in
+    let g = h .counters .gathered in
+    let n = h .counters .lots in
+    record {
+      documents = omega (arith, n, f .documents, g .documents);
+      nominal = omega (arith, n, f .documents, f .nominal, g .documents, g .nominal);
+      commission = omega (arith, n, f .documents, f .commission, g .documents, g .commission);
+    }
+
+-- the amounts of two directions
+pub positions-fit : (p r : Counters) → CountersSound p → CountersSound r → DifferenceFits (p .gathered .nominal .0) (r .gathered .nominal .0) × DifferenceFits (p .gathered .commission .0) (r .gathered .commission .0)
+positions-fit p r f g =
+    let a = f .gathered in
+    let b = g .gathered in (
+      record { left = omega (arith, f .lots, a .documents, a .nominal); right = omega (arith, g .lots, b .documents, b .nominal) },
+      record { left = omega (arith, f .lots, a .documents, a .commission); right = omega (arith, g .lots, b .documents, b .commission) },
+    )

@@ -1,0 +1,2 @@
+-- The laws that the proofs of this crate and of the crates above share.
+pub mod Laws

@@ -1,0 +1,15 @@
+-- What the answer of a call says: the paper's number, and what the call leaves.
+use Prim.Native.Nat.{ℕ}
+use mathlib.Core.List.{List}
+use Rattle.session.specs.declared.session.Session.{Session}
+use Rattle.session.specs.Running.{Running}
+use Rattle.session.specs.Outcome.{Held, Outcome, answerNumber}
+use Rattle.calls.specs.declared.clock.ClockOutcome.{ClockOutcome}
+
+-- what a call is lent
+abbrev pub held : Session → Running → (line : List ℕ) → Held
+held s t line = record { session = s; running = t; line = line }
+
+-- of a clock call, beside running totals and a line buffer that it is not lent
+abbrev pub clockSaid : ClockOutcome → Running → (line : List ℕ) → Outcome
+clockSaid r t line = record { number = answerNumber (r .answer); written = 0; left = held (r .session) t line }

@@ -1,0 +1,64 @@
+// 07: which message has its place where. Each test is told whether the direction has ended and which lot is open.
+use codes::chain::or_else;
+use codes::chain::when;
+use codes::reply::Code;
+use session::counters::OpenLot;
+use session::counters::Running;
+use session::counters::documents_in;
+ghost use mathlib.Core.Path.{_≡_};
+ghost use Rattle.codes.specs.Reply.{codeNumber};
+ghost use Rattle.session.specs.Sequence.{isOpen, isThis, headerSequence, lotSequence, lotTotalSequence, sessionTotalSequence};
+
+fn is_open(lot: OpenLot) -> bool
+    ensures { λ r. ⌜ r ≡ isOpen lot ⌝ }
+{
+    match lot {
+        OpenLot::None => false,
+        OpenLot::Numbered(_) => true,
+    }
+}
+
+// Whether the lot of this number is open.
+fn is_this(number: u16, lot: OpenLot) -> bool
+    ensures { λ r. ⌜ r ≡ isThis number lot ⌝ }
+{
+    match lot {
+        OpenLot::None => false,
+        OpenLot::Numbered(n) => n == number,
+    }
+}
+
+pub fn header_sequence(ended: bool, lot: OpenLot) -> Code
+    ensures { λ c. ⌜ codeNumber c ≡ headerSequence ended lot ⌝ }
+{
+    or_else(
+        when(Code::WrongSequence, ended),
+        when(Code::WrongSequence, is_open(lot)),
+    )
+}
+
+// Of a detail, or of a lot total that its presenter is about to write.
+pub fn lot_sequence(ended: bool, lot: OpenLot) -> Code
+    ensures { λ c. ⌜ codeNumber c ≡ lotSequence ended lot ⌝ }
+{
+    when(Code::WrongSequence, !is_open(lot))
+}
+
+// Of a lot total that was received.
+pub fn lot_total_sequence(ended: bool, number: u16, lot: OpenLot, running: Running) -> Code
+    ensures { λ c. ⌜ codeNumber c ≡ lotTotalSequence ended number lot running ⌝ }
+{
+    or_else(
+        when(Code::WrongSequence, !is_this(number, lot)),
+        when(Code::WrongSequence, documents_in(running) == 0),
+    )
+}
+
+pub fn session_total_sequence(ended: bool, lot: OpenLot) -> Code
+    ensures { λ c. ⌜ codeNumber c ≡ sessionTotalSequence ended lot ⌝ }
+{
+    or_else(
+        when(Code::WrongSequence, ended),
+        when(Code::WrongSequence, is_open(lot)),
+    )
+}

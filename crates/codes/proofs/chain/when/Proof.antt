@@ -1,0 +1,18 @@
+-- `when`: its test decides.
+use mathlib.Core.Path.{sym, ap}
+use mathlib.Core.Bool.{Bool}
+use Rattle.codes.specs.Chain.{_when_}
+use Rattle.codes.specs.Reply.{codeNumber}
+use Rattle.codes.proofs.chain.when.Statement.{statement}
+use Rattle.codes.proofs.chain.when.Tie as tie
+
+returns : tie.Need-returns
+unfolding _when_
+returns c = rw (c .if1 .taken)
+
+returns-2 : tie.Need-returns-2
+unfolding _when_
+returns-2 c = rw (c .if1 .left)
+
+pub when-spec : {M : Type 1} → statement M
+when-spec = tie.close (tie.spec returns returns-2)

@@ -1,0 +1,80 @@
+// What a send answers.
+use codes::chain::is_accepted;
+use codes::refusal::Refusal;
+use codes::refusal::refusal_number;
+use codes::reply::Code;
+use codes::reply::code_number;
+use session::session::Answer;
+use session::session::Session;
+ghost use mathlib.Core.Path.{_≡_};
+ghost use mathlib.Core.Bool.{cond};
+ghost use lib.Dec.{eqb, ltb};
+ghost use Rattle.codes.specs.Chain.{_when_, _orelse_};
+ghost use Rattle.codes.specs.Reply.{codeNumber};
+ghost use Rattle.session.specs.Outcome.{answerNumber};
+ghost use Rattle.presenting.specs.Said.{sendNumber, sendWritten};
+
+// A message of so many bytes stands in the line buffer; or the presenter's own code stopped it; or it was refused.
+pub enum SendAnswer {
+    Written(usize),
+    Stopped(Code),
+    Refused(Refusal),
+}
+
+// What a send gives. Running totals are not changed by it.
+pub struct SendOutcome {
+    pub answer: SendAnswer,
+    pub session: Session,
+}
+
+// The paper's number, 0 for a message that is written.
+pub fn send_number(a: SendAnswer) -> u8
+    ensures { λ r. ⌜ r ≡ sendNumber a ⌝ }
+{
+    match a {
+        SendAnswer::Written(_) => 0,
+        SendAnswer::Stopped(code) => code_number(code),
+        SendAnswer::Refused(r) => refusal_number(r),
+    }
+}
+
+// What refuses a send before its own code.
+fn ready(session: Session, time: u32) -> Answer
+    ensures { λ a. ⌜ answerNumber a ≡ (timeRefusal time (session .seen) (session .close) orelse 34 when isPending (session .presenting .pending) orelse 36 when leb largestSerial (session .presenting .serial)) ⌝ }
+{
+    let close = session.close;
+    let presenting = session.presenting;
+    let pending = presenting.pending;
+    or_refused(
+        time_refusal(time, session.seen, close),
+        or_refused(
+            refused_when(Refusal::ReplyAwaited, is_pending(pending)),
+            refused_when(Refusal::NoSerialLeft, LARGEST_SERIAL <= presenting.serial),
+        ),
+    )
+}
+
+// The answer of a send that nothing but its code or the room may stop.
+fn unrefused(code: Code, bytes: usize, room: usize) -> SendAnswer
+    ensures number { λ r. ⌜ sendNumber r ≡ (codeNumber code orelse 23 when ltb room bytes) ⌝ }
+    ensures written { λ r. ⌜ sendWritten r ≡ cond (eqb (sendNumber r) 0) bytes 0 ⌝ }
+{
+    if is_accepted(code) {
+        if room < bytes {
+            return SendAnswer::Refused(Refusal::ShortBuffer);
+        }
+        return SendAnswer::Written(bytes);
+    }
+    SendAnswer::Stopped(code)
+}
+
+// The answer of a send whose own code is this, of so many bytes into a buffer of so many.
+pub fn send_answer(session: Session, time: u32, code: Code, bytes: usize, room: usize) -> SendAnswer
+    ensures number { λ r. ⌜ sendNumber r ≡ sendChain time (codeNumber code) bytes room session ⌝ }
+    ensures written { λ r. ⌜ sendWritten r ≡ cond (eqb (sendNumber r) 0) bytes 0 ⌝ }
+{
+    match ready(session, time) {
+        Answer::Done => unrefused(code, bytes, room),
+        Answer::Refused(r) => SendAnswer::Refused(r),
+    }
+}

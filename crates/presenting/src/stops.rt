@@ -1,0 +1,64 @@
+// The codes that a presenter applies to itself: never 04, 06, 08, nor that no detail was accepted.
+use calls::sequence::header_sequence;
+use calls::sequence::lot_sequence;
+use codes::chain::or_else;
+use codes::chain::when;
+use codes::reply::Code;
+use detail::reading::read_part;
+use message::header::sendable;
+use session::counters::Running;
+use session::counters::documents_in;
+use session::hours::presenter_late;
+use session::limits::lots_used;
+use session::limits::passes_lot;
+use session::session::Presenting;
+ghost use mathlib.Core.Path.{_≡_};
+ghost use Rattle.codes.specs.Reply.{codeNumber};
+ghost use Rattle.session.specs.Sending.{partAdds, headerStop, detailStop};
+
+pub fn header_stop(time: u32, moment: u32, centre: u16, number: u16, p: Presenting) -> Code
+    ensures { λ c. ⌜ codeNumber c ≡ headerStop time moment centre number p ⌝ }
+{
+    let counters = p.counters;
+    let lot = counters.current;
+    or_else(
+        when(Code::WrongField, !sendable(moment, centre, number)),
+        or_else(
+            header_sequence(p.ended, lot),
+            or_else(
+                when(Code::TooLate, presenter_late(time)),
+                when(Code::TooManyLots, lots_used(counters.lots)),
+            ),
+        ),
+    )
+}
+
+// A part that is to be sent: its code, and what its documents add where there is none.
+pub struct PartStop {
+    pub code: Code,
+    pub adds: Running,
+}
+
+pub fn detail_stop(operation: u8, partner: u16, part: &[u8], running: Running, p: Presenting) -> PartStop
+    ensures code { λ r. ⌜ codeNumber (r .code) ≡ detailStop operation partner (now (part .entry)) running p ⌝ }
+    ensures adds { λ r. ⌜ (codeNumber (r .code) ≡ 0 → r .adds ≡ partAdds operation (now (part .entry))) ⌝ }
+{
+    let counters = p.counters;
+    let lot = counters.current;
+    let read = read_part(operation, part, partner);
+    let code = read.code;
+    let adds = read.totals;
+    PartStop {
+        code: or_else(
+            code,
+            or_else(
+                lot_sequence(p.ended, lot),
+                when(
+                    Code::TooManyDocuments,
+                    passes_lot(documents_in(running), documents_in(adds)),
+                ),
+            ),
+        ),
+        adds: adds,
+    }
+}
