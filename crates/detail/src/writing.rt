@@ -3,17 +3,34 @@ use crate::groups::FULL_COUNT;
 use crate::groups::HEAD_BYTES;
 use codes::body::MARK;
 use document::DOCUMENT_BYTES;
+use document::MOST_DOCUMENTS;
 use packed::pieces::piece_at;
 use packed::writing::copy;
 ghost use mathlib.Core.Path.{_≡_};
-ghost use Prim.Native.Nat.{_+_, _*_, _≤_};
+ghost use Prim.Native.Nat.{ℕ, _+_, _*_, _≤_};
 ghost use lib.ListN.{length};
 ghost use lib.Seq.{sets};
-ghost use Rattle.detail.specs.Limits.{headBytes, fillBytes};
+ghost use Rattle.codes.specs.Body.{longestBody};
+ghost use Rattle.detail.specs.Limits.{headBytes, fillBytes, longestPart};
 ghost use Rattle.detail.specs.Writing.{writtenGroup, written};
 
 // The bytes of a full group's documents.
 const FILL_BYTES: usize = FULL_COUNT * DOCUMENT_BYTES;
+
+// The bytes of the most documents of a detail.
+pub const LONGEST_PART: usize = MOST_DOCUMENTS * DOCUMENT_BYTES;
+
+// How long a body written from a part is: the part, and a head for each group that it begins. A part that is too long for
+// any detail is never written, and 0 stands for its length.
+pub fn written_bytes(part: &[u8]) -> usize
+    ensures length { λ r. ⌜ (length (now (part .entry)) ≤ longestPart → (operation : ℕ) → r ≡ length (written operation (now (part .entry)))) ⌝ }
+    ensures bound { λ r. ⌜ r ≤ longestBody ⌝ }
+{
+    if LONGEST_PART < part.len() {
+        return 0;
+    }
+    part.len() + (part.len() + FILL_BYTES - 1) / FILL_BYTES * HEAD_BYTES
+}
 
 // Writes one group of at most four documents at `to`; every other byte keeps its value.
 fn write_group(out: &mut [u8], to: usize, operation_byte: u8, documents: &[u8])

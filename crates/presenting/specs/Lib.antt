@@ -1,2 +1,3 @@
 -- What the answers of this crate's calls say.
 pub mod Said
+pub mod Arrival

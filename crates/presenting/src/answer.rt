@@ -1,17 +1,24 @@
 // What a send answers.
+use crate::pending::is_pending;
+use calls::answer::or_refused;
+use calls::answer::refused_when;
+use calls::time::time_refusal;
 use codes::chain::is_accepted;
 use codes::refusal::Refusal;
 use codes::refusal::refusal_number;
 use codes::reply::Code;
 use codes::reply::code_number;
+use message::envelope::LARGEST_SERIAL;
 use session::session::Answer;
 use session::session::Session;
 ghost use mathlib.Core.Path.{_≡_};
 ghost use mathlib.Core.Bool.{cond};
-ghost use lib.Dec.{eqb, ltb};
+ghost use lib.Dec.{eqb, leb};
 ghost use Rattle.codes.specs.Chain.{_when_, _orelse_};
 ghost use Rattle.codes.specs.Reply.{codeNumber};
-ghost use Rattle.session.specs.Outcome.{answerNumber};
+ghost use Rattle.message.specs.Limits.{largestSerial};
+ghost use Rattle.session.specs.Outcome.{answerNumber, noRoom, timeRefusal};
+ghost use Rattle.session.specs.Sending.{isPending, sendRefusal};
 ghost use Rattle.presenting.specs.Said.{sendNumber, sendWritten};
 
 // A message of so many bytes stands in the line buffer; or the presenter's own code stopped it; or it was refused.
@@ -56,7 +63,7 @@ fn ready(session: Session, time: u32) -> Answer
 
 // The answer of a send that nothing but its code or the room may stop.
 fn unrefused(code: Code, bytes: usize, room: usize) -> SendAnswer
-    ensures number { λ r. ⌜ sendNumber r ≡ (codeNumber code orelse 23 when ltb room bytes) ⌝ }
+    ensures number { λ r. ⌜ sendNumber r ≡ (codeNumber code orelse 23 when noRoom bytes room) ⌝ }
     ensures written { λ r. ⌜ sendWritten r ≡ cond (eqb (sendNumber r) 0) bytes 0 ⌝ }
 {
     if is_accepted(code) {
@@ -70,7 +77,7 @@ fn unrefused(code: Code, bytes: usize, room: usize) -> SendAnswer
 
 // The answer of a send whose own code is this, of so many bytes into a buffer of so many.
 pub fn send_answer(session: Session, time: u32, code: Code, bytes: usize, room: usize) -> SendAnswer
-    ensures number { λ r. ⌜ sendNumber r ≡ sendChain time (codeNumber code) bytes room session ⌝ }
+    ensures number { λ r. ⌜ sendNumber r ≡ sendRefusal time (codeNumber code) bytes room session ⌝ }
     ensures written { λ r. ⌜ sendWritten r ≡ cond (eqb (sendNumber r) 0) bytes 0 ⌝ }
 {
     match ready(session, time) {

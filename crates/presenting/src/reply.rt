@@ -26,19 +26,24 @@ use session::session::Answer;
 use session::session::Presenting;
 use session::session::Session;
 ghost use mathlib.Core.Path.{_≡_};
-ghost use mathlib.Core.Bool.{_&&_};
+ghost use mathlib.Core.Bool.{false, not};
 ghost use mathlib.Core.List.{List};
 ghost use Prim.Native.Nat.{ℕ};
 ghost use lib.Dec.{eqb};
-ghost use Rattle.message.specs.Reply.{operationByte};
+ghost use Rattle.packed.specs.Part.{byteAt};
+ghost use Rattle.packed.specs.Number.{byteValue};
+ghost use Rattle.codes.specs.Chain.{_when_, _orelse_};
+ghost use Rattle.codes.specs.Body.{operationOf};
+ghost use Rattle.message.specs.Route.{sameRoute};
+ghost use Rattle.message.specs.Envelope.{serialOf, envelopeGood, envelopeOf, bodyOf};
+ghost use Rattle.message.specs.Reply.{operationByte, replyGood};
 ghost use Rattle.session.specs.Course.{Direction};
 ghost use Rattle.session.specs.Outcome.{silent};
-ghost use Rattle.session.specs.Sending.{isPending};
-ghost use Rattle.session.specs.Reply.{awaitedOperation, replied, takeReply};
-ghost use Rattle.session.specs.Premise.{Premise, KeptBeside};
+ghost use Rattle.session.specs.Reply.{isAwaited, isAccepted, replied, takeReply};
+ghost use Rattle.session.specs.Premise.{Sound, Carried, KeptBeside};
 ghost use Rattle.calls.specs.Said.{held};
 ghost use Rattle.presenting.specs.Said.{replySaid};
-ghost use Rattle.presenting.specs.Arrival.{BodyRead, ReplyRead};
+ghost use Rattle.presenting.specs.Arrival.{Told};
 
 // What a reply call gives.
 pub struct ReplyOutcome {
@@ -64,7 +69,7 @@ fn refused(refusal: Refusal) -> Arrival
 
 // Whether a reply is awaited, and it is this one.
 fn is_awaited(serial: u32, operation: Operation, p: Presenting) -> bool
-    ensures { λ r. ⌜ r ≡ (isPending (p .pending) && eqb serial (p .serial) && eqb (operationByte operation) (operationByte (awaitedOperation (p .pending)))) ⌝ }
+    ensures { λ r. ⌜ r ≡ isAwaited serial (operationByte operation) p ⌝ }
 {
     let pending = p.pending;
     is_pending(pending)
@@ -74,7 +79,7 @@ fn is_awaited(serial: u32, operation: Operation, p: Presenting) -> bool
 
 // The body of a reply with this serial.
 fn read_body(body: &[u8], serial: u32, p: Presenting) -> Arrival
-    ensures { λ r. ⌜ BodyRead serial (now (body .entry)) p r ⌝ }
+    ensures { λ r. ⌜ Told (22 when not (replyGood (now (body .entry))) orelse 35 when not (isAwaited serial (operationOf (now (body .entry))) p)) (eqb (byteValue (byteAt 4 (now (body .entry)))) 0) r ⌝ }
 {
     match read_reply(body) {
         ReadReply::Read(reply) => {
@@ -94,7 +99,7 @@ fn read_body(body: &[u8], serial: u32, p: Presenting) -> Arrival
 
 // A whole reply, at any time.
 fn read_whole(reply: &[u8], route: Route, p: Presenting) -> Arrival
-    ensures { λ r. ⌜ ReplyRead route (now (reply .entry)) p r ⌝ }
+    ensures { λ r. ⌜ Told (21 when not (envelopeGood Kind.Reply (now (reply .entry))) orelse 33 when not (sameRoute (envelopeOf (now (reply .entry)) .route) route) orelse 22 when not (replyGood (bodyOf (now (reply .entry)))) orelse 35 when not (isAwaited (serialOf (now (reply .entry))) (operationOf (bodyOf (now (reply .entry)))) p)) (isAccepted (now (reply .entry))) r ⌝ }
 {
     match read_envelope(reply, Kind::Reply) {
         ReadEnvelope::Read(e) => {
@@ -110,7 +115,8 @@ fn read_whole(reply: &[u8], route: Route, p: Presenting) -> Arrival
 
 // What was pending is counted, with the code that was read.
 fn replied(session: Session, running: Running, time: u32, accepted: bool) -> ReplyOutcome
-    requires { ⌜ ((line : List ℕ) → Premise Direction.presenting (held session running line)) ⌝ }
+    requires { ⌜ Sound session ⌝ }
+    requires { ⌜ Carried Direction.presenting session running ⌝ }
     ensures { λ r. ⌜ ((line : List ℕ) → replySaid r line ≡ silent (replied time accepted (held session running line))) ⌝ }
 {
     let parties = session.parties;
@@ -143,9 +149,10 @@ fn replied(session: Session, running: Running, time: u32, accepted: bool) -> Rep
 
 // Takes a reply of any bytes. The line buffer is not asked for: a reply call writes nothing.
 pub fn take_reply(session: Session, running: Running, time: u32, reply: &[u8]) -> ReplyOutcome
-    requires { ⌜ ((line : List ℕ) → Premise Direction.presenting (held session running line)) ⌝ }
+    requires { ⌜ Sound session ⌝ }
+    requires { ⌜ Carried Direction.presenting session running ⌝ }
     ensures outcome { λ r. ⌜ ((line : List ℕ) → replySaid r line ≡ takeReply time (now (reply .entry)) (held session running line)) ⌝ }
-    ensures premise { λ r. ⌜ ((line : List ℕ) → KeptBeside Direction.presenting session (held (r .session) (r .running) line)) ⌝ }
+    ensures premise { λ r. ⌜ KeptBeside Direction.presenting session (r .session) (r .running) ⌝ }
 {
     let parties = session.parties;
     let presenting = session.presenting;

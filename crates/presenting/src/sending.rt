@@ -28,9 +28,10 @@ use session::counters::stated;
 use session::effect::Effect;
 use session::session::Session;
 ghost use mathlib.Core.Path.{_≡_};
+ghost use Rattle.session.specs.Running.{Running};
 ghost use Rattle.session.specs.Course.{Direction};
 ghost use Rattle.session.specs.Sending.{openNumber, sendHeader, sendDetail, sendLotTotal, sendSessionTotal};
-ghost use Rattle.session.specs.Premise.{Sound, Premise, Kept, KeptBeside};
+ghost use Rattle.session.specs.Premise.{Sound, Carried, Kept, KeptBeside};
 ghost use Rattle.calls.specs.Said.{held};
 ghost use Rattle.presenting.specs.Said.{sendSaid};
 
@@ -79,9 +80,10 @@ pub fn send_detail(
     part: &[u8],
     line: &mut [u8],
 ) -> SendOutcome
-    requires { ⌜ Premise Direction.presenting (held session running (now line)) ⌝ }
+    requires { ⌜ Sound session ⌝ }
+    requires { ⌜ Carried Direction.presenting session running ⌝ }
     ensures outcome { λ r. ⌜ sendSaid r running (now (line .exit)) ≡ sendDetail time operation (now (part .entry)) (held session running (now (line .entry))) ⌝ }
-    ensures premise { λ r. ⌜ KeptBeside Direction.presenting session (held (r .session) running (now (line .exit))) ⌝ }
+    ensures premise { λ r. ⌜ KeptBeside Direction.presenting session (r .session) running ⌝ }
 {
     let presenting = session.presenting;
     let stop = detail_stop(operation, session.parties.partner, part, running, presenting);
@@ -115,9 +117,10 @@ fn open_number(lot: OpenLot) -> u16
 
 // Ends the open lot with what it has gathered.
 pub fn send_lot_total(session: Session, running: Running, time: u32, line: &mut [u8]) -> SendOutcome
-    requires { ⌜ Premise Direction.presenting (held session running (now line)) ⌝ }
+    requires { ⌜ Sound session ⌝ }
+    requires { ⌜ Carried Direction.presenting session running ⌝ }
     ensures outcome { λ r. ⌜ sendSaid r running (now (line .exit)) ≡ sendLotTotal time (held session running (now (line .entry))) ⌝ }
-    ensures premise { λ r. ⌜ KeptBeside Direction.presenting session (held (r .session) running (now (line .exit))) ⌝ }
+    ensures premise { λ r. ⌜ KeptBeside Direction.presenting session (r .session) running ⌝ }
 {
     let presenting = session.presenting;
     let counters = presenting.counters;

@@ -47,9 +47,9 @@ silent h = record { number = 0; written = 0; left = h }
 abbrev pub wrote : (bytes : List ℕ) → Held → Outcome
 wrote bytes h = record { number = 0; written = length bytes; left = record { session = h .session; running = h .running; line = sets (h .line) 0 bytes } }
 
--- the buffer is too short for some bytes
-abbrev pub noRoom : (bytes : ℕ) (line : List ℕ) → Bool
-noRoom bytes line = ltb (length line) bytes
+-- a buffer is too short for so many bytes
+abbrev pub noRoom : (bytes room : ℕ) → Bool
+noRoom bytes room = ltb room bytes
 
 abbrev pub isClosed : Close → Bool
 isClosed Close.Open = false

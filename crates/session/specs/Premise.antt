@@ -92,7 +92,8 @@ pub record Kept (before after : Session) : Type 0 where
   pub sound : Sound after
   pub carried : (d : Direction) (t : Running) → Carried d before t → Carried d after t
 
--- One that is lent those of its direction leaves what meets the premise, and whatever is carried in the other direction still is.
-pub record KeptBeside (d : Direction) (before : Session) (after : Held) : Type 0 where
-  pub premise : Premise d after
-  pub other : (t : Running) → Carried (opposite d) before t → Carried (opposite d) (after .session) t
+-- One that is lent those of its direction leaves it with running totals that are carried, and whatever is carried in the other still is.
+pub record KeptBeside (d : Direction) (before after : Session) (t : Running) : Type 0 where
+  pub sound : Sound after
+  pub carried : Carried d after t
+  pub other : (u : Running) → Carried (opposite d) before u → Carried (opposite d) after u

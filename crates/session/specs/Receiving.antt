@@ -3,7 +3,7 @@ use Prim.Native.Nat.{ℕ, suc, _+_}
 use mathlib.Core.Bool.{Bool, not, _&&_, _||_, cond}
 use mathlib.Core.List.{List}
 use lib.Dec.{eqb}
-use lib.ListN.{take}
+use lib.ListN.{length, take}
 use Rattle.packed.specs.Every.{anyOf}
 use Rattle.amounts.specs.declared.Totals.{Totals}
 use Rattle.amounts.specs.Totals.{same}
@@ -138,17 +138,17 @@ afterRepeat time h = record { session = withReceiving time (h .session .receivin
 abbrev pub afterMessage : (time : ℕ) (bytes : List ℕ) → Held → Held
 afterMessage time bytes h = cond (isNext bytes (h .session .receiving)) (afterNew time (bodyOf bytes) h) (afterRepeat time h)
 
-unfoldable pub receiveRefusal : (time : ℕ) (bytes : List ℕ) → Held → ℕ
-receiveRefusal time bytes h =
-    timeRefusal time (h .session .seen) (h .session .close)
+unfoldable pub receiveRefusal : (time : ℕ) (bytes : List ℕ) (room : ℕ) → Session → ℕ
+receiveRefusal time bytes room s =
+    timeRefusal time (s .seen) (s .close)
     orelse 21 when not (envelopeGood Kind.Message bytes)
-    orelse 33 when not (sameRoute (envelopeOf bytes .route) (receivingRoute (h .session .parties)))
-    orelse 35 when not (isLast bytes (h .session .receiving) || isNext bytes (h .session .receiving))
-    orelse 23 when noRoom (envelopeBytes + replyBytes) (h .line)
+    orelse 33 when not (sameRoute (envelopeOf bytes .route) (receivingRoute (s .parties)))
+    orelse 35 when not (isLast bytes (s .receiving) || isNext bytes (s .receiving))
+    orelse 23 when noRoom (envelopeBytes + replyBytes) room
 
 -- the reply that is kept is written, new or again
 abbrev pub replying : (bytes : List ℕ) → Held → Outcome
 replying bytes h = wrote (wholeReply (envelopeOf bytes) (h .session .receiving .reply)) h
 
 unfoldable pub receive : (time : ℕ) (bytes : List ℕ) → Held → Outcome
-receive time bytes h = decided (receiveRefusal time bytes h) h (replying bytes (afterMessage time bytes h))
+receive time bytes h = decided (receiveRefusal time bytes (length (h .line)) (h .session)) h (replying bytes (afterMessage time bytes h))

@@ -30,10 +30,9 @@ awaitedOperation (Effect.Detail more) = Operation.Other
 awaitedOperation (Effect.LotTotal lot) = Operation.LotTotal
 awaitedOperation Effect.SessionTotal = Operation.SessionTotal
 
--- a reply is awaited, and it is this one
-unfoldable pub isAwaited : (bytes : List ℕ) → Presenting → Bool
-isAwaited bytes p =
-    isPending (p .pending) && eqb (serialOf bytes) (p .serial) && eqb (operationOf (bodyOf bytes)) (operationByte (awaitedOperation (p .pending)))
+-- a reply is awaited, and it is one of this serial and operation
+unfoldable pub isAwaited : (serial operation : ℕ) → Presenting → Bool
+isAwaited serial operation p = isPending (p .pending) && eqb serial (p .serial) && eqb operation (operationByte (awaitedOperation (p .pending)))
 
 -- the code that it brings, and whether it is 00
 abbrev pub replyCode : List ℕ → ℕ
@@ -48,7 +47,7 @@ replyRefusal time bytes s =
     orelse 21 when not (envelopeGood Kind.Reply bytes)
     orelse 33 when not (sameRoute (envelopeOf bytes .route) (presentingRoute (s .parties)))
     orelse 22 when not (replyGood (bodyOf bytes))
-    orelse 35 when not (isAwaited bytes (s .presenting))
+    orelse 35 when not (isAwaited (serialOf bytes) (operationOf (bodyOf bytes)) (s .presenting))
 
 -- what was pending is counted, with the code that was read
 abbrev pub presentingCourse : (accepted : Bool) → Running → Presenting → Course

@@ -39,13 +39,13 @@ isPending Effect.SessionTotal = true
 abbrev pub nextEnvelope : Session → Envelope
 nextEnvelope s = record { route = presentingRoute (s .parties); serial = suc (s .presenting .serial) }
 
-unfoldable pub sendRefusal : (time code : ℕ) (bytes : List ℕ) → Held → ℕ
-sendRefusal time code bytes h =
-    timeRefusal time (h .session .seen) (h .session .close)
-    orelse 34 when isPending (h .session .presenting .pending)
-    orelse 36 when leb largestSerial (h .session .presenting .serial)
+unfoldable pub sendRefusal : (time code bytes room : ℕ) → Session → ℕ
+sendRefusal time code bytes room s =
+    timeRefusal time (s .seen) (s .close)
+    orelse 34 when isPending (s .presenting .pending)
+    orelse 36 when leb largestSerial (s .presenting .serial)
     orelse code
-    orelse 23 when noRoom (length bytes) (h .line)
+    orelse 23 when noRoom bytes room
 
 -- the next serial is used, and its message awaits a reply; the counters stay
 abbrev pub sent : (time : ℕ) → Effect → Session → Session
@@ -64,7 +64,8 @@ posted time effect body h = wrote (message (nextEnvelope (h .session)) body) (re
 
 -- a message of this body, which the presenter's own code may stop
 unfoldable pub send : (time code : ℕ) → Effect → (body : List ℕ) → Held → Outcome
-send time code effect body h = decided (sendRefusal time code (message (nextEnvelope (h .session)) body) h) h (posted time effect body h)
+send time code effect body h =
+    decided (sendRefusal time code (length (message (nextEnvelope (h .session)) body)) (length (h .line)) (h .session)) h (posted time effect body h)
 
 -- the codes that a presenter applies to itself: never 04, 06, 08, nor that no detail was accepted
 unfoldable pub headerStop : (time moment centre number : ℕ) → Presenting → ℕ

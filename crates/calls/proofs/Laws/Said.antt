@@ -19,5 +19,5 @@ module _ (s : Session) (said meant : Outcome) (same : said ≡ meant) where
   pub so-kept : Kept s (meant .left .session) → Kept s (said .left .session)
   so-kept = subst (λ (o : Outcome). Kept s (o .left .session)) (sym same)
 
-  pub so-kept-beside : (d : Direction) → KeptBeside d s (meant .left) → KeptBeside d s (said .left)
-  so-kept-beside d = subst (λ (o : Outcome). KeptBeside d s (o .left)) (sym same)
+  pub so-kept-beside : (d : Direction) → KeptBeside d s (meant .left .session) (meant .left .running) → KeptBeside d s (said .left .session) (said .left .running)
+  so-kept-beside d = subst (λ (o : Outcome). KeptBeside d s (o .left .session) (o .left .running)) (sym same)

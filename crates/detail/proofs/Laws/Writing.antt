@@ -1,12 +1,12 @@
 -- Laws of a written detail: how it grows group by group, and what its receiver reads of it.
 use mathlib.Core.Path.{_≡_, refl, ap, sym, _∙_}
-use mathlib.Core.Bool.{Bool, true, _&&_, and-eq-true-iff}
+use mathlib.Core.Bool.{Bool, true, false, _&&_, and-eq-true-iff}
 use mathlib.Core.List.{List, [], _∷_, _++_, map, flatMap}
-use Prim.Native.Nat.{ℕ, zero, suc, _+_, _*_, _/_, _%_, _≤_, _<_}
+use Prim.Native.Nat.{ℕ, zero, suc, _+_, _-_, _*_, _/_, _%_, _≤_, _<_}
 use native.Mathlib.Omega.{arith}
-use lib.Dec.{eqb, lit<}
+use lib.Dec.{eqb, ltb, lit<}
 use lib.ListN.{length, take, drop, length-append, length-take, length-drop, length-map}
-use borrow.Author.Tests.{le-leb, eqb-true, eq-eqb}
+use borrow.Author.Tests.{ltb-true, ltb-false, le-leb, eqb-true, eq-eqb}
 use Rattle.packed.specs.Part.{part}
 use Rattle.packed.specs.Every.{every}
 use Rattle.packed.specs.Pieces.{cut, pieces}
@@ -17,7 +17,7 @@ use Rattle.codes.specs.Field.{between}
 use Rattle.codes.specs.Body.{operationOf}
 use Rattle.document.specs.Operation.{isOperation}
 use Rattle.document.specs.Limits.{documentBytes, mostDocuments}
-use Rattle.detail.specs.Limits.{fullCount, mostGroups, fillBytes, groupBytes}
+use Rattle.detail.specs.Limits.{headBytes, fullCount, mostGroups, fillBytes, groupBytes}
 use Rattle.detail.specs.Groups.{groups, groupGood, shapeGood, oneOperation, groupDocuments, documents}
 use Rattle.detail.specs.Writing.{writtenGroup, written}
 
@@ -36,6 +36,25 @@ module _ (operation at : ℕ) (p : List ℕ) where
 
   pub rest-length : at < length p → length (rest operation at p) ≡ 4 + length (part at fillBytes p) + length (rest operation (at + fillBytes) p)
   rest-length h = ap length (rest-step h) ∙ length-append (writtenGroup operation (part at fillBytes p)) (rest operation (at + fillBytes) p) ∙ omega arith
+
+-- how long what is still to be written is: the documents, and a head for each group that they begin
+rest-bytes : (operation : ℕ) (p : List ℕ) (n at : ℕ) → length p ≤ at + n → length (rest operation at p) ≡ length p - at + (length p - at + 203) / fillBytes * headBytes
+rest-bytes operation p zero at h = ap length (rest-end operation at p (omega arith)) ∙ omega arith
+rest-bytes operation p (suc n) at h = go (ltb at (length p)) refl (rest-bytes operation p n (at + fillBytes) (omega arith))
+  where
+    go : (t : Bool) → ltb at (length p) ≡ t → length (rest operation (at + fillBytes) p) ≡ length p - (at + fillBytes) + (length p - (at + fillBytes) + 203) / fillBytes * headBytes → length (rest operation at p) ≡ length p - at + (length p - at + 203) / fillBytes * headBytes
+    go false e tail = let over = ltb-false at (length p) e in ap length (rest-end operation at p over) ∙ omega arith
+    go true e tail =
+        let more = ltb-true at (length p) e in
+        let piece : length (part at fillBytes p) + (length p - (at + fillBytes)) ≡ length p - at = simp (length-take, length-drop) (omega arith) in
+        rest-length operation at p more ∙ omega (arith, tail, piece, more)
+
+whole : (operation : ℕ) (p : List ℕ) → written operation p ≡ rest operation 0 p
+unfolding written
+whole operation p = refl
+
+pub written-bytes : (operation : ℕ) (p : List ℕ) → length (written operation p) ≡ length p + (length p + 203) / fillBytes * headBytes
+written-bytes operation p = ap length (whole operation p) ∙ rest-bytes operation p (length p) 0 (omega arith) ∙ omega arith
 
 module _ (operation : ℕ) where
   -- a written detail is cut into the groups that it was made of

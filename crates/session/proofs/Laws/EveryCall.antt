@@ -4,6 +4,7 @@ use mathlib.Core.Bool.{Bool, true, false, cond, false≢true}
 use mathlib.Core.List.{List}
 use Prim.Native.Nat.{ℕ, zero, suc}
 use native.Mathlib.Omega.{arith}
+use lib.ListN.{length}
 use Rattle.message.specs.Envelope.{envelopeOf, bodyOf}
 use Rattle.message.specs.Line.{wholeReply}
 use Rattle.session.specs.Course.{Direction, opposite}
@@ -88,7 +89,7 @@ received-apart time bytes h p =
     let next = isNext bytes (h .session .receiving) in
     let a = afterNew time (bodyOf bytes) h in
     let b = afterRepeat time h in
-    ap (λ (after : Held). decided (receiveRefusal time bytes h) (withPresenting p h) (replying bytes after)) (either-way next a b) ∙ apart (withPresenting p) (receiveRefusal time bytes h) h (replying bytes (cond next a b))
+    ap (λ (after : Held). decided (receiveRefusal time bytes (length (h .line)) (h .session)) (withPresenting p h) (replying bytes after)) (either-way next a b) ∙ apart (withPresenting p) (receiveRefusal time bytes (length (h .line)) (h .session)) h (replying bytes (cond next a b))
   where
     either-way : (t : Bool) (a b : Held) → cond t (withPresenting p a) (withPresenting p b) ≡ withPresenting p (cond t a b)
     either-way true a b = refl
@@ -126,7 +127,7 @@ untouched (Call.sessionTotal time) h = by-decision h _ _ refl refl
 untouched (Call.reply time bytes) h = by-decision h _ _ refl refl
 untouched (Call.clock time) h = by-decision h _ _ refl refl
 untouched Call.report h = record { parties = refl; otherSide = refl }
-untouched (Call.receive time bytes) h = either (λ (o : Outcome). Untouched Direction.receiving h (o .left)) (receiveRefusal time bytes h) h _ (λ (k : ℕ). record { parties = refl; otherSide = refl }) (λ (e : receiveRefusal time bytes h ≡ 0). same-session (afterMessage time bytes h) _ (either-way (isNext bytes (h .session .receiving))))
+untouched (Call.receive time bytes) h = either (λ (o : Outcome). Untouched Direction.receiving h (o .left)) (receiveRefusal time bytes (length (h .line)) (h .session)) h _ (λ (k : ℕ). record { parties = refl; otherSide = refl }) (λ (e : receiveRefusal time bytes (length (h .line)) (h .session) ≡ 0). same-session (afterMessage time bytes h) _ (either-way (isNext bytes (h .session .receiving))))
   where
     same-session : (a : Held) (line : List ℕ) → Untouched Direction.receiving h a → Untouched Direction.receiving h (record { session = a .session; running = a .running; line = line })
     same-session a line u = record { parties = u .parties; otherSide = u .otherSide }
@@ -159,8 +160,8 @@ other-carried Direction.receiving before after same t g =
     }
 
 -- So every call keeps the premise of both.
-pub kept-beside : (call : Call) (h : Held) → Premise (directionOf call) h → KeptBeside (directionOf call) (h .session) (meaning call h .left)
-kept-beside call h g = record { premise = keeps call h g; other = other-carried (directionOf call) (h .session) (meaning call h .left .session) (untouched call h .otherSide) }
+pub kept-beside : (call : Call) (h : Held) → Premise (directionOf call) h → KeptBeside (directionOf call) (h .session) (meaning call h .left .session) (meaning call h .left .running)
+kept-beside call h g = let after = keeps call h g in record { sound = after .sound; carried = after .carried; other = other-carried (directionOf call) (h .session) (meaning call h .left .session) (untouched call h .otherSide) }
 
 -- and those that are lent no running totals, whatever both carry
 sends-kept : (h : Held) (after : Session) → OtherSide Direction.presenting (h .session) after → Sound after → ((t : Running) → Carried Direction.presenting (h .session) t → Carried Direction.presenting after t) → Kept (h .session) after
@@ -190,9 +191,9 @@ pub ready-kept : (call : Call) (line : List ℕ) (e : Engine) → Ready e → Re
 unfolding perform
 ready-kept call line e r = go (directionOf call) (λ (h : Held) (g : Premise (directionOf call) h). kept-beside call h g)
   where
-    go : (d : Direction) → ((h : Held) → Premise d h → KeptBeside d (h .session) (meaning call h .left)) → Ready (givenBack d (meaning call (lent d line e) .left) e)
-    go Direction.presenting k = let after = k (lent Direction.presenting line e) (record { sound = r .sound; carried = r .presenting }) in record { sound = after .premise .sound; presenting = after .premise .carried; receiving = after .other (e .receiving) (r .receiving) }
-    go Direction.receiving k = let after = k (lent Direction.receiving line e) (record { sound = r .sound; carried = r .receiving }) in record { sound = after .premise .sound; presenting = after .other (e .presenting) (r .presenting); receiving = after .premise .carried }
+    go : (d : Direction) → ((h : Held) → Premise d h → KeptBeside d (h .session) (meaning call h .left .session) (meaning call h .left .running)) → Ready (givenBack d (meaning call (lent d line e) .left) e)
+    go Direction.presenting k = let after = k (lent Direction.presenting line e) (record { sound = r .sound; carried = r .presenting }) in record { sound = after .sound; presenting = after .carried; receiving = after .other (e .receiving) (r .receiving) }
+    go Direction.receiving k = let after = k (lent Direction.receiving line e) (record { sound = r .sound; carried = r .receiving }) in record { sound = after .sound; presenting = after .other (e .presenting) (r .presenting); receiving = after .carried }
 
 -- and its parties stay
 pub parties-kept : (call : Call) (line : List ℕ) (e : Engine) → perform call line e .engine .session .parties ≡ e .session .parties
@@ -204,7 +205,7 @@ parties-kept call line e = go (directionOf call) refl
     go Direction.receiving way = untouched call (lent Direction.receiving line e) .parties
 
 -- A message is not refused because of its code: it is answered, and its serial becomes the last.
-pub message-told : (time : ℕ) (bytes : List ℕ) (h : Held) → receiveRefusal time bytes h ≡ 0 → isNext bytes (h .session .receiving) ≡ true → receive time bytes h ≡ wrote (wholeReply (envelopeOf bytes) (afterNew time (bodyOf bytes) h .session .receiving .reply)) (afterNew time (bodyOf bytes) h)
+pub message-told : (time : ℕ) (bytes : List ℕ) (h : Held) → receiveRefusal time bytes (length (h .line)) (h .session) ≡ 0 → isNext bytes (h .session .receiving) ≡ true → receive time bytes h ≡ wrote (wholeReply (envelopeOf bytes) (afterNew time (bodyOf bytes) h .session .receiving .reply)) (afterNew time (bodyOf bytes) h)
 unfolding receive
 message-told time bytes h e n = (λ i. decided (e i) h (replying bytes (cond (n i) (afterNew time (bodyOf bytes) h) (afterRepeat time h)))) ∙ unrefused h (replying bytes (afterNew time (bodyOf bytes) h))
 
@@ -213,6 +214,6 @@ unfolding receivingAfter
 serial-taken time body h = refl
 
 -- A repeat writes the kept reply again and moves the last seen time alone.
-pub repeat-told : (time : ℕ) (bytes : List ℕ) (h : Held) → receiveRefusal time bytes h ≡ 0 → isNext bytes (h .session .receiving) ≡ false → receive time bytes h ≡ wrote (wholeReply (envelopeOf bytes) (h .session .receiving .reply)) (afterRepeat time h)
+pub repeat-told : (time : ℕ) (bytes : List ℕ) (h : Held) → receiveRefusal time bytes (length (h .line)) (h .session) ≡ 0 → isNext bytes (h .session .receiving) ≡ false → receive time bytes h ≡ wrote (wholeReply (envelopeOf bytes) (h .session .receiving .reply)) (afterRepeat time h)
 unfolding receive
 repeat-told time bytes h e n = (λ i. decided (e i) h (replying bytes (cond (n i) (afterNew time (bodyOf bytes) h) (afterRepeat time h)))) ∙ unrefused h (replying bytes (afterRepeat time h))

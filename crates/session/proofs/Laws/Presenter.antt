@@ -135,9 +135,9 @@ module _ (x : End) (e : Engine) (ready : Ready e) (different : e .session .parti
       send-after : (presents call bp ≡ waitingFor entry bp) → (code ≡ 0 → (effect ≡ waitingEffect (some entry) (bp .ledger)) × (bodyEntry body ≡ entry)) → After call (send time code effect body h .left .running) (send time code effect body h)
       unfolding send
       send-after books fits =
-          either (λ (o : Outcome). After call (o .left .running) o) (sendRefusal time code bytes h) h (posted time effect body h)
+          either (λ (o : Outcome). After call (o .left .running) o) (sendRefusal time code (length bytes) (length (h .line)) (h .session)) h (posted time effect body h)
           (λ (k : ℕ). refused-after call k)
-          (λ (z : sendRefusal time code bytes h ≡ 0).
+          (λ (z : sendRefusal time code (length bytes) (length (h .line)) (h .session) ≡ 0).
           let told = send-told time code bytes h z in
           let fit = fits (told .unstopped) in
           subst (λ (w : List ℕ). Joined route (presentingEnd (sent time effect (e .session) .presenting) pt (presents call bp)) r (record { at = x; call = call; said = record { number = 0; bytes = w } } ∷ trace)) (sym (first-bytes bytes line (told .room)))
@@ -215,9 +215,9 @@ module _ (x : End) (e : Engine) (ready : Ready e) (different : e .session .parti
     unfolding receive
     message-after time bytes line =
         let h = lent Direction.receiving line e in
-        either (After (Call.receive time bytes) pt) (receiveRefusal time bytes h) h _
+        either (After (Call.receive time bytes) pt) (receiveRefusal time bytes (length (h .line)) (h .session)) h _
         (λ (k : ℕ). refused-after (Call.receive time bytes) k)
-        (λ (z : receiveRefusal time bytes h ≡ 0). go (isNext bytes (e .session .receiving)) (receive-told time bytes h z))
+        (λ (z : receiveRefusal time bytes (length (h .line)) (h .session) ≡ 0). go (isNext bytes (e .session .receiving)) (receive-told time bytes h z))
       where
         go : (t : Bool) → ReceiveTold bytes (lent Direction.receiving line e) → After (Call.receive time bytes) pt (replying bytes (cond t (afterNew time (bodyOf bytes) (lent Direction.receiving line e)) (afterRepeat time (lent Direction.receiving line e))))
         go true told = foreign-reply time bytes line _ told

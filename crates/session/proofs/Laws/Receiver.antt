@@ -78,9 +78,9 @@ module _ (x : End) (e : Engine) (ready : Ready e) (different : e .session .parti
     send-after call time code effect body line books =
         let h = lent Direction.presenting line e in
         let bytes = message (nextEnvelope (e .session)) body in
-        either (After call rt) (sendRefusal time code bytes h) h _
+        either (After call rt) (sendRefusal time code (length bytes) (length (h .line)) (h .session)) h _
         (λ (k : ℕ). refused-after call k)
-        (λ (z : sendRefusal time code bytes h ≡ 0).
+        (λ (z : sendRefusal time code (length bytes) (length (h .line)) (h .session) ≡ 0).
         let told = send-told time code bytes h z in
         subst (λ (b : Counting). Joined route p (receivingEnd r rt b) (record { at = x; call = call; said = record { number = 0; bytes = take (length bytes) (sets line 0 bytes) } } ∷ trace)) (sym (books _))
         (passed-by route p here trace j _ (λ (n : 0 ≡ 0). subst (Foreign route) (sym (first-bytes bytes line (told .room))) (message-foreign (e .session) (ready .sound) different body (told .more)))))
@@ -209,9 +209,9 @@ module _ (x : End) (e : Engine) (ready : Ready e) (different : e .session .parti
     unfolding receive receivingAfter
     message-after time bytes line brought =
         let h = lent Direction.receiving line e in
-        either (λ (o : Outcome). After (Call.receive time bytes) (o .left .running) o) (receiveRefusal time bytes h) h _
+        either (λ (o : Outcome). After (Call.receive time bytes) (o .left .running) o) (receiveRefusal time bytes (length (h .line)) (h .session)) h _
         (λ (k : ℕ). refused-after (Call.receive time bytes) k)
-        (λ (z : receiveRefusal time bytes h ≡ 0). go (isNext bytes r) refl (receive-told time bytes h z))
+        (λ (z : receiveRefusal time bytes (length (h .line)) (h .session) ≡ 0). go (isNext bytes r) refl (receive-told time bytes h z))
       where
         go : (t : Bool) → isNext bytes r ≡ t → ReceiveTold bytes (lent Direction.receiving line e) → let o = replying bytes (cond t (afterNew time (bodyOf bytes) (lent Direction.receiving line e)) (afterRepeat time (lent Direction.receiving line e))) in After (Call.receive time bytes) (o .left .running) o
         go true n told =

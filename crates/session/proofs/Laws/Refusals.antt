@@ -28,7 +28,7 @@ pub record SendTold (code : ℕ) (bytes : List ℕ) (h : Held) : Type 0 where
   pub unstopped : code ≡ 0
   pub room : length bytes ≤ length (h .line)
 
-pub send-told : (time code : ℕ) (bytes : List ℕ) (h : Held) → sendRefusal time code bytes h ≡ 0 → SendTold code bytes h
+pub send-told : (time code : ℕ) (bytes : List ℕ) (h : Held) → sendRefusal time code (length bytes) (length (h .line)) (h .session) ≡ 0 → SendTold code bytes h
 unfolding sendRefusal
 send-told time code bytes h e =
     let p = h .session .presenting in
@@ -36,7 +36,7 @@ send-told time code bytes h e =
     let idle = passed 34 (isPending (p .pending)) _ (lit< tt) (clock .1) in
     let used = passed 36 (leb largestSerial (p .serial)) _ (lit< tt) (idle .1) in
     let own = none-both code _ (used .1) in
-    record { idle = idle .0; more = leb-false largestSerial (p .serial) (used .0); unstopped = own .0; room = ltb-false (length (h .line)) (length bytes) (none-test 23 (noRoom (length bytes) (h .line)) (lit< tt) (own .1)) }
+    record { idle = idle .0; more = leb-false largestSerial (p .serial) (used .0); unstopped = own .0; room = ltb-false (length (h .line)) (length bytes) (none-test 23 (noRoom (length bytes) (length (h .line))) (lit< tt) (own .1)) }
 
 pub record ReceiveTold (bytes : List ℕ) (h : Held) : Type 0 where
   pub good : envelopeGood Kind.Message bytes ≡ true
@@ -44,7 +44,7 @@ pub record ReceiveTold (bytes : List ℕ) (h : Held) : Type 0 where
   pub known : isLast bytes (h .session .receiving) || isNext bytes (h .session .receiving) ≡ true
   pub room : envelopeBytes + replyBytes ≤ length (h .line)
 
-pub receive-told : (time : ℕ) (bytes : List ℕ) (h : Held) → receiveRefusal time bytes h ≡ 0 → ReceiveTold bytes h
+pub receive-told : (time : ℕ) (bytes : List ℕ) (h : Held) → receiveRefusal time bytes (length (h .line)) (h .session) ≡ 0 → ReceiveTold bytes h
 unfolding receiveRefusal
 receive-told time bytes h e =
     let good = envelopeGood Kind.Message bytes in
@@ -58,7 +58,7 @@ receive-told time bytes h e =
       good = not-false good (first .0);
       way = same (envelopeOf bytes .route) (receivingRoute (h .session .parties)) (not-false way (second .0));
       known = not-false known (third .0);
-      room = ltb-false (length (h .line)) (envelopeBytes + replyBytes) (none-test 23 (noRoom (envelopeBytes + replyBytes) (h .line)) (lit< tt) (third .1));
+      room = ltb-false (length (h .line)) (envelopeBytes + replyBytes) (none-test 23 (noRoom (envelopeBytes + replyBytes) (length (h .line))) (lit< tt) (third .1));
     }
 
 pub record ReplyTold (bytes : List ℕ) (s : Session) : Type 0 where
@@ -77,5 +77,6 @@ reply-told time bytes s e =
     let first = passed 21 (not good) _ (lit< tt) (clock .1) in
     let second = passed 33 (not way) _ (lit< tt) (first .1) in
     let third = passed 22 (not (replyGood (bodyOf bytes))) _ (lit< tt) (second .1) in
-    let all = three (isPending (p .pending)) (eqb (serialOf bytes) (p .serial)) (eqb (operationOf (bodyOf bytes)) (operationByte (awaitedOperation (p .pending)))) (not-false (isAwaited bytes p) (none-test 35 (not (isAwaited bytes p)) (lit< tt) (third .1))) in
+    let awaited = isAwaited (serialOf bytes) (operationOf (bodyOf bytes)) p in
+    let all = three (isPending (p .pending)) (eqb (serialOf bytes) (p .serial)) (eqb (operationOf (bodyOf bytes)) (operationByte (awaitedOperation (p .pending)))) (not-false awaited (none-test 35 (not awaited) (lit< tt) (third .1))) in
     record { good = not-false good (first .0); way = same (envelopeOf bytes .route) (presentingRoute (s .parties)) (not-false way (second .0)); awaited = all .0; serial = eqb-true (serialOf bytes) (p .serial) (all .1) }

@@ -102,21 +102,21 @@ module _ (time code : ℕ) (effect : Effect) (body : List ℕ) (h : Held) where
   pub send-sound : Sound (h .session) → (code ≡ 0 → PendingSound effect (h .session .presenting .counters)) → Sound (send time code effect body h .left .session)
   unfolding send
   send-sound g a =
-      either (λ (o : Outcome). Sound (o .left .session)) (sendRefusal time code bytes h) h (posted time effect body h)
+      either (λ (o : Outcome). Sound (o .left .session)) (sendRefusal time code (length bytes) (length (h .line)) (h .session)) h (posted time effect body h)
       (λ (k : ℕ). g)
-      (λ (e : sendRefusal time code bytes h ≡ 0). let known = send-told time code bytes h e in sent-sound time effect (h .session) g (known .more) (a (known .unstopped)))
+      (λ (e : sendRefusal time code (length bytes) (length (h .line)) (h .session) ≡ 0). let known = send-told time code bytes h e in sent-sound time effect (h .session) g (known .more) (a (known .unstopped)))
 
   pub send-carried : (t : Running) → Carried Direction.presenting (h .session) t → (code ≡ 0 → PendingCarried effect t) → Carried Direction.presenting (send time code effect body h .left .session) t
   unfolding send
   send-carried t g a =
-      either (λ (o : Outcome). Carried Direction.presenting (o .left .session) t) (sendRefusal time code bytes h) h (posted time effect body h)
+      either (λ (o : Outcome). Carried Direction.presenting (o .left .session) t) (sendRefusal time code (length bytes) (length (h .line)) (h .session)) h (posted time effect body h)
       (λ (k : ℕ). g)
-      (λ (e : sendRefusal time code bytes h ≡ 0). sent-carried time effect (h .session) t g (a (send-told time code bytes h e .unstopped)))
+      (λ (e : sendRefusal time code (length bytes) (length (h .line)) (h .session) ≡ 0). sent-carried time effect (h .session) t g (a (send-told time code bytes h e .unstopped)))
 
   -- the running totals stay
   send-running : send time code effect body h .left .running ≡ h .running
   unfolding send
-  send-running = either (λ (o : Outcome). o .left .running ≡ h .running) (sendRefusal time code bytes h) h (posted time effect body h) (λ (k : ℕ). refl) (λ (e : sendRefusal time code bytes h ≡ 0). refl)
+  send-running = either (λ (o : Outcome). o .left .running ≡ h .running) (sendRefusal time code (length bytes) (length (h .line)) (h .session)) h (posted time effect body h) (λ (k : ℕ). refl) (λ (e : sendRefusal time code (length bytes) (length (h .line)) (h .session) ≡ 0). refl)
 
   send-keeps : Premise Direction.presenting h → (code ≡ 0 → Allowed effect (course (h .session .presenting .counters) (h .running))) → Premise Direction.presenting (send time code effect body h .left)
   send-keeps g a =
@@ -190,9 +190,9 @@ handled-keeps time bytes h g known next =
 pub receive-keeps : (time : ℕ) (bytes : List ℕ) (h : Held) → Premise Direction.receiving h → Premise Direction.receiving (receive time bytes h .left)
 unfolding receive
 receive-keeps time bytes h g =
-    either (λ (o : Outcome). Premise Direction.receiving (o .left)) (receiveRefusal time bytes h) h _
+    either (λ (o : Outcome). Premise Direction.receiving (o .left)) (receiveRefusal time bytes (length (h .line)) (h .session)) h _
     (λ (k : ℕ). g)
-    (λ (e : receiveRefusal time bytes h ≡ 0). same-good (afterMessage time bytes h) _ (go (isNext bytes (h .session .receiving)) refl (receive-told time bytes h e)))
+    (λ (e : receiveRefusal time bytes (length (h .line)) (h .session) ≡ 0). same-good (afterMessage time bytes h) _ (go (isNext bytes (h .session .receiving)) refl (receive-told time bytes h e)))
   where
     same-good : (a : Held) (line : List ℕ) → Premise Direction.receiving a → Premise Direction.receiving (record { session = a .session; running = a .running; line = line })
     same-good a line g = record { sound = g .sound; carried = g .carried }

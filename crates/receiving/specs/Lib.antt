@@ -1,0 +1,4 @@
+-- What receiving finds and what its answer says.
+pub mod Said
+pub mod Arrival
+pub mod Earned

@@ -1,0 +1,87 @@
+// The receiving direction after a message.
+use crate::accepted::kept;
+use crate::earned::earned;
+use calls::course::advance;
+use calls::course::ends;
+use codes::chain::is_accepted;
+use message::content::content_of;
+use message::reply::Reply;
+use message::reply::reply_operation;
+use session::counters::Running;
+use session::parties::Parties;
+use session::session::Receiving;
+ghost use mathlib.Core.Path.{_≡_};
+ghost use mathlib.Core.Bool.{cond};
+ghost use Prim.Native.Nat.{_≤_};
+ghost use Rattle.document.specs.Limits.{mostRepresented};
+ghost use Rattle.message.specs.Limits.{largestSerial};
+ghost use Rattle.message.specs.Content.{contentOf};
+ghost use Rattle.session.specs.Limits.{lotDocuments};
+ghost use Rattle.session.specs.Receiving.{codeBy, receivingCourse, receivingAfter};
+ghost use Rattle.session.specs.Premise.{Fits, CountersSound};
+
+// The direction, and the running totals beside it.
+pub struct Handled {
+    pub receiving: Receiving,
+    pub running: Running,
+}
+
+// A new message: its serial becomes the last, its reply is kept, and what it does is counted.
+fn handle(time: u32, body: &[u8], p: Parties, running: Running, r: Receiving) -> Handled
+    requires { ⌜ p .count ≤ mostRepresented ⌝ }
+    requires { ⌜ r .serial ≤ largestSerial ⌝ }
+    requires { ⌜ CountersSound (r .counters) ⌝ }
+    requires { ⌜ Fits lotDocuments running ⌝ }
+    ensures receiving { λ h. ⌜ h .receiving ≡ receivingAfter (codeBy (contentOf (now (body .entry))) time (now (body .entry)) p running r) (now (body .entry)) running r ⌝ }
+    ensures running { λ h. ⌜ h .running ≡ receivingCourse (codeBy (contentOf (now (body .entry))) time (now (body .entry)) p running r) (now (body .entry)) running r .running ⌝ }
+{
+    let content = content_of(body);
+    let found = earned(content, time, body, p, running, r);
+    let code = found.code;
+    let effect = found.effect;
+    let accepted = is_accepted(code);
+    let counters = r.counters;
+    let lots = r.lots;
+    let after = advance(effect, accepted, counters, running);
+    let counted = after.counters;
+    let gathered = after.running;
+    let reply = Reply {
+        operation: reply_operation(content),
+        code: code,
+    };
+    Handled {
+        receiving: Receiving {
+            serial: r.serial + 1,
+            reply: reply,
+            counters: counted,
+            ended: r.ended | ends(effect, accepted),
+            lots: kept(effect, accepted, counters.lots, lots),
+        },
+        running: gathered,
+    }
+}
+
+// Of the last message again no body is read, and nothing is counted.
+pub fn handle_if(
+    fresh: bool,
+    time: u32,
+    body: &[u8],
+    p: Parties,
+    running: Running,
+    r: Receiving,
+) -> Handled
+    requires { ⌜ p .count ≤ mostRepresented ⌝ }
+    requires { ⌜ r .serial ≤ largestSerial ⌝ }
+    requires { ⌜ CountersSound (r .counters) ⌝ }
+    requires { ⌜ Fits lotDocuments running ⌝ }
+    ensures receiving { λ h. ⌜ h .receiving ≡ cond fresh (receivingAfter (codeBy (contentOf (now (body .entry))) time (now (body .entry)) p running r) (now (body .entry)) running r) r ⌝ }
+    ensures running { λ h. ⌜ h .running ≡ cond fresh (receivingCourse (codeBy (contentOf (now (body .entry))) time (now (body .entry)) p running r) (now (body .entry)) running r .running) running ⌝ }
+{
+    if fresh {
+        return handle(time, body, p, running, r);
+    }
+    Handled {
+        receiving: r,
+        running: running,
+    }
+}
