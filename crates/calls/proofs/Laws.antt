@@ -1,3 +1,4 @@
 -- One file a notion.
 pub mod Course
 pub mod Said
+pub mod Arrival

@@ -1,3 +1,2 @@
 -- What the answers of this crate's calls say.
 pub mod Said
-pub mod Arrival

@@ -41,9 +41,9 @@ ghost use Rattle.session.specs.Course.{Direction};
 ghost use Rattle.session.specs.Outcome.{silent};
 ghost use Rattle.session.specs.Reply.{isAwaited, isAccepted, replied, takeReply};
 ghost use Rattle.session.specs.Premise.{Sound, Carried, KeptBeside};
+ghost use Rattle.calls.specs.Arrival.{Told};
 ghost use Rattle.calls.specs.Said.{held};
 ghost use Rattle.presenting.specs.Said.{replySaid};
-ghost use Rattle.presenting.specs.Arrival.{Told};
 
 // What a reply call gives.
 pub struct ReplyOutcome {
@@ -79,7 +79,7 @@ fn is_awaited(serial: u32, operation: Operation, p: Presenting) -> bool
 
 // The body of a reply with this serial.
 fn read_body(body: &[u8], serial: u32, p: Presenting) -> Arrival
-    ensures { λ r. ⌜ Told (22 when not (replyGood (now (body .entry))) orelse 35 when not (isAwaited serial (operationOf (now (body .entry))) p)) (eqb (byteValue (byteAt 4 (now (body .entry)))) 0) r ⌝ }
+    ensures { λ r. ⌜ Told (22 when not (replyGood (now (body .entry))) orelse 35 when not (isAwaited serial (operationOf (now (body .entry))) p)) (eqb (byteValue (byteAt 4 (now (body .entry)))) 0) (r .answer) (r .accepted) ⌝ }
 {
     match read_reply(body) {
         ReadReply::Read(reply) => {
@@ -99,7 +99,7 @@ fn read_body(body: &[u8], serial: u32, p: Presenting) -> Arrival
 
 // A whole reply, at any time.
 fn read_whole(reply: &[u8], route: Route, p: Presenting) -> Arrival
-    ensures { λ r. ⌜ Told (21 when not (envelopeGood Kind.Reply (now (reply .entry))) orelse 33 when not (sameRoute (envelopeOf (now (reply .entry)) .route) route) orelse 22 when not (replyGood (bodyOf (now (reply .entry)))) orelse 35 when not (isAwaited (serialOf (now (reply .entry))) (operationOf (bodyOf (now (reply .entry)))) p)) (isAccepted (now (reply .entry))) r ⌝ }
+    ensures { λ r. ⌜ Told (21 when not (envelopeGood Kind.Reply (now (reply .entry))) orelse 33 when not (sameRoute (envelopeOf (now (reply .entry)) .route) route) orelse 22 when not (replyGood (bodyOf (now (reply .entry)))) orelse 35 when not (isAwaited (serialOf (now (reply .entry))) (operationOf (bodyOf (now (reply .entry)))) p)) (isAccepted (now (reply .entry))) (r .answer) (r .accepted) ⌝ }
 {
     match read_envelope(reply, Kind::Reply) {
         ReadEnvelope::Read(e) => {

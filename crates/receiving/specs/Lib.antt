@@ -1,4 +1,3 @@
 -- What receiving finds and what its answer says.
 pub mod Said
-pub mod Arrival
 pub mod Earned

@@ -20,7 +20,7 @@ ghost use Rattle.message.specs.Limits.{envelopeBytes, replyBytes, largestSerial
 ghost use Rattle.message.specs.Route.{sameRoute};
 ghost use Rattle.message.specs.Envelope.{serialOf, envelopeGood, envelopeOf};
 ghost use Rattle.session.specs.Outcome.{noRoom};
-ghost use Rattle.receiving.specs.Arrival.{Told};
+ghost use Rattle.calls.specs.Arrival.{Told};
 
 // The refusal, and whether the message is a new one or the last again.
 pub struct Arrival {
@@ -31,7 +31,7 @@ pub struct Arrival {
 // By its envelope: the way it goes, its serial, and the room for a reply.
 fn by_envelope(e: Envelope, route: Route, last: u32, room: usize) -> Arrival
     requires { ⌜ last ≤ largestSerial ⌝ }
-    ensures { λ r. ⌜ Told (33 when not (sameRoute (e .route) route) orelse 35 when not (eqb (e .serial) last || eqb (e .serial) (suc last)) orelse 23 when noRoom (envelopeBytes + replyBytes) room) (eqb (e .serial) (suc last)) r ⌝ }
+    ensures { λ r. ⌜ Told (33 when not (sameRoute (e .route) route) orelse 35 when not (eqb (e .serial) last || eqb (e .serial) (suc last)) orelse 23 when noRoom (envelopeBytes + replyBytes) room) (eqb (e .serial) (suc last)) (r .answer) (r .fresh) ⌝ }
 {
     let way = e.route;
     let fresh = e.serial == last + 1;
@@ -50,7 +50,7 @@ fn by_envelope(e: Envelope, route: Route, last: u32, room: usize) -> Arrival
 // Of any bytes, in a direction of this route whose last serial is this.
 pub fn arrival(message: &[u8], route: Route, last: u32, room: usize) -> Arrival
     requires { ⌜ last ≤ largestSerial ⌝ }
-    ensures { λ r. ⌜ Told (21 when not (envelopeGood Kind.Message (now (message .entry))) orelse 33 when not (sameRoute (envelopeOf (now (message .entry)) .route) route) orelse 35 when not (eqb (serialOf (now (message .entry))) last || eqb (serialOf (now (message .entry))) (suc last)) orelse 23 when noRoom (envelopeBytes + replyBytes) room) (eqb (serialOf (now (message .entry))) (suc last)) r ⌝ }
+    ensures { λ r. ⌜ Told (21 when not (envelopeGood Kind.Message (now (message .entry))) orelse 33 when not (sameRoute (envelopeOf (now (message .entry)) .route) route) orelse 35 when not (eqb (serialOf (now (message .entry))) last || eqb (serialOf (now (message .entry))) (suc last)) orelse 23 when noRoom (envelopeBytes + replyBytes) room) (eqb (serialOf (now (message .entry))) (suc last)) (r .answer) (r .fresh) ⌝ }
 {
     match read_envelope(message, Kind::Message) {
         ReadEnvelope::Read(e) => by_envelope(e, route, last, room),

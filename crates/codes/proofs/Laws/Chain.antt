@@ -52,3 +52,9 @@ pub last : (a : ℕ) → (a orelse 0) ≡ a
 unfolding _orelse_
 last zero = refl
 last (suc a) = refl
+
+-- what follows a part that applies is not asked
+pub rest-same : (a b c : ℕ) → (a ≡ 0 → b ≡ c) → (a orelse b) ≡ (a orelse c)
+unfolding _orelse_
+rest-same zero b c h = h refl
+rest-same (suc a) b c h = refl

@@ -1,7 +1,8 @@
--- A refusal's number tells the refusal.
+-- A refusal's number tells the refusal, and is never 0.
 use mathlib.Core.Path.{_≡_, refl, ap, sym, _∙_}
 use mathlib.Core.List.{List, [], _∷_}
 use Prim.Native.Nat.{ℕ}
+use native.Mathlib.Omega.{arith}
 use Rattle.codes.specs.declared.refusal.Refusal.{Refusal}
 use Rattle.codes.specs.Numbered.{numbered}
 use Rattle.codes.specs.Refusal.{refusalNumber}
@@ -44,3 +45,7 @@ told Refusal.NoSerialLeft = refl
 
 pub same-number : (r s : Refusal) → refusalNumber r ≡ refusalNumber s → r ≡ s
 same-number r s e = sym (told r) ∙ ap refusalOf e ∙ told s
+
+pub never-none : (r : Refusal) → refusalNumber r ≡ 0 → ⊥
+unfolding refusalOf numbered refusals
+never-none r e = let first : refusalNumber r ≡ 20 = ap refusalNumber (sym (told r) ∙ ap refusalOf e) in omega (arith, e, first)

@@ -72,6 +72,10 @@ good-told kind bytes e =
     let all = three (lengthGood kind (length bytes)) (eqb (byteAt 1 bytes) (kindByte kind)) (tableGood 1 21 envelopeFields bytes) e in
     (all .0, eqb-true (byteAt 1 bytes) (kindByte kind) (all .1), all .2)
 
+-- that it is long enough for a body
+pub enough : (kind : Kind) (bytes : List ℕ) → envelopeGood kind bytes ≡ true → envelopeBytes ≤ length bytes
+enough kind bytes e = long kind (length bytes) (good-told kind bytes e .0)
+
 -- its serial among them
 pub serial-told : (kind : Kind) (bytes : List ℕ) → envelopeGood kind bytes ≡ true → (1 ≤ envelopeOf bytes .serial) × (envelopeOf bytes .serial ≤ largestSerial)
 serial-told kind bytes e =
@@ -139,7 +143,7 @@ pub read-then-written : (kind : Kind) (bytes : List ℕ) (e : Envelope) → enve
 read-then-written kind bytes e h =
     let read = told (21 when not (envelopeGood kind bytes)) (tableNumbers 1 envelopeFields bytes) (envelopeValues e) h in
     let found = good-told kind bytes (read-told kind bytes e h .0) in
-    let enough = long kind (length bytes) (found .0) in
+    let fits = enough kind bytes (read-told kind bytes e h .0) in
     let good = rows-all (fieldGood 1 bytes) 21 21 envelopeFields one-code (found .2) (found .2) in
     let table = ap (tableWritten envelopeFields) (sym (read .1)) ∙ table-read 1 2 (envelopeBytes + 1) envelopeFields bytes (omega arith) covers (omega arith) good in
-    (λ i. sym (found .1) i ∷ table i) ∙ sym (kind-first bytes enough)
+    (λ i. sym (found .1) i ∷ table i) ∙ sym (kind-first bytes fits)

@@ -1,3 +1,4 @@
+-- `ready`: the first refusals of the chain of sends.
 use borrow.Author.Needs.{needs}
 use Rattle.presenting.proofs.answer.ready.Statement.{statement}
 use Rattle.presenting.proofs.answer.ready.Tie as tie
@@ -21,7 +22,7 @@ or-refused-requires-2 : tie.Need-or-refused-requires-2
 or-refused-requires-2 c κs = search needs
 
 returns : tie.Need-returns
-returns c = ?
+returns c = cc
 
 pub ready-spec : {M : Type 1} → statement M
 ready-spec =

@@ -1,3 +1,12 @@
+-- `post`: the envelope, and the session after it.
+use mathlib.Core.Path.{_≡_, ap, _∙_}
+use Prim.Native.Nat.{suc, _+_}
+use native.Mathlib.Omega.{arith}
+use lib.Seq.{sets}
+use Rattle.message.specs.declared.envelope.Envelope.{Envelope}
+use Rattle.message.specs.declared.envelope.Kind.{Kind}
+use Rattle.message.specs.Envelope.{writtenEnvelope}
+use Rattle.session.specs.Sending.{nextEnvelope}
 use borrow.Author.Needs.{needs}
 use Rattle.presenting.proofs.post.post.Statement.{statement}
 use Rattle.presenting.proofs.post.post.Tie as tie
@@ -18,7 +27,11 @@ same-length : tie.Need-same-length
 same-length c = search needs
 
 returns : tie.Need-returns
-returns c = ?
+returns c =
+    let t = c .before .before .before .before .before in
+    let a = t .before .before .before .before .args in
+    let one-more : a .session .presenting .serial + 1 ≡ suc (a .session .presenting .serial) = omega arith in
+    (c .sent .ensures, c .before .before .before .write-envelope .ensures ∙ λ i. sets (a .line .now) 0 (writtenEnvelope Kind.Message (record { route = t .presenting-route .ensures i; serial = one-more i })))
 
 pub post-spec : {M : Type 1} → statement M
 post-spec =

@@ -1,3 +1,5 @@
+-- `is_awaited` is the definition's own test.
+use Rattle.session.specs.Reply.{isAwaited}
 use borrow.Author.Needs.{needs}
 use Rattle.presenting.proofs.reply.is_awaited.Statement.{statement}
 use Rattle.presenting.proofs.reply.is_awaited.Tie as tie
@@ -15,7 +17,8 @@ operation-byte-requires-2 : tie.Need-operation-byte-requires-2
 operation-byte-requires-2 c κs = search needs
 
 returns : tie.Need-returns
-returns c = ?
+unfolding isAwaited
+returns c = cc
 
 pub is-awaited-spec : {M : Type 1} → statement M
 is-awaited-spec =

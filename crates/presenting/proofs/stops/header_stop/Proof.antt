@@ -1,3 +1,5 @@
+-- `header_stop` is the definition's own chain.
+use Rattle.session.specs.Sending.{headerStop}
 use borrow.Author.Needs.{needs}
 use Rattle.presenting.proofs.stops.header_stop.Statement.{statement}
 use Rattle.presenting.proofs.stops.header_stop.Tie as tie
@@ -33,7 +35,8 @@ or-else-requires-3 : tie.Need-or-else-requires-3
 or-else-requires-3 c κs = search needs
 
 returns : tie.Need-returns
-returns c = ?
+unfolding headerStop
+returns c = cc
 
 pub header-stop-spec : {M : Type 1} → statement M
 header-stop-spec =

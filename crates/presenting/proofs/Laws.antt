@@ -1,0 +1,3 @@
+-- One file a notion.
+pub mod Arrival
+pub mod Send
