@@ -86,10 +86,7 @@ fn read_body(body: &[u8], serial: u32, p: Presenting) -> Arrival
             let code = reply.code;
             let operation = reply.operation;
             Arrival {
-                answer: refused_when(
-                    Refusal::UnexpectedSerial,
-                    !is_awaited(serial, operation, p),
-                ),
+                answer: refused_when(Refusal::UnexpectedSerial, !is_awaited(serial, operation, p)),
                 accepted: is_accepted(code),
             }
         }

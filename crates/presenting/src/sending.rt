@@ -51,7 +51,13 @@ pub fn send_header(
     let parties = session.parties;
     let presenting = session.presenting;
     let code = header_stop(time, moment, centre, number, presenting);
-    let answer = send_answer(session, time, code, ENVELOPE_BYTES + HEADER_BYTES, line.len());
+    let answer = send_answer(
+        session,
+        time,
+        code,
+        ENVELOPE_BYTES + HEADER_BYTES,
+        line.len(),
+    );
     if send_number(answer) == 0 {
         let next = post(session, time, Effect::Header(number), line);
         let header = Header {
@@ -59,7 +65,11 @@ pub fn send_header(
             centre: centre,
             number: number,
         };
-        write_header(&mut line[ENVELOPE_BYTES..], presenting_route(parties), header);
+        write_header(
+            &mut line[ENVELOPE_BYTES..],
+            presenting_route(parties),
+            header,
+        );
         return SendOutcome {
             answer: answer,
             session: next,
@@ -86,14 +96,24 @@ pub fn send_detail(
     ensures premise { λ r. ⌜ KeptBeside Direction.presenting session (r .session) running ⌝ }
 {
     let presenting = session.presenting;
-    let stop = detail_stop(operation, session.parties.partner, part, running, presenting);
+    let stop = detail_stop(
+        operation,
+        session.parties.partner,
+        part,
+        running,
+        presenting,
+    );
     let code = stop.code;
     let adds = stop.adds;
     let bytes = ENVELOPE_BYTES + written_bytes(part);
     let answer = send_answer(session, time, code, bytes, line.len());
     if send_number(answer) == 0 {
         let next = post(session, time, Effect::Detail(adds), line);
-        write_detail(&mut line[ENVELOPE_BYTES..], packed_byte(operation as u64), part);
+        write_detail(
+            &mut line[ENVELOPE_BYTES..],
+            packed_byte(operation as u64),
+            part,
+        );
         return SendOutcome {
             answer: answer,
             session: next,
@@ -127,7 +147,13 @@ pub fn send_lot_total(session: Session, running: Running, time: u32, line: &mut 
     let open = counters.current;
     let number = open_number(open);
     let code = lot_sequence(presenting.ended, open);
-    let answer = send_answer(session, time, code, ENVELOPE_BYTES + LOT_TOTAL_BYTES, line.len());
+    let answer = send_answer(
+        session,
+        time,
+        code,
+        ENVELOPE_BYTES + LOT_TOTAL_BYTES,
+        line.len(),
+    );
     if send_number(answer) == 0 {
         let lot = Lot {
             number: number,

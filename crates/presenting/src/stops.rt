@@ -39,7 +39,13 @@ pub struct PartStop {
     pub adds: Running,
 }
 
-pub fn detail_stop(operation: u8, partner: u16, part: &[u8], running: Running, p: Presenting) -> PartStop
+pub fn detail_stop(
+    operation: u8,
+    partner: u16,
+    part: &[u8],
+    running: Running,
+    p: Presenting,
+) -> PartStop
     ensures code { λ r. ⌜ codeNumber (r .code) ≡ detailStop operation partner (now (part .entry)) running p ⌝ }
     ensures adds { λ r. ⌜ (codeNumber (r .code) ≡ 0 → r .adds ≡ partAdds operation (now (part .entry))) ⌝ }
 {

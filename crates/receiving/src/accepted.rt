@@ -7,7 +7,7 @@ use session::limits::MOST_LOTS;
 ghost use mathlib.Core.Path.{_≡_};
 ghost use Prim.Native.Nat.{_≤_, _<_};
 ghost use mathlib.Core.Bool.{true};
-ghost use lib.ListN.{take};
+ghost use lib.ListN.{length, take};
 ghost use Rattle.session.specs.Limits.{mostLots};
 ghost use Rattle.session.specs.Course.{kept};
 ghost use Rattle.session.specs.Receiving.{numberUsed, totalsUsed};
@@ -20,8 +20,9 @@ pub struct Used {
 }
 
 // Looks through the first `count` places, once for both.
-pub fn used(number: u16, totals: Totals, count: usize, lots: [Lot; MOST_LOTS]) -> Used
+pub fn look_up(number: u16, totals: Totals, count: usize, lots: [Lot; MOST_LOTS]) -> Used
     requires { ⌜ count ≤ mostLots ⌝ }
+    requires { ⌜ length lots ≡ mostLots ⌝ }
     ensures number { λ r. ⌜ r .number ≡ numberUsed number (take count lots) ⌝ }
     ensures totals { λ r. ⌜ r .totals ≡ totalsUsed totals (take count lots) ⌝ }
 {
@@ -54,7 +55,12 @@ fn stored(lot: Lot, accepted: bool, count: usize, lots: [Lot; MOST_LOTS]) -> [Lo
 }
 
 // The places after a message, with the code that was replied.
-pub fn kept(effect: Effect, accepted: bool, count: usize, lots: [Lot; MOST_LOTS]) -> [Lot; MOST_LOTS]
+pub fn kept(
+    effect: Effect,
+    accepted: bool,
+    count: usize,
+    lots: [Lot; MOST_LOTS],
+) -> [Lot; MOST_LOTS]
     requires { ⌜ (accepted ≡ true → endsLot effect ≡ true → count < mostLots) ⌝ }
     ensures { λ r. ⌜ r ≡ kept effect accepted count lots ⌝ }
 {

@@ -48,7 +48,7 @@ fn by_envelope(e: Envelope, route: Route, last: u32, room: usize) -> Arrival
 }
 
 // Of any bytes, in a direction of this route whose last serial is this.
-pub fn arrival(message: &[u8], route: Route, last: u32, room: usize) -> Arrival
+pub fn read_message(message: &[u8], route: Route, last: u32, room: usize) -> Arrival
     requires { ⌜ last ≤ largestSerial ⌝ }
     ensures { λ r. ⌜ Told (21 when not (envelopeGood Kind.Message (now (message .entry))) orelse 33 when not (sameRoute (envelopeOf (now (message .entry)) .route) route) orelse 35 when not (eqb (serialOf (now (message .entry))) last || eqb (serialOf (now (message .entry))) (suc last)) orelse 23 when noRoom (envelopeBytes + replyBytes) room) (eqb (serialOf (now (message .entry))) (suc last)) (r .answer) (r .fresh) ⌝ }
 {

@@ -1,5 +1,5 @@
 // What each message earns, in the paper's order, and what it does once that is known.
-use crate::accepted::used;
+use crate::accepted::look_up;
 use calls::sequence::header_sequence;
 use calls::sequence::lot_sequence;
 use calls::sequence::lot_total_sequence;
@@ -27,11 +27,9 @@ use session::limits::passes_lot;
 use session::parties::Parties;
 use session::session::Receiving;
 ghost use mathlib.Core.Path.{_≡_};
-ghost use Prim.Native.Nat.{_≤_};
-ghost use Rattle.document.specs.Limits.{mostRepresented};
-ghost use Rattle.session.specs.Limits.{mostLots};
 ghost use Rattle.session.specs.Parties.{receivingRoute};
 ghost use Rattle.receiving.specs.Earned.{Earns};
+ghost use Rattle.receiving.specs.Lent.{Lent};
 
 // A message's code, and what it does. What a refused one does is asked of its kind alone.
 pub struct Found {
@@ -52,7 +50,7 @@ pub fn receiving_route(p: Parties) -> Route
 
 // A header.
 fn of_header(time: u32, body: &[u8], p: Parties, running: Running, r: Receiving) -> Found
-    requires { ⌜ r .counters .lots ≤ mostLots ⌝ }
+    requires { ⌜ Lent p running r ⌝ }
     ensures { λ e. ⌜ Earns Content.Header time (now (body .entry)) p running r e ⌝ }
 {
     match read_header(body, receiving_route(p)) {
@@ -68,7 +66,7 @@ fn of_header(time: u32, body: &[u8], p: Parties, running: Running, r: Receiving)
                         or_else(
                             when(
                                 Code::Duplicate,
-                                used(h.number, empty(), counters.lots, lots).number,
+                                look_up(h.number, empty(), counters.lots, lots).number,
                             ),
                             when(Code::TooManyLots, lots_used(counters.lots)),
                         ),
@@ -86,7 +84,7 @@ fn of_header(time: u32, body: &[u8], p: Parties, running: Running, r: Receiving)
 
 // A detail. Its documents are passed over once, after its heads.
 fn of_detail(time: u32, body: &[u8], p: Parties, running: Running, r: Receiving) -> Found
-    requires { ⌜ p .count ≤ mostRepresented ⌝ }
+    requires { ⌜ Lent p running r ⌝ }
     ensures { λ e. ⌜ Earns Content.Detail time (now (body .entry)) p running r e ⌝ }
 {
     let represented = p.represented;
@@ -112,7 +110,7 @@ fn of_detail(time: u32, body: &[u8], p: Parties, running: Running, r: Receiving)
 
 // A lot total.
 fn of_lot_total(time: u32, body: &[u8], p: Parties, running: Running, r: Receiving) -> Found
-    requires { ⌜ r .counters .lots ≤ mostLots ⌝ }
+    requires { ⌜ Lent p running r ⌝ }
     ensures { λ e. ⌜ Earns Content.LotTotal time (now (body .entry)) p running r e ⌝ }
 {
     match read_lot_total(body) {
@@ -127,7 +125,7 @@ fn of_lot_total(time: u32, body: &[u8], p: Parties, running: Running, r: Receivi
                     or_else(
                         when(
                             Code::Duplicate,
-                            used(t.number, said, counters.lots, lots).totals,
+                            look_up(t.number, said, counters.lots, lots).totals,
                         ),
                         when(Code::WrongTotals, !stated(running).same(said)),
                     ),
@@ -177,9 +175,15 @@ fn of_session_total(time: u32, body: &[u8], p: Parties, running: Running, r: Rec
 }
 
 // A body, by what it is.
-pub fn earned(content: Content, time: u32, body: &[u8], p: Parties, running: Running, r: Receiving) -> Found
-    requires { ⌜ r .counters .lots ≤ mostLots ⌝ }
-    requires { ⌜ p .count ≤ mostRepresented ⌝ }
+pub fn earned(
+    content: Content,
+    time: u32,
+    body: &[u8],
+    p: Parties,
+    running: Running,
+    r: Receiving,
+) -> Found
+    requires { ⌜ Lent p running r ⌝ }
     ensures { λ e. ⌜ Earns content time (now (body .entry)) p running r e ⌝ }
 {
     match content {

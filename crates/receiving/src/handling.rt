@@ -12,13 +12,9 @@ use session::parties::Parties;
 use session::session::Receiving;
 ghost use mathlib.Core.Path.{_≡_};
 ghost use mathlib.Core.Bool.{cond};
-ghost use Prim.Native.Nat.{_≤_};
-ghost use Rattle.document.specs.Limits.{mostRepresented};
-ghost use Rattle.message.specs.Limits.{largestSerial};
 ghost use Rattle.message.specs.Content.{contentOf};
-ghost use Rattle.session.specs.Limits.{lotDocuments};
 ghost use Rattle.session.specs.Receiving.{codeBy, receivingCourse, receivingAfter};
-ghost use Rattle.session.specs.Premise.{Fits, CountersSound};
+ghost use Rattle.receiving.specs.Lent.{Lent};
 
 // The direction, and the running totals beside it.
 pub struct Handled {
@@ -28,10 +24,7 @@ pub struct Handled {
 
 // A new message: its serial becomes the last, its reply is kept, and what it does is counted.
 fn handle(time: u32, body: &[u8], p: Parties, running: Running, r: Receiving) -> Handled
-    requires { ⌜ p .count ≤ mostRepresented ⌝ }
-    requires { ⌜ r .serial ≤ largestSerial ⌝ }
-    requires { ⌜ CountersSound (r .counters) ⌝ }
-    requires { ⌜ Fits lotDocuments running ⌝ }
+    requires { ⌜ Lent p running r ⌝ }
     ensures receiving { λ h. ⌜ h .receiving ≡ receivingAfter (codeBy (contentOf (now (body .entry))) time (now (body .entry)) p running r) (now (body .entry)) running r ⌝ }
     ensures running { λ h. ⌜ h .running ≡ receivingCourse (codeBy (contentOf (now (body .entry))) time (now (body .entry)) p running r) (now (body .entry)) running r .running ⌝ }
 {
@@ -70,10 +63,7 @@ pub fn handle_if(
     running: Running,
     r: Receiving,
 ) -> Handled
-    requires { ⌜ p .count ≤ mostRepresented ⌝ }
-    requires { ⌜ r .serial ≤ largestSerial ⌝ }
-    requires { ⌜ CountersSound (r .counters) ⌝ }
-    requires { ⌜ Fits lotDocuments running ⌝ }
+    requires { ⌜ Lent p running r ⌝ }
     ensures receiving { λ h. ⌜ h .receiving ≡ cond fresh (receivingAfter (codeBy (contentOf (now (body .entry))) time (now (body .entry)) p running r) (now (body .entry)) running r) r ⌝ }
     ensures running { λ h. ⌜ h .running ≡ cond fresh (receivingCourse (codeBy (contentOf (now (body .entry))) time (now (body .entry)) p running r) (now (body .entry)) running r .running) running ⌝ }
 {

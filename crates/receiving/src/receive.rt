@@ -1,5 +1,5 @@
 // Receiving.
-use crate::arrival::arrival;
+use crate::arrival::read_message;
 use crate::earned::receiving_route;
 use crate::handling::handle_if;
 use calls::answer::answer_number;
@@ -46,7 +46,7 @@ pub fn receive(
     let last = session.receiving;
     let close = session.close;
     let route = receiving_route(parties);
-    let arrived = arrival(message, route, last.serial, line.len());
+    let arrived = read_message(message, route, last.serial, line.len());
     let found = arrived.answer;
     let answer = or_refused(time_refusal(time, session.seen, close), found);
     if answer_number(answer) == 0 {

@@ -1,0 +1,60 @@
+-- `by_envelope`: the definition's own chain.
+use mathlib.Core.Path.{_≡_, ap, _∙_}
+use mathlib.Core.Bool.{Bool, not, _||_}
+use Prim.Native.Nat.{ℕ, suc, _+_}
+use native.Mathlib.Omega.{arith}
+use lib.Dec.{eqb}
+use Rattle.codes.specs.Chain.{_when_, _orelse_}
+use Rattle.message.specs.Limits.{envelopeBytes, replyBytes}
+use Rattle.message.specs.Route.{sameRoute}
+use Rattle.session.specs.Outcome.{noRoom}
+use borrow.Author.Needs.{needs}
+use Rattle.receiving.proofs.arrival.by_envelope.Statement.{statement}
+use Rattle.receiving.proofs.arrival.by_envelope.Tie as tie
+
+add-fresh : tie.Need-add-fresh
+add-fresh c = search needs
+
+same-route-requires : tie.Need-same-route-requires
+same-route-requires c κs = search needs
+
+refused-when-requires : tie.Need-refused-when-requires
+refused-when-requires c κs = search needs
+
+refused-when-requires-2 : tie.Need-refused-when-requires-2
+refused-when-requires-2 c κs = search needs
+
+add-refused-when : tie.Need-add-refused-when
+add-refused-when c = search needs
+
+refused-when-requires-3 : tie.Need-refused-when-requires-3
+refused-when-requires-3 c κs = search needs
+
+or-refused-requires : tie.Need-or-refused-requires
+or-refused-requires c κs = search needs
+
+or-refused-requires-2 : tie.Need-or-refused-requires-2
+or-refused-requires-2 c κs = search needs
+
+returns : tie.Need-returns
+returns c =
+    let k = c .before .before .before .before .before in
+    let a = k .before .before .before .before .args in
+    let one-more : a .last + 1 ≡ suc (a .last) = omega arith in
+    let way = k .refused-when .ensures ∙ ap (λ (b : Bool). 33 when not b) (k .before .same-route .ensures) in
+    let serial = c .before .before .before .refused-when2 .ensures ∙ ap (λ (n : ℕ). 35 when not (eqb (a .e .serial) (a .last) || eqb (a .e .serial) n)) one-more in
+    record { number = c .or-refused2 .ensures ∙ (λ i. way i orelse (c .before .or-refused .ensures ∙ λ j. serial j orelse c .before .before .refused-when3 .ensures j) i); finding = λ (z : (33 when not (sameRoute (a .e .route) (a .route)) orelse 35 when not (eqb (a .e .serial) (a .last) || eqb (a .e .serial) (suc (a .last))) orelse 23 when noRoom (envelopeBytes + replyBytes) (a .room)) ≡ 0). ap (eqb (a .e .serial)) one-more }
+
+pub by-envelope-spec : {M : Type 1} → statement M
+by-envelope-spec =
+    tie.close
+    (tie.spec
+    add-fresh
+    same-route-requires
+    refused-when-requires
+    refused-when-requires-2
+    add-refused-when
+    refused-when-requires-3
+    or-refused-requires
+    or-refused-requires-2
+    returns)

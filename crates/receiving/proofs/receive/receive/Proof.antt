@@ -1,0 +1,137 @@
+-- `receive`: the chain refuses, or the direction goes on and the kept reply is written.
+use mathlib.Core.Path.{_≡_, ap, sym, subst, _∙_}
+use mathlib.Core.Bool.{not, cond, _||_}
+use mathlib.Core.List.{List}
+use Prim.Native.Nat.{ℕ, suc, _+_}
+use lib.Dec.{eqb}
+use lib.ListN.{length}
+use lib.Seq.{sets}
+use Rattle.packed.proofs.Laws.Part.{part-tail}
+use Rattle.codes.specs.Chain.{_when_, _orelse_}
+use Rattle.codes.proofs.Laws.Chain.{none-both}
+use Rattle.message.specs.declared.envelope.Kind.{Kind}
+use Rattle.message.specs.declared.route.Route.{Route}
+use Rattle.message.specs.Limits.{envelopeBytes, replyBytes}
+use Rattle.message.specs.Route.{sameRoute}
+use Rattle.message.specs.Envelope.{serialOf, envelopeGood, envelopeOf}
+use Rattle.message.specs.Content.{contentOf}
+use Rattle.message.specs.Line.{wholeReply}
+use Rattle.message.proofs.Laws.Envelope.{enough}
+use Rattle.session.specs.Course.{Direction}
+use Rattle.session.specs.Outcome.{answerNumber, noRoom, timeRefusal}
+use Rattle.session.specs.Receiving.{codeBy, receivingCourse, receivingAfter, withReceiving, isNext, receiveRefusal, receive, afterMessage, replying}
+use Rattle.session.specs.Engine.{Call, meaning}
+use Rattle.session.proofs.Laws.EveryCall.{kept-beside}
+use Rattle.session.proofs.Laws.Refusals.{ReceiveTold}
+use Rattle.calls.specs.Arrival.{Told}
+use Rattle.calls.specs.Said.{held}
+use Rattle.calls.proofs.Laws.Said.{said-refused, so-kept-beside}
+use Rattle.receiving.proofs.Laws.Receive.{told, replied-so}
+use borrow.Author.Needs.{needs}
+use Rattle.receiving.proofs.receive.receive.Statement.{statement}
+use Rattle.receiving.proofs.receive.receive.Tie as tie
+
+receiving-route-requires : tie.Need-receiving-route-requires
+receiving-route-requires c κs = search needs
+
+read-message-requires : tie.Need-read-message-requires
+read-message-requires c κs = search needs
+
+time-refusal-requires : tie.Need-time-refusal-requires
+time-refusal-requires c κs = search needs
+
+or-refused-requires : tie.Need-or-refused-requires
+or-refused-requires c κs = search needs
+
+answer-number-requires : tie.Need-answer-number-requires
+answer-number-requires c κs = search needs
+
+-- the chain, and whether a message that it lets pass is new
+arrived : (w : tie.After-or-refused) → let a = w .before .before .before .before .before .before .before .before .before .args in let answer = answerNumber (w .or-refused .result) in (answer ≡ receiveRefusal (a .time) (a .message .now) (length (a .line .now)) (a .session)) × (answer ≡ 0 → w .before .before .read-message .result .fresh ≡ isNext (a .message .now) (a .session .receiving))
+unfolding receiveRefusal
+arrived w =
+    let a = w .before .before .before .before .before .before .before .before .before .args in
+    let bytes = a .message .now in
+    let last = a .session .receiving .serial in
+    let r = w .before .before .read-message .result in
+    let found = subst (λ (route : Route). Told (21 when not (envelopeGood Kind.Message bytes) orelse 33 when not (sameRoute (envelopeOf bytes .route) route) orelse 35 when not (eqb (serialOf bytes) last || eqb (serialOf bytes) (suc last)) orelse 23 when noRoom (envelopeBytes + replyBytes) (length (a .line .now))) (eqb (serialOf bytes) (suc last)) (r .answer) (r .fresh)) (w .before .before .before .receiving-route .ensures) (w .before .before .read-message .ensures) in
+    let chain = w .or-refused .ensures ∙ (λ i. w .before .time-refusal .ensures i orelse found .number i) in
+    (chain, λ (e : answerNumber (w .or-refused .result) ≡ 0). found .finding (none-both (timeRefusal (a .time) (a .session .seen) (a .session .close)) _ (sym chain ∙ e) .1))
+
+none : (t : tie.Then1) → answerNumber (t .before .before .or-refused .result) ≡ 0
+none t = sym (t .before .answer-number .ensures) ∙ t .if1 .taken
+
+passed : (t : tie.Then1) → let a = t .before .before .before .before .before .before .before .before .before .before .before .args in ReceiveTold (a .message .now) (held (a .session) (a .running) (a .line .now))
+passed t = let a = t .before .before .before .before .before .before .before .before .before .before .before .args in told (a .time) (a .message .now) (a .session) (a .running) (a .line .now) (answerNumber (t .before .before .or-refused .result)) (arrived (t .before .before) .0) (none t)
+
+sub-body : tie.Need-sub-body
+sub-body c = let a = c .before .before .before .before .before .before .before .before .before .before .before .args in enough Kind.Message (a .message .now) (passed c .good)
+
+part-body-start : tie.Need-part-body-start
+part-body-start c = let h = sub-body c in search needs
+
+part-body-end : tie.Need-part-body-end
+part-body-end c = search needs
+
+handle-if-requires : tie.Need-handle-if-requires
+handle-if-requires c κs = search needs
+
+write-reply-requires : tie.Need-write-reply-requires
+write-reply-requires c κs = passed (c .before .before .before .before .before .before) .room
+
+add-t25 : tie.Need-add-t25
+add-t25 c = search needs
+
+same-length : tie.Need-same-length
+same-length c = search needs
+
+returns : tie.Need-returns
+unfolding receive meaning
+returns c =
+    let t = c .before .before .before .before .before .before .before .before .before in
+    let w = t .before .before in
+    let a = w .before .before .before .before .before .before .before .before .before .args in
+    let s = a .session in
+    let bytes = a .message .now in
+    let answer = answerNumber (w .or-refused .result) in
+    let fresh = w .before .before .read-message .result .fresh in
+    let handled = c .before .before .before .before .before .before .before .handle-if in
+    let after = handled .result .receiving in
+    let body = part-tail envelopeBytes bytes in
+    let after-so = handled .ensures .0 ∙ ap (λ (x : List ℕ). cond fresh (receivingAfter (codeBy (contentOf x) (a .time) x (s .parties) (a .running) (s .receiving)) x (a .running) (s .receiving)) (s .receiving)) body in
+    let running-so = handled .ensures .1 ∙ ap (λ (x : List ℕ). cond fresh (receivingCourse (codeBy (contentOf x) (a .time) x (s .parties) (a .running) (s .receiving)) x (a .running) (s .receiving) .running) (a .running)) body in
+    let line-so = c .before .before .write-reply .ensures ∙ ap (λ (x : Route). sets (a .line .now) 0 (wholeReply (record { route = x; serial = after .serial }) (after .reply))) (w .before .before .before .receiving-route .ensures) in
+    let said : record { number = answer; written = envelopeBytes + replyBytes; left = held (withReceiving (a .time) after s) (handled .result .running) (c .before .before .write-reply .last .0) } ≡ receive (a .time) bytes (held s (a .running) (a .line .now)) = replied-so (a .time) bytes s (a .running) (a .line .now) answer (arrived w .0) (none t) fresh after (handled .result .running) (c .before .before .write-reply .last .0) (arrived w .1 (none t)) after-so running-so line-so in
+    (said, so-kept-beside s _ _ said Direction.receiving (kept-beside (Call.receive (a .time) bytes) (held s (a .running) (a .line .now)) (record { sound = w .before .before .before .before .before .before .before .before .before .pre .0; carried = w .before .before .before .before .before .before .before .before .before .pre .1 })))
+
+returns-2 : tie.Need-returns-2
+unfolding receive meaning
+returns-2 c =
+    let w = c .before .before in
+    let t = w .before .before .before .before .before .before .before .before .before in
+    let lent = held (t .args .session) (t .args .running) (t .args .line .now) in
+    let bytes = t .args .message .now in
+    let time = t .args .time in
+    let answer = answerNumber (w .or-refused .result) in
+    let some : answer ≡ 0 → ⊥ = λ (e : answer ≡ 0). c .if1 .left (c .before .answer-number .ensures ∙ e) in
+    let said : record { number = answer; written = 0; left = lent } ≡ receive time bytes lent = said-refused answer (receiveRefusal time bytes (length (t .args .line .now)) (t .args .session)) lent (replying bytes (afterMessage time bytes lent)) (arrived w .0) some in
+    (said, so-kept-beside (t .args .session) _ _ said Direction.receiving (kept-beside (Call.receive time bytes) lent (record { sound = t .pre .0; carried = t .pre .1 })))
+
+pub receive-spec : {M : Type 1} → statement M
+receive-spec =
+    tie.close
+    (tie.spec
+    receiving-route-requires
+    read-message-requires
+    time-refusal-requires
+    or-refused-requires
+    answer-number-requires
+    sub-body
+    part-body-start
+    part-body-end
+    handle-if-requires
+    write-reply-requires
+    add-t25
+    same-length
+    returns
+    returns-2)
