@@ -1,5 +1,5 @@
 -- How what is told grows from the end of a chain: a refusal ends it, and a part before it that does not apply changes nothing.
-use mathlib.Core.Path.{_≡_, ap, sym, subst, _∙_}
+use mathlib.Core.Path.{_≡_, sym, subst, _∙_}
 use mathlib.Core.Bool.{Bool}
 use Prim.Native.Nat.{ℕ}
 use Rattle.codes.specs.Chain.{_orelse_}
@@ -8,7 +8,6 @@ use Rattle.codes.specs.Refusal.{refusalNumber}
 use Rattle.codes.proofs.Laws.Chain.{goes-on}
 use Rattle.codes.proofs.Laws.Refusal.{never-none}
 use Rattle.session.specs.declared.session.Answer.{Answer}
-use Rattle.session.specs.Outcome.{answerNumber}
 use Rattle.calls.specs.Arrival.{Told}
 
 pub told-refused : (r : Refusal) (refusal : ℕ) (meant found : Bool) → refusal ≡ refusalNumber r → Told refusal meant (Answer.Refused r) found

@@ -7,7 +7,7 @@ use Rattle.amounts.specs.Difference.{DifferenceFits}
 use Rattle.session.specs.declared.counters.Lot.{Lot}
 use Rattle.session.specs.declared.counters.Counters.{Counters}
 use Rattle.session.specs.declared.effect.Effect.{Effect}
-use Rattle.session.specs.Limits.{lotDocuments, mostLots}
+use Rattle.session.specs.Limits.{lotDocuments}
 use Rattle.session.specs.Running.{Running, gather}
 use Rattle.session.specs.Premise.{Fits, CountersSound}
 use Rattle.calls.specs.Course.{Countable}

@@ -4,7 +4,6 @@ use mathlib.Core.Path.{_≡_, refl, ap, sym, _∙_}
 use mathlib.Core.Bool.{Bool, true, false, cond, _||_, false≢true}
 use mathlib.Core.List.{List}
 use Prim.Native.Nat.{ℕ, suc, _+_}
-use lib.Dec.{eqb}
 use lib.ListN.{length}
 use lib.Seq.{sets}
 use borrow.Author.Tests.{eqb-true}
@@ -19,7 +18,7 @@ use Rattle.session.specs.declared.session.Receiving.{Receiving}
 use Rattle.session.specs.declared.session.Session.{Session}
 use Rattle.session.specs.Parties.{receivingRoute}
 use Rattle.session.specs.Running.{Running}
-use Rattle.session.specs.Outcome.{Held, Outcome}
+use Rattle.session.specs.Outcome.{Held}
 use Rattle.session.specs.Receiving.{codeFor, receivingCourse, receivingAfter, withReceiving, isLast, isNext, afterNew, afterRepeat, receiveRefusal, replying, receive}
 use Rattle.session.proofs.Laws.Refusals.{ReceiveTold, receive-told}
 use Rattle.calls.specs.Said.{held}

@@ -1,5 +1,4 @@
 -- `after_header`: the code decides whether the lot is open.
-use mathlib.Core.Path.{_∙_}
 use Rattle.session.specs.Course.{advance}
 use borrow.Author.Needs.{needs}
 use Rattle.calls.proofs.course.after_header.Statement.{statement}

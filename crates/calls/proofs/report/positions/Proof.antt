@@ -1,8 +1,7 @@
 -- `positions`: both differences, which signed numbers of 64 bits hold.
-use mathlib.Core.Path.{_≡_, _∙_}
+use mathlib.Core.Path.{_∙_}
 use mir.Syntax.{w64}
 use mir.Facts.{toZ-ofZ}
-use lib.IntN.{ℤ}
 use borrow.Author.Needs.{needs}
 use Rattle.calls.proofs.report.positions.Statement.{statement}
 use Rattle.calls.proofs.report.positions.Tie as tie

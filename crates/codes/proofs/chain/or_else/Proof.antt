@@ -1,6 +1,5 @@
 -- `or_else`: 0 leads on, any other number ends the chain.
 use mathlib.Core.Path.{sym, _∙_}
-use Prim.Native.Nat.{ℕ}
 use native.Mathlib.Omega.{arith}
 use borrow.Author.Tests.{eqb-true, eqb-false}
 use Rattle.codes.specs.Reply.{codeNumber}

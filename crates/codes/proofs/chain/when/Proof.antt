@@ -1,8 +1,5 @@
 -- `when`: its test decides.
-use mathlib.Core.Path.{sym, ap}
-use mathlib.Core.Bool.{Bool}
 use Rattle.codes.specs.Chain.{_when_}
-use Rattle.codes.specs.Reply.{codeNumber}
 use Rattle.codes.proofs.chain.when.Statement.{statement}
 use Rattle.codes.proofs.chain.when.Tie as tie
 

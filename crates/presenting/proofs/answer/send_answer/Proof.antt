@@ -1,5 +1,5 @@
 -- `send_answer`: what is refused before its code, then the code and the room.
-use mathlib.Core.Path.{_≡_, ap, sym, _∙_}
+use mathlib.Core.Path.{ap, sym, _∙_}
 use mathlib.Core.Bool.{Bool, cond}
 use native.Mathlib.Omega.{arith}
 use borrow.Author.Tests.{ne-eqb}
@@ -8,7 +8,6 @@ use Rattle.codes.specs.Refusal.{refusalNumber}
 use Rattle.codes.specs.Reply.{codeNumber}
 use Rattle.codes.proofs.Laws.Chain.{ends, goes-on}
 use Rattle.codes.proofs.Laws.Refusal.{never-none}
-use Rattle.session.specs.declared.session.Answer.{Answer}
 use Rattle.session.specs.Outcome.{answerNumber, noRoom}
 use Rattle.presenting.proofs.Laws.Send.{refusal-split}
 use borrow.Author.Needs.{needs}

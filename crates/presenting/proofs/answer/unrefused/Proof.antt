@@ -1,11 +1,9 @@
 -- `unrefused`: the code, then the room.
-use mathlib.Core.Path.{_≡_, refl, ap, sym, _∙_}
+use mathlib.Core.Path.{refl, ap, sym, _∙_}
 use mathlib.Core.Bool.{Bool, cond}
-use Prim.Native.Nat.{ℕ}
 use native.Mathlib.Omega.{arith}
-use lib.Dec.{eqb, lit<}
 use borrow.Author.Tests.{lt-ltb, le-ltb, eqb-true, eqb-false}
-use Rattle.codes.specs.Chain.{_when_, _orelse_}
+use Rattle.codes.specs.Chain.{_when_}
 use Rattle.codes.specs.Reply.{codeNumber}
 use Rattle.codes.proofs.Laws.Chain.{ends, goes-on}
 use Rattle.session.specs.Outcome.{noRoom}

@@ -1,12 +1,10 @@
 -- `post`: the envelope, and the session after it.
-use mathlib.Core.Path.{_≡_, ap, _∙_}
+use mathlib.Core.Path.{_≡_, _∙_}
 use Prim.Native.Nat.{suc, _+_}
 use native.Mathlib.Omega.{arith}
 use lib.Seq.{sets}
-use Rattle.message.specs.declared.envelope.Envelope.{Envelope}
 use Rattle.message.specs.declared.envelope.Kind.{Kind}
 use Rattle.message.specs.Envelope.{writtenEnvelope}
-use Rattle.session.specs.Sending.{nextEnvelope}
 use borrow.Author.Needs.{needs}
 use Rattle.presenting.proofs.post.post.Statement.{statement}
 use Rattle.presenting.proofs.post.post.Tie as tie

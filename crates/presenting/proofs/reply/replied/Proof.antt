@@ -1,11 +1,9 @@
 -- `replied`: what is pending may be counted, since the premise says so.
-use mathlib.Core.Path.{_≡_, ap}
+use mathlib.Core.Path.{_≡_}
 use mathlib.Core.Bool.{true, _||_}
 use mathlib.Core.List.{List}
 use Prim.Native.Nat.{ℕ}
 use Rattle.session.specs.declared.effect.Effect.{Effect}
-use Rattle.session.specs.declared.counters.Course.{Course}
-use Rattle.calls.specs.Course.{Countable}
 use Rattle.calls.specs.Said.{held}
 use borrow.Author.Needs.{needs}
 use Rattle.presenting.proofs.reply.replied.Statement.{statement}

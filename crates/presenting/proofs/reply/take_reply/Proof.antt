@@ -12,7 +12,7 @@ use Rattle.message.specs.Route.{sameRoute}
 use Rattle.message.specs.Envelope.{serialOf, envelopeOf, envelopeGood, bodyOf}
 use Rattle.message.specs.Reply.{replyGood}
 use Rattle.session.specs.Course.{Direction}
-use Rattle.session.specs.Outcome.{Outcome, answerNumber, timeRefusal, silent}
+use Rattle.session.specs.Outcome.{answerNumber, timeRefusal, silent}
 use Rattle.session.specs.Reply.{isAwaited, isAccepted, replyRefusal, replied, takeReply}
 use Rattle.session.specs.Engine.{Call, meaning}
 use Rattle.session.proofs.Laws.EveryCall.{kept-beside}

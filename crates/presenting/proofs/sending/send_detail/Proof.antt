@@ -9,7 +9,6 @@ use borrow.Rule.Slice.PartMut.{midOf, putMid}
 use Rattle.packed.proofs.Laws.Part.{part-tail}
 use Rattle.packed.specs.Writing.{packedByte}
 use Rattle.codes.proofs.Laws.Chain.{none-both}
-use Rattle.detail.specs.Limits.{longestPart}
 use Rattle.detail.specs.Codes.{presenterCode}
 use Rattle.detail.specs.Writing.{written}
 use Rattle.detail.proofs.Laws.Codes.{sendable-part, accepted-part}

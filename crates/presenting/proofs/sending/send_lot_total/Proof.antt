@@ -10,7 +10,6 @@ use Rattle.packed.proofs.Laws.Part.{part-tail}
 use Rattle.message.specs.Limits.{lotTotalBytes, envelopeBytes}
 use Rattle.message.specs.Line.{Body, bodyBytes}
 use Rattle.message.proofs.Laws.Line.{body-length}
-use Rattle.amounts.specs.declared.Totals.{Totals}
 use Rattle.session.specs.declared.effect.Effect.{Effect}
 use Rattle.session.specs.Parties.{presentingRoute}
 use Rattle.session.specs.Running.{stated}

@@ -1,5 +1,4 @@
 -- `stored`: the place is set where the lot is accepted.
-use native.Mathlib.Omega.{arith}
 use borrow.Author.Needs.{needs}
 use Rattle.session.specs.Course.{kept}
 use Rattle.receiving.proofs.accepted.stored.Statement.{statement}

@@ -1,7 +1,7 @@
 -- `read_message`: a wrong envelope ends the chain.
-use mathlib.Core.Path.{_≡_, ap, sym, subst, _∙_}
+use mathlib.Core.Path.{ap, sym, subst, _∙_}
 use mathlib.Core.Bool.{Bool, not, _||_}
-use Prim.Native.Nat.{ℕ, suc, _+_}
+use Prim.Native.Nat.{suc, _+_}
 use lib.Dec.{eqb, lit<}
 use Rattle.codes.specs.Chain.{_when_, _orelse_}
 use Rattle.codes.specs.declared.refusal.Refusal.{Refusal}

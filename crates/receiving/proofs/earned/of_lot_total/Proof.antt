@@ -1,10 +1,7 @@
 -- `of_lot_total`: a total that is read goes through the chain; any other body has its own code.
 use mathlib.Core.Path.{_≡_, refl, ap, sym, _∙_}
-use mathlib.Core.Bool.{Bool, not, _&&_}
-use mathlib.Core.List.{[]}
+use mathlib.Core.Bool.{Bool, not}
 use Prim.Native.Nat.{ℕ}
-use native.Mathlib.Omega.{arith}
-use lib.Dec.{eqb}
 use Rattle.codes.specs.Chain.{_when_, _orelse_}
 use Rattle.codes.specs.Reply.{codeNumber}
 use Rattle.codes.specs.Field.{tableNumbers}
@@ -12,7 +9,6 @@ use Rattle.codes.proofs.Laws.Chain.{goes-on}
 use Rattle.amounts.specs.declared.Totals.{Totals}
 use Rattle.amounts.specs.Totals.{same}
 use Rattle.message.specs.declared.total.Total.{Total}
-use Rattle.message.specs.declared.total.ReadTotal.{ReadTotal}
 use Rattle.message.specs.Layout.{bodyCode}
 use Rattle.message.specs.Total.{lotTotal, lotTotalFields, totalOf, totalValues, totalSaid}
 use Rattle.message.proofs.Laws.Reading.{told}

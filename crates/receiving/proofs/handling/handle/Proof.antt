@@ -1,6 +1,6 @@
 -- `handle`: what the message earns, and what that does to the direction.
 use mathlib.Core.Path.{_≡_, sym, ap, subst, _∙_}
-use mathlib.Core.Bool.{Bool, true, _||_}
+use mathlib.Core.Bool.{Bool, _||_}
 use Prim.Native.Nat.{ℕ, suc, _+_}
 use native.Mathlib.Omega.{arith}
 use lib.Dec.{eqb}
@@ -11,10 +11,10 @@ use Rattle.message.specs.Content.{contentOf}
 use Rattle.message.specs.Reply.{replyOperation}
 use Rattle.session.specs.declared.counters.Course.{Course}
 use Rattle.session.specs.Course.{course, advance, ends, kept}
-use Rattle.session.specs.Receiving.{codeBy, effectBy, receivingCourse, receivingAfter}
+use Rattle.session.specs.Receiving.{codeBy, effectBy, receivingAfter}
 use Rattle.calls.specs.Course.{Countable}
-use Rattle.receiving.specs.Earned.{Earns, endsLot}
-use Rattle.receiving.proofs.Laws.Earned.{Alike, alike, countable, free-place}
+use Rattle.receiving.specs.Earned.{Earns}
+use Rattle.receiving.proofs.Laws.Earned.{alike, countable, free-place}
 use borrow.Author.Needs.{needs}
 use Rattle.receiving.proofs.handling.handle.Statement.{statement}
 use Rattle.receiving.proofs.handling.handle.Tie as tie

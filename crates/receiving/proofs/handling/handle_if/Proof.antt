@@ -2,8 +2,6 @@
 use mathlib.Core.Path.{sym, ap, _∙_}
 use mathlib.Core.Bool.{Bool, cond}
 use Rattle.message.specs.Content.{contentOf}
-use Rattle.session.specs.declared.session.Receiving.{Receiving}
-use Rattle.session.specs.Running.{Running}
 use Rattle.session.specs.Receiving.{codeBy, receivingCourse, receivingAfter}
 use borrow.Author.Needs.{needs}
 use Rattle.receiving.proofs.handling.handle_if.Statement.{statement}
