@@ -35,6 +35,7 @@ fn handle(time: u32, body: &[u8], p: Parties, running: Running, r: Receiving) ->
     let accepted = is_accepted(code);
     let counters = r.counters;
     let lots = r.lots;
+    let serial = r.serial + 1;
     let after = advance(effect, accepted, counters, running);
     let counted = after.counters;
     let gathered = after.running;
@@ -44,7 +45,7 @@ fn handle(time: u32, body: &[u8], p: Parties, running: Running, r: Receiving) ->
     };
     Handled {
         receiving: Receiving {
-            serial: r.serial + 1,
+            serial: serial,
             reply: reply,
             counters: counted,
             ended: r.ended | ends(effect, accepted),

@@ -40,16 +40,14 @@ may k =
     let e = found-so k in
     subst (λ (x : Bool). Countable (found .effect) x (a .r .counters) (a .running)) (sym (k .is-accepted .ensures)) (countable (a .time) (a .body .now) (a .p) (a .running) (a .r) (codeNumber (found .code)) (found .effect) (k .before .before .before .before .pre) (e .code) (e .effect))
 
+add-serial : tie.Need-add-serial
+add-serial c = search needs
+
 advance-requires : tie.Need-advance-requires
-advance-requires c κs =
-    let k = c .before .before in
-    may k
+advance-requires c κs = may (c .before .before .before)
 
 reply-operation-requires : tie.Need-reply-operation-requires
 reply-operation-requires c κs = search needs
-
-add-t18 : tie.Need-add-t18
-add-t18 c = search needs
 
 ends-requires : tie.Need-ends-requires
 ends-requires c κs = search needs
@@ -76,9 +74,9 @@ returns c =
     let same = alike (eqb (codeNumber (found .code)) 0) (found .effect) meant (e .effect) in
     let told = ap (λ (n : ℕ). eqb n 0) (e .code) in
     let one-more : r .serial + 1 ≡ suc (r .serial) = omega arith in
-    let operation = c .before .before .before .before .reply-operation .ensures ∙ ap replyOperation (k .before .before .content-of .ensures) in
+    let operation = c .before .before .before .reply-operation .ensures ∙ ap replyOperation (k .before .before .content-of .ensures) in
     let kept-code = sym (number-told (found .code)) ∙ ap codeOf (e .code) in
-    let moved = c .before .before .before .before .before .before .before .advance .ensures ∙ ap (λ (x : Bool). advance (found .effect) x here) accepted ∙ same .moves here ∙ ap (λ (x : Bool). advance meant x here) told in
+    let moved = c .before .before .before .before .before .before .advance .ensures ∙ ap (λ (x : Bool). advance (found .effect) x here) accepted ∙ same .moves here ∙ ap (λ (x : Bool). advance meant x here) told in
     let ended = c .before .before .ends .ensures ∙ ap (ends (found .effect)) accepted ∙ same .ends-so ∙ ap (ends meant) told in
     let places = c .kept .ensures ∙ ap (λ (x : Bool). kept (found .effect) x (r .counters .lots) (r .lots)) accepted ∙ same .keeps-so (r .counters .lots) (r .lots) ∙ ap (λ (x : Bool). kept meant x (r .counters .lots) (r .lots)) told in
     (λ i. record { serial = one-more i; reply = record { operation = operation i; code = kept-code i }; counters = moved i .counters; ended = r .ended || ended i; lots = places i }, ap (λ (x : Course). x .running) moved)
@@ -90,9 +88,9 @@ handle-spec =
     content-of-requires
     earned-requires
     is-accepted-requires
+    add-serial
     advance-requires
     reply-operation-requires
-    add-t18
     ends-requires
     kept-requires
     returns)

@@ -74,7 +74,9 @@ part-body-end : tie.Need-part-body-end
 part-body-end c = search needs
 
 handle-if-requires : tie.Need-handle-if-requires
-handle-if-requires c κs = search needs
+handle-if-requires c κs =
+    let g = c .before .before .before .before .before .before .before .before .before .before .before .before .pre in
+    record { represented = g .0 .parties .represented; serial = g .0 .received; counters = g .0 .receiving; places = g .0 .places; running = g .1 .fits }
 
 write-reply-requires : tie.Need-write-reply-requires
 write-reply-requires c κs = passed (c .before .before .before .before .before .before) .room
