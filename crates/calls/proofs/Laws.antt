@@ -2,3 +2,4 @@
 pub mod Course
 pub mod Said
 pub mod Arrival
+pub mod Detail

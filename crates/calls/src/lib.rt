@@ -5,6 +5,7 @@
 pub mod answer;
 pub mod clock;
 pub mod course;
+pub mod details;
 pub mod report;
 pub mod sequence;
 pub mod time;

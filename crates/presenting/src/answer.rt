@@ -34,6 +34,15 @@ pub struct SendOutcome {
     pub session: Session,
 }
 
+pub fn outcome(answer: SendAnswer, session: Session) -> SendOutcome
+    ensures { λ r. ⌜ r ≡ record { answer = answer; session = session } ⌝ }
+{
+    SendOutcome {
+        answer: answer,
+        session: session,
+    }
+}
+
 // The paper's number, 0 for a message that is written.
 pub fn send_number(a: SendAnswer) -> u8
     ensures { λ r. ⌜ r ≡ sendNumber a ⌝ }

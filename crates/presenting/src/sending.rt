@@ -1,6 +1,7 @@
 // The four calls that send a message. Each stands whole at the start of the line buffer; nothing is counted before its
 // reply.
 use crate::answer::SendOutcome;
+use crate::answer::outcome;
 use crate::answer::send_answer;
 use crate::answer::send_number;
 use crate::post::post;
@@ -70,15 +71,9 @@ pub fn send_header(
             presenting_route(parties),
             header,
         );
-        return SendOutcome {
-            answer: answer,
-            session: next,
-        };
+        return outcome(answer, next);
     }
-    SendOutcome {
-        answer: answer,
-        session: session,
-    }
+    outcome(answer, session)
 }
 
 // Presents the documents of a part. They are read once and then copied once.
@@ -114,15 +109,9 @@ pub fn send_detail(
             packed_byte(operation as u64),
             part,
         );
-        return SendOutcome {
-            answer: answer,
-            session: next,
-        };
+        return outcome(answer, next);
     }
-    SendOutcome {
-        answer: answer,
-        session: session,
-    }
+    outcome(answer, session)
 }
 
 // The number of an open lot; 0 where there is none, and then no total is written.
@@ -165,15 +154,9 @@ pub fn send_lot_total(session: Session, running: Running, time: u32, line: &mut 
             stated: stated(running),
         };
         write_lot_total(&mut line[ENVELOPE_BYTES..], total);
-        return SendOutcome {
-            answer: answer,
-            session: next,
-        };
+        return outcome(answer, next);
     }
-    SendOutcome {
-        answer: answer,
-        session: session,
-    }
+    outcome(answer, session)
 }
 
 // Ends the direction with what its accepted lots have gathered. No running totals are asked for.
@@ -196,13 +179,7 @@ pub fn send_session_total(session: Session, time: u32, line: &mut [u8]) -> SendO
             stated: stated(gathered),
         };
         write_session_total(&mut line[ENVELOPE_BYTES..], total);
-        return SendOutcome {
-            answer: answer,
-            session: next,
-        };
+        return outcome(answer, next);
     }
-    SendOutcome {
-        answer: answer,
-        session: session,
-    }
+    outcome(answer, session)
 }

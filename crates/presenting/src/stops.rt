@@ -1,16 +1,14 @@
 // The codes that a presenter applies to itself: never 04, 06, 08, nor that no detail was accepted.
+use calls::details::detail_code;
 use calls::sequence::header_sequence;
-use calls::sequence::lot_sequence;
 use codes::chain::or_else;
 use codes::chain::when;
 use codes::reply::Code;
 use detail::reading::read_part;
 use message::header::sendable;
 use session::counters::Running;
-use session::counters::documents_in;
 use session::hours::presenter_late;
 use session::limits::lots_used;
-use session::limits::passes_lot;
 use session::session::Presenting;
 ghost use mathlib.Core.Path.{_≡_};
 ghost use Rattle.codes.specs.Reply.{codeNumber};
@@ -55,16 +53,7 @@ pub fn detail_stop(
     let code = read.code;
     let adds = read.totals;
     PartStop {
-        code: or_else(
-            code,
-            or_else(
-                lot_sequence(p.ended, lot),
-                when(
-                    Code::TooManyDocuments,
-                    passes_lot(documents_in(running), documents_in(adds)),
-                ),
-            ),
-        ),
+        code: detail_code(code, p.ended, lot, running, adds),
         adds: adds,
     }
 }

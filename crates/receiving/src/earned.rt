@@ -1,7 +1,7 @@
 // What each message earns, in the paper's order, and what it does once that is known.
 use crate::accepted::look_up;
+use calls::details::detail_code;
 use calls::sequence::header_sequence;
-use calls::sequence::lot_sequence;
 use calls::sequence::lot_total_sequence;
 use calls::sequence::session_total_sequence;
 use codes::chain::or_else;
@@ -17,13 +17,11 @@ use message::total::read_lot_total;
 use message::total::read_session_total;
 use session::counters::Lot;
 use session::counters::Running;
-use session::counters::documents_in;
 use session::counters::empty;
 use session::counters::stated;
 use session::effect::Effect;
 use session::hours::receiver_late;
 use session::limits::lots_used;
-use session::limits::passes_lot;
 use session::parties::Parties;
 use session::session::Receiving;
 ghost use mathlib.Core.Path.{_≡_};
@@ -94,16 +92,7 @@ fn of_detail(time: u32, body: &[u8], p: Parties, running: Running, r: Receiving)
     let code = read.code;
     let adds = read.totals;
     Found {
-        code: or_else(
-            code,
-            or_else(
-                lot_sequence(r.ended, lot),
-                when(
-                    Code::TooManyDocuments,
-                    passes_lot(documents_in(running), documents_in(adds)),
-                ),
-            ),
-        ),
+        code: detail_code(code, r.ended, lot, running, adds),
         effect: Effect::Detail(adds),
     }
 }

@@ -1,6 +1,7 @@
 // Receiving.
 use crate::arrival::read_message;
 use crate::earned::receiving_route;
+use crate::handling::Handled;
 use crate::handling::handle_if;
 use calls::answer::answer_number;
 use calls::answer::or_refused;
@@ -13,8 +14,14 @@ use session::counters::Running;
 use session::session::Answer;
 use session::session::Session;
 ghost use mathlib.Core.Path.{_≡_};
+ghost use Prim.Native.Nat.{_+_, _≤_};
+ghost use lib.ListN.{length};
+ghost use lib.Seq.{sets};
+ghost use Rattle.message.specs.Limits.{envelopeBytes, replyBytes};
+ghost use Rattle.message.specs.Line.{wholeReply};
+ghost use Rattle.session.specs.Parties.{receivingRoute};
 ghost use Rattle.session.specs.Course.{Direction};
-ghost use Rattle.session.specs.Receiving.{receive};
+ghost use Rattle.session.specs.Receiving.{withReceiving, receive};
 ghost use Rattle.session.specs.Premise.{Sound, Carried, KeptBeside};
 ghost use Rattle.calls.specs.Said.{held};
 ghost use Rattle.receiving.specs.Said.{receiveSaid};
@@ -26,6 +33,37 @@ pub struct ReceiveOutcome {
     pub written: usize,
     pub session: Session,
     pub running: Running,
+}
+
+// Writes the reply that is kept after a message, new or again, and gives what the call leaves.
+fn replying(session: Session, time: u32, after: Handled, line: &mut [u8]) -> ReceiveOutcome
+    requires { ⌜ envelopeBytes + replyBytes ≤ length (now line) ⌝ }
+    ensures result { λ r. ⌜ r ≡ record { answer = Answer.Done; written = envelopeBytes + replyBytes; session = withReceiving time (after .receiving) session; running = after .running } ⌝ }
+    ensures line { λ _. ⌜ now (line .exit) ≡ sets (now (line .entry)) 0 (wholeReply (record { route = receivingRoute (session .parties); serial = after .receiving .serial }) (after .receiving .reply)) ⌝ }
+{
+    let parties = session.parties;
+    let presenting = session.presenting;
+    let receiving = after.receiving;
+    let running = after.running;
+    let close = session.close;
+    let reply = receiving.reply;
+    let envelope = Envelope {
+        route: receiving_route(parties),
+        serial: receiving.serial,
+    };
+    write_reply(line, envelope, reply);
+    ReceiveOutcome {
+        answer: Answer::Done,
+        written: ENVELOPE_BYTES + REPLY_BYTES,
+        session: Session {
+            parties: parties,
+            presenting: presenting,
+            receiving: receiving,
+            seen: time,
+            close: close,
+        },
+        running: running,
+    }
 }
 
 // Takes a message of any bytes and writes the reply to it.
@@ -42,36 +80,15 @@ pub fn receive(
     ensures premise { λ r. ⌜ KeptBeside Direction.receiving session (r .session) (r .running) ⌝ }
 {
     let parties = session.parties;
-    let presenting = session.presenting;
     let last = session.receiving;
     let close = session.close;
-    let route = receiving_route(parties);
-    let arrived = read_message(message, route, last.serial, line.len());
+    let arrived = read_message(message, receiving_route(parties), last.serial, line.len());
     let found = arrived.answer;
     let answer = or_refused(time_refusal(time, session.seen, close), found);
     if answer_number(answer) == 0 {
         let body = &message[ENVELOPE_BYTES..];
-        let handled = handle_if(arrived.fresh, time, body, parties, running, last);
-        let receiving = handled.receiving;
-        let gathered = handled.running;
-        let reply = receiving.reply;
-        let envelope = Envelope {
-            route: route,
-            serial: receiving.serial,
-        };
-        write_reply(line, envelope, reply);
-        return ReceiveOutcome {
-            answer: answer,
-            written: ENVELOPE_BYTES + REPLY_BYTES,
-            session: Session {
-                parties: parties,
-                presenting: presenting,
-                receiving: receiving,
-                seen: time,
-                close: close,
-            },
-            running: gathered,
-        };
+        let after = handle_if(arrived.fresh, time, body, parties, running, last);
+        return replying(session, time, after, line);
     }
     ReceiveOutcome {
         answer: answer,

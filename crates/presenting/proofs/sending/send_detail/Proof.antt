@@ -24,7 +24,8 @@ use Rattle.session.specs.Engine.{Call, meaning}
 use Rattle.session.proofs.Laws.EveryCall.{kept-beside}
 use Rattle.calls.specs.Said.{held}
 use Rattle.calls.proofs.Laws.Said.{so-kept-beside}
-use Rattle.presenting.specs.Said.{sendNumber, sendWritten}
+use Rattle.presenting.specs.declared.answer.SendOutcome.{SendOutcome}
+use Rattle.presenting.specs.Said.{sendNumber, sendSaid}
 use Rattle.presenting.proofs.Laws.Send.{Answered, serial-left, unstopped, room, posted-so, unposted}
 use borrow.Author.Needs.{needs}
 use Rattle.presenting.proofs.sending.send_detail.Statement.{statement}
@@ -110,33 +111,40 @@ write-detail-requires c κs =
     let same = ap (λ (o : ℕ). length (written o (t .before .before .before .before .before .before .before .before .before .args .part .now))) (c .packed-byte .ensures) in
     omega (arith, fits t, c .before .before .before .before .post .kept .1 .1 .1 .0, tail, same)
 
+outcome-requires : tie.Need-outcome-requires
+outcome-requires c κs = search needs
+
 same-length : tie.Need-same-length
 same-length c = search needs
 
 returns : tie.Need-returns
 unfolding sendDetail meaning
 returns c =
-    let t = c .before .before .before .before .before .before .before .before .before in
+    let t = c .before .before .before .before .before .before .before .before .before .before in
     let k = t .before in
     let a = k .before .before .before .before .before .before .before .before .args in
-    let posting = c .before .before .before .before .before .before .before .post in
+    let posting = c .before .before .before .before .before .before .before .before .post in
     let first = posting .last .1 .1 .1 .0 in
-    let writing = c .before .before .write-detail in
+    let writing = c .before .before .before .write-detail in
     let answer = k .before .send-answer .result in
     let next = posting .ensures .0 ∙ ap (λ (x : Running). sent (a .time) (Effect.Detail x) (a .session)) (k .before .before .before .before .detail-stop .ensures .1 (k .before .before .before .before .detail-stop .ensures .0 ∙ unstopped (a .time) (code k) (effect k) (body k) (a .session) (a .running) (a .line .now) answer (answered k) (none t))) in
-    let tail = writing .ensures .1 ∙ ap (λ (o : ℕ). sets (midOf envelopeBytes (length first - envelopeBytes) first) 0 (written o (a .part .now))) (c .before .before .before .packed-byte .ensures) in
-    let said : record { number = sendNumber answer; written = sendWritten answer; left = held (posting .result) (a .running) (putMid envelopeBytes (length first - envelopeBytes) first (writing .last .0)) } ≡ meant k = posted-so (a .time) (code k) (effect k) (body k) (a .session) (a .running) (a .line .now) answer (answered k) (none t) (posting .result) first (writing .last .0) next (posting .ensures .1) tail in
-    (said, so-kept-beside (a .session) _ _ said Direction.presenting (kept-beside (Call.detail (a .time) (a .operation) (a .part .now)) (held (a .session) (a .running) (a .line .now)) (record { sound = k .before .before .before .before .before .before .before .before .pre .0; carried = k .before .before .before .before .before .before .before .before .pre .1 })))
+    let tail = writing .ensures .1 ∙ ap (λ (o : ℕ). sets (midOf envelopeBytes (length first - envelopeBytes) first) 0 (written o (a .part .now))) (c .before .before .before .before .packed-byte .ensures) in
+    let after = putMid envelopeBytes (length first - envelopeBytes) first (writing .last .0) in
+    let whole : sendSaid (c .outcome .result) (a .running) after ≡ meant k = ap (λ (x : SendOutcome). sendSaid x (a .running) after) (c .outcome .ensures) ∙ posted-so (a .time) (code k) (effect k) (body k) (a .session) (a .running) (a .line .now) answer (answered k) (none t) (posting .result) first (writing .last .0) next (posting .ensures .1) tail in
+    (whole, so-kept-beside (a .session) _ _ whole Direction.presenting (kept-beside (Call.detail (a .time) (a .operation) (a .part .now)) (held (a .session) (a .running) (a .line .now)) (record { sound = k .before .before .before .before .before .before .before .before .pre .0; carried = k .before .before .before .before .before .before .before .before .pre .1 })))
+
+outcome-requires-2 : tie.Need-outcome-requires-2
+outcome-requires-2 c κs = search needs
 
 returns-2 : tie.Need-returns-2
 unfolding sendDetail meaning
 returns-2 c =
-    let k = c .before in
+    let k = c .before .before in
     let a = k .before .before .before .before .before .before .before .before .args in
     let answer = k .before .send-answer .result in
-    let some : sendNumber answer ≡ 0 → ⊥ = λ (e : sendNumber answer ≡ 0). c .if1 .left (k .send-number .ensures ∙ e) in
-    let said : record { number = sendNumber answer; written = sendWritten answer; left = held (a .session) (a .running) (a .line .now) } ≡ meant k = unposted (a .time) (code k) (effect k) (body k) (a .session) (a .running) (a .line .now) answer (answered k) some in
-    (said, so-kept-beside (a .session) _ _ said Direction.presenting (kept-beside (Call.detail (a .time) (a .operation) (a .part .now)) (held (a .session) (a .running) (a .line .now)) (record { sound = k .before .before .before .before .before .before .before .before .pre .0; carried = k .before .before .before .before .before .before .before .before .pre .1 })))
+    let some : sendNumber answer ≡ 0 → ⊥ = λ (e : sendNumber answer ≡ 0). c .before .if1 .left (k .send-number .ensures ∙ e) in
+    let whole : sendSaid (c .outcome2 .result) (a .running) (a .line .now) ≡ meant k = ap (λ (x : SendOutcome). sendSaid x (a .running) (a .line .now)) (c .outcome2 .ensures) ∙ unposted (a .time) (code k) (effect k) (body k) (a .session) (a .running) (a .line .now) answer (answered k) some in
+    (whole, so-kept-beside (a .session) _ _ whole Direction.presenting (kept-beside (Call.detail (a .time) (a .operation) (a .part .now)) (held (a .session) (a .running) (a .line .now)) (record { sound = k .before .before .before .before .before .before .before .before .pre .0; carried = k .before .before .before .before .before .before .before .before .pre .1 })))
 
 pub send-detail-spec : {M : Type 1} → statement M
 send-detail-spec =
@@ -153,6 +161,8 @@ send-detail-spec =
     part-write-detail-end
     packed-byte-requires
     write-detail-requires
+    outcome-requires
     same-length
     returns
+    outcome-requires-2
     returns-2)

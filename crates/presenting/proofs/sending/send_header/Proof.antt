@@ -19,7 +19,8 @@ use Rattle.session.specs.Sending.{headerStop, sendRefusal, sendHeader}
 use Rattle.session.proofs.Laws.EveryCall.{header-kept}
 use Rattle.calls.specs.Said.{held}
 use Rattle.calls.proofs.Laws.Said.{so-kept}
-use Rattle.presenting.specs.Said.{sendNumber, sendWritten}
+use Rattle.presenting.specs.declared.answer.SendOutcome.{SendOutcome}
+use Rattle.presenting.specs.Said.{sendNumber, sendSaid}
 use Rattle.presenting.proofs.Laws.Send.{Answered, fixed-size, serial-left, room, posted-so, unposted}
 use borrow.Author.Needs.{needs}
 use Rattle.presenting.proofs.sending.send_header.Statement.{statement}
@@ -91,33 +92,40 @@ write-header-requires c κs =
     let a = c .before .before .before .before .before .before .before .before .before .before .before .before .before .args in
     omega (arith, fits (c .before .before .before .before .before .before), c .before .before .before .before .post .kept .1 .1 .1 .0, tail, body-length (presentingRoute (a .session .parties)) (Body.opening (record { time = a .moment; centre = a .centre; number = a .number })))
 
+outcome-requires : tie.Need-outcome-requires
+outcome-requires c κs = search needs
+
 same-length : tie.Need-same-length
 same-length c = search needs
 
 returns : tie.Need-returns
 unfolding sendHeader bodyBytes
 returns c =
-    let t = c .before .before .before .before .before .before .before .before .before in
+    let t = c .before .before .before .before .before .before .before .before .before .before in
     let k = t .before in
     let a = k .before .before .before .before .before .before .args in
-    let posting = c .before .before .before .before .before .before .before .post in
+    let posting = c .before .before .before .before .before .before .before .before .post in
     let first = posting .last .1 .1 .1 .0 in
-    let writing = c .before .before .write-header in
+    let writing = c .before .before .before .write-header in
     let answer = k .before .send-answer .result in
     let next = posting .ensures .0 in
-    let tail = writing .ensures ∙ ap (λ (r : Route). sets (midOf envelopeBytes (length first - envelopeBytes) first) 0 (bodyBytes r (Body.opening (record { time = a .moment; centre = a .centre; number = a .number })))) (c .before .before .before .presenting-route .ensures) in
-    let said : (u : Running) → record { number = sendNumber answer; written = sendWritten answer; left = held (posting .result) u (putMid envelopeBytes (length first - envelopeBytes) first (writing .last .0)) } ≡ meant k u = λ (u : Running). posted-so (a .time) (code k) (effect k) (body k) (a .session) u (a .line .now) answer (answered k) (none t) (posting .result) first (writing .last .0) next (posting .ensures .1) tail in
-    (said, so-kept (a .session) _ _ (said empty) (header-kept (a .time) (a .moment) (a .centre) (a .number) (held (a .session) empty (a .line .now)) (k .before .before .before .before .before .before .pre)))
+    let tail = writing .ensures ∙ ap (λ (r : Route). sets (midOf envelopeBytes (length first - envelopeBytes) first) 0 (bodyBytes r (Body.opening (record { time = a .moment; centre = a .centre; number = a .number })))) (c .before .before .before .before .presenting-route .ensures) in
+    let after = putMid envelopeBytes (length first - envelopeBytes) first (writing .last .0) in
+    let whole : (u : Running) → sendSaid (c .outcome .result) u after ≡ meant k u = λ (u : Running). ap (λ (x : SendOutcome). sendSaid x u after) (c .outcome .ensures) ∙ posted-so (a .time) (code k) (effect k) (body k) (a .session) u (a .line .now) answer (answered k) (none t) (posting .result) first (writing .last .0) next (posting .ensures .1) tail in
+    (whole, so-kept (a .session) _ _ (whole empty) (header-kept (a .time) (a .moment) (a .centre) (a .number) (held (a .session) empty (a .line .now)) (k .before .before .before .before .before .before .pre)))
+
+outcome-requires-2 : tie.Need-outcome-requires-2
+outcome-requires-2 c κs = search needs
 
 returns-2 : tie.Need-returns-2
 unfolding sendHeader bodyBytes
 returns-2 c =
-    let k = c .before in
+    let k = c .before .before in
     let a = k .before .before .before .before .before .before .args in
     let answer = k .before .send-answer .result in
-    let some : sendNumber answer ≡ 0 → ⊥ = λ (e : sendNumber answer ≡ 0). c .if1 .left (k .send-number .ensures ∙ e) in
-    let said : (u : Running) → record { number = sendNumber answer; written = sendWritten answer; left = held (a .session) u (a .line .now) } ≡ meant k u = λ (u : Running). unposted (a .time) (code k) (effect k) (body k) (a .session) u (a .line .now) answer (answered k) some in
-    (said, so-kept (a .session) _ _ (said empty) (header-kept (a .time) (a .moment) (a .centre) (a .number) (held (a .session) empty (a .line .now)) (k .before .before .before .before .before .before .pre)))
+    let some : sendNumber answer ≡ 0 → ⊥ = λ (e : sendNumber answer ≡ 0). c .before .if1 .left (k .send-number .ensures ∙ e) in
+    let whole : (u : Running) → sendSaid (c .outcome2 .result) u (a .line .now) ≡ meant k u = λ (u : Running). ap (λ (x : SendOutcome). sendSaid x u (a .line .now)) (c .outcome2 .ensures) ∙ unposted (a .time) (code k) (effect k) (body k) (a .session) u (a .line .now) answer (answered k) some in
+    (whole, so-kept (a .session) _ _ (whole empty) (header-kept (a .time) (a .moment) (a .centre) (a .number) (held (a .session) empty (a .line .now)) (k .before .before .before .before .before .before .pre)))
 
 pub send-header-spec : {M : Type 1} → statement M
 send-header-spec =
@@ -133,6 +141,8 @@ send-header-spec =
     part-write-header-end
     presenting-route-requires
     write-header-requires
+    outcome-requires
     same-length
     returns
+    outcome-requires-2
     returns-2)

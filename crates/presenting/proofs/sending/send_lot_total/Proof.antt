@@ -20,7 +20,8 @@ use Rattle.session.specs.Engine.{Call, meaning}
 use Rattle.session.proofs.Laws.EveryCall.{kept-beside}
 use Rattle.calls.specs.Said.{held}
 use Rattle.calls.proofs.Laws.Said.{so-kept-beside}
-use Rattle.presenting.specs.Said.{sendNumber, sendWritten}
+use Rattle.presenting.specs.declared.answer.SendOutcome.{SendOutcome}
+use Rattle.presenting.specs.Said.{sendNumber, sendSaid}
 use Rattle.presenting.proofs.Laws.Send.{Answered, fixed-size, serial-left, room, posted-so, unposted}
 use borrow.Author.Needs.{needs}
 use Rattle.presenting.proofs.sending.send_lot_total.Statement.{statement}
@@ -96,33 +97,40 @@ write-lot-total-requires c κs =
     let a = c .before .before .before .before .before .before .before .before .before .before .before .before .before .before .args in
     omega (arith, fits (c .before .before .before .before .before .before), c .before .before .before .before .post .kept .1 .1 .1 .0, tail, body-length (presentingRoute (a .session .parties)) (Body.lotEnding (record { number = openNumber (a .session .presenting .counters .current); stated = stated (a .running) })))
 
+outcome-requires : tie.Need-outcome-requires
+outcome-requires c κs = search needs
+
 same-length : tie.Need-same-length
 same-length c = search needs
 
 returns : tie.Need-returns
 unfolding sendLotTotal bodyBytes meaning
 returns c =
-    let t = c .before .before .before .before .before .before .before .before .before in
+    let t = c .before .before .before .before .before .before .before .before .before .before in
     let k = t .before in
     let a = k .before .before .before .before .before .before .before .args in
-    let posting = c .before .before .before .before .before .before .before .post in
+    let posting = c .before .before .before .before .before .before .before .before .post in
     let first = posting .last .1 .1 .1 .0 in
-    let writing = c .before .before .write-lot-total in
+    let writing = c .before .before .before .write-lot-total in
     let answer = k .before .send-answer .result in
     let next = posting .ensures .0 ∙ ap (λ (n : ℕ). sent (a .time) (Effect.LotTotal (record { number = n; gathered = a .running })) (a .session)) (k .before .before .before .open-number .ensures) in
-    let tail = writing .ensures ∙ λ i. sets (midOf envelopeBytes (length first - envelopeBytes) first) 0 (bodyBytes (presentingRoute (a .session .parties)) (Body.lotEnding (record { number = k .before .before .before .open-number .ensures i; stated = c .before .before .before .before .stated .ensures i }))) in
-    let said : record { number = sendNumber answer; written = sendWritten answer; left = held (posting .result) (a .running) (putMid envelopeBytes (length first - envelopeBytes) first (writing .last .0)) } ≡ meant k = posted-so (a .time) (code k) (effect k) (body k) (a .session) (a .running) (a .line .now) answer (answered k) (none t) (posting .result) first (writing .last .0) next (posting .ensures .1) tail in
-    (said, so-kept-beside (a .session) _ _ said Direction.presenting (kept-beside (Call.lotTotal (a .time)) (held (a .session) (a .running) (a .line .now)) (record { sound = k .before .before .before .before .before .before .before .pre .0; carried = k .before .before .before .before .before .before .before .pre .1 })))
+    let tail = writing .ensures ∙ λ i. sets (midOf envelopeBytes (length first - envelopeBytes) first) 0 (bodyBytes (presentingRoute (a .session .parties)) (Body.lotEnding (record { number = k .before .before .before .open-number .ensures i; stated = c .before .before .before .before .before .stated .ensures i }))) in
+    let after = putMid envelopeBytes (length first - envelopeBytes) first (writing .last .0) in
+    let whole : sendSaid (c .outcome .result) (a .running) after ≡ meant k = ap (λ (x : SendOutcome). sendSaid x (a .running) after) (c .outcome .ensures) ∙ posted-so (a .time) (code k) (effect k) (body k) (a .session) (a .running) (a .line .now) answer (answered k) (none t) (posting .result) first (writing .last .0) next (posting .ensures .1) tail in
+    (whole, so-kept-beside (a .session) _ _ whole Direction.presenting (kept-beside (Call.lotTotal (a .time)) (held (a .session) (a .running) (a .line .now)) (record { sound = k .before .before .before .before .before .before .before .pre .0; carried = k .before .before .before .before .before .before .before .pre .1 })))
+
+outcome-requires-2 : tie.Need-outcome-requires-2
+outcome-requires-2 c κs = search needs
 
 returns-2 : tie.Need-returns-2
 unfolding sendLotTotal bodyBytes meaning
 returns-2 c =
-    let k = c .before in
+    let k = c .before .before in
     let a = k .before .before .before .before .before .before .before .args in
     let answer = k .before .send-answer .result in
-    let some : sendNumber answer ≡ 0 → ⊥ = λ (e : sendNumber answer ≡ 0). c .if1 .left (k .send-number .ensures ∙ e) in
-    let said : record { number = sendNumber answer; written = sendWritten answer; left = held (a .session) (a .running) (a .line .now) } ≡ meant k = unposted (a .time) (code k) (effect k) (body k) (a .session) (a .running) (a .line .now) answer (answered k) some in
-    (said, so-kept-beside (a .session) _ _ said Direction.presenting (kept-beside (Call.lotTotal (a .time)) (held (a .session) (a .running) (a .line .now)) (record { sound = k .before .before .before .before .before .before .before .pre .0; carried = k .before .before .before .before .before .before .before .pre .1 })))
+    let some : sendNumber answer ≡ 0 → ⊥ = λ (e : sendNumber answer ≡ 0). c .before .if1 .left (k .send-number .ensures ∙ e) in
+    let whole : sendSaid (c .outcome2 .result) (a .running) (a .line .now) ≡ meant k = ap (λ (x : SendOutcome). sendSaid x (a .running) (a .line .now)) (c .outcome2 .ensures) ∙ unposted (a .time) (code k) (effect k) (body k) (a .session) (a .running) (a .line .now) answer (answered k) some in
+    (whole, so-kept-beside (a .session) _ _ whole Direction.presenting (kept-beside (Call.lotTotal (a .time)) (held (a .session) (a .running) (a .line .now)) (record { sound = k .before .before .before .before .before .before .before .pre .0; carried = k .before .before .before .before .before .before .before .pre .1 })))
 
 pub send-lot-total-spec : {M : Type 1} → statement M
 send-lot-total-spec =
@@ -139,6 +147,8 @@ send-lot-total-spec =
     part-write-lot-total-start
     part-write-lot-total-end
     write-lot-total-requires
+    outcome-requires
     same-length
     returns
+    outcome-requires-2
     returns-2)

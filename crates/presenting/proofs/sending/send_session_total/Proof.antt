@@ -19,7 +19,8 @@ use Rattle.session.specs.Sending.{sessionTotalStop, sendRefusal, sendSessionTot
 use Rattle.session.proofs.Laws.EveryCall.{session-total-kept}
 use Rattle.calls.specs.Said.{held}
 use Rattle.calls.proofs.Laws.Said.{so-kept}
-use Rattle.presenting.specs.Said.{sendNumber, sendWritten}
+use Rattle.presenting.specs.declared.answer.SendOutcome.{SendOutcome}
+use Rattle.presenting.specs.Said.{sendNumber, sendSaid}
 use Rattle.presenting.proofs.Laws.Send.{Answered, fixed-size, serial-left, room, posted-so, unposted}
 use borrow.Author.Needs.{needs}
 use Rattle.presenting.proofs.sending.send_session_total.Statement.{statement}
@@ -95,33 +96,40 @@ write-session-total-requires c κs =
     let a = c .before .before .before .before .before .before .before .before .before .before .before .before .before .before .before .args in
     omega (arith, fits (c .before .before .before .before .before .before .before), c .before .before .before .before .before .post .kept .1 .1 .1 .0, tail, body-length (presentingRoute (a .session .parties)) (Body.sessionEnding (record { number = a .session .presenting .counters .lots; stated = stated (a .session .presenting .counters .gathered) })))
 
+outcome-requires : tie.Need-outcome-requires
+outcome-requires c κs = search needs
+
 same-length : tie.Need-same-length
 same-length c = search needs
 
 returns : tie.Need-returns
 unfolding sendSessionTotal bodyBytes
 returns c =
-    let t = c .before .before .before .before .before .before .before .before .before .before in
+    let t = c .before .before .before .before .before .before .before .before .before .before .before in
     let k = t .before in
     let a = k .before .before .before .before .before .before .before .args in
-    let posting = c .before .before .before .before .before .before .before .before .post in
+    let posting = c .before .before .before .before .before .before .before .before .before .post in
     let first = posting .last .1 .1 .1 .0 in
-    let writing = c .before .before .write-session-total in
+    let writing = c .before .before .before .write-session-total in
     let answer = k .before .send-answer .result in
     let next = posting .ensures .0 in
-    let tail = writing .ensures ∙ ap (λ (x : Totals). sets (midOf envelopeBytes (length first - envelopeBytes) first) 0 (bodyBytes (presentingRoute (a .session .parties)) (Body.sessionEnding (record { number = a .session .presenting .counters .lots; stated = x })))) (c .before .before .before .before .stated .ensures) in
-    let said : (u : Running) → record { number = sendNumber answer; written = sendWritten answer; left = held (posting .result) u (putMid envelopeBytes (length first - envelopeBytes) first (writing .last .0)) } ≡ meant k u = λ (u : Running). posted-so (a .time) (code k) (effect k) (body k) (a .session) u (a .line .now) answer (answered k) (none t) (posting .result) first (writing .last .0) next (posting .ensures .1) tail in
-    (said, so-kept (a .session) _ _ (said empty) (session-total-kept (a .time) (held (a .session) empty (a .line .now)) (k .before .before .before .before .before .before .before .pre)))
+    let tail = writing .ensures ∙ ap (λ (x : Totals). sets (midOf envelopeBytes (length first - envelopeBytes) first) 0 (bodyBytes (presentingRoute (a .session .parties)) (Body.sessionEnding (record { number = a .session .presenting .counters .lots; stated = x })))) (c .before .before .before .before .before .stated .ensures) in
+    let after = putMid envelopeBytes (length first - envelopeBytes) first (writing .last .0) in
+    let whole : (u : Running) → sendSaid (c .outcome .result) u after ≡ meant k u = λ (u : Running). ap (λ (x : SendOutcome). sendSaid x u after) (c .outcome .ensures) ∙ posted-so (a .time) (code k) (effect k) (body k) (a .session) u (a .line .now) answer (answered k) (none t) (posting .result) first (writing .last .0) next (posting .ensures .1) tail in
+    (whole, so-kept (a .session) _ _ (whole empty) (session-total-kept (a .time) (held (a .session) empty (a .line .now)) (k .before .before .before .before .before .before .before .pre)))
+
+outcome-requires-2 : tie.Need-outcome-requires-2
+outcome-requires-2 c κs = search needs
 
 returns-2 : tie.Need-returns-2
 unfolding sendSessionTotal bodyBytes
 returns-2 c =
-    let k = c .before in
+    let k = c .before .before in
     let a = k .before .before .before .before .before .before .before .args in
     let answer = k .before .send-answer .result in
-    let some : sendNumber answer ≡ 0 → ⊥ = λ (e : sendNumber answer ≡ 0). c .if1 .left (k .send-number .ensures ∙ e) in
-    let said : (u : Running) → record { number = sendNumber answer; written = sendWritten answer; left = held (a .session) u (a .line .now) } ≡ meant k u = λ (u : Running). unposted (a .time) (code k) (effect k) (body k) (a .session) u (a .line .now) answer (answered k) some in
-    (said, so-kept (a .session) _ _ (said empty) (session-total-kept (a .time) (held (a .session) empty (a .line .now)) (k .before .before .before .before .before .before .before .pre)))
+    let some : sendNumber answer ≡ 0 → ⊥ = λ (e : sendNumber answer ≡ 0). c .before .if1 .left (k .send-number .ensures ∙ e) in
+    let whole : (u : Running) → sendSaid (c .outcome2 .result) u (a .line .now) ≡ meant k u = λ (u : Running). ap (λ (x : SendOutcome). sendSaid x u (a .line .now)) (c .outcome2 .ensures) ∙ unposted (a .time) (code k) (effect k) (body k) (a .session) u (a .line .now) answer (answered k) some in
+    (whole, so-kept (a .session) _ _ (whole empty) (session-total-kept (a .time) (held (a .session) empty (a .line .now)) (k .before .before .before .before .before .before .before .pre)))
 
 pub send-session-total-spec : {M : Type 1} → statement M
 send-session-total-spec =
@@ -138,6 +146,8 @@ send-session-total-spec =
     part-write-session-total-start
     part-write-session-total-end
     write-session-total-requires
+    outcome-requires
     same-length
     returns
+    outcome-requires-2
     returns-2)

@@ -1,0 +1,23 @@
+-- The code of a detail asks what its documents add only where its bytes earn none, and there the reading has told it.
+use mathlib.Core.Path.{_≡_, ap, sym, _∙_}
+use mathlib.Core.Bool.{cond}
+use Prim.Native.Nat.{ℕ, _+_}
+use lib.Dec.{eqb}
+use Rattle.amounts.specs.Totals.{zeros}
+use Rattle.codes.specs.Chain.{_when_, _orelse_}
+use Rattle.codes.proofs.Laws.Chain.{none-both, rest-same}
+use Rattle.session.specs.Limits.{passesLot}
+use Rattle.session.specs.Running.{Running, documentsIn}
+
+module _ (bytes place : ℕ) (t adds meant : Running) (read : adds ≡ cond (eqb bytes 0) meant zeros) where
+  abbrev rest : Running → ℕ
+  rest more = place orelse 12 when passesLot (documentsIn t + documentsIn more)
+
+  told : bytes ≡ 0 → adds ≡ meant
+  told e = read ∙ ap (λ (n : ℕ). cond (eqb n 0) meant zeros) e
+
+  pub detail-chain : (bytes orelse rest adds) ≡ (bytes orelse rest meant)
+  detail-chain = rest-same bytes (rest adds) (rest meant) (λ (e : bytes ≡ 0). ap rest (told e))
+
+  pub detail-adds : (code : ℕ) → code ≡ (bytes orelse rest adds) → code ≡ 0 → adds ≡ meant
+  detail-adds code c e = told (none-both bytes (rest adds) (sym c ∙ e) .0)
