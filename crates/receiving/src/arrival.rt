@@ -25,38 +25,38 @@ ghost use Rattle.calls.specs.Arrival.{Told};
 // The refusal, and whether the message is a new one or the last again.
 pub struct Arrival {
     pub answer: Answer,
-    pub fresh: bool,
+    pub next: bool,
 }
 
 // By its envelope: the way it goes, its serial, and the room for a reply.
 fn by_envelope(e: Envelope, route: Route, last: u32, room: usize) -> Arrival
     requires { ⌜ last ≤ largestSerial ⌝ }
-    ensures { λ r. ⌜ Told (33 when not (sameRoute (e .route) route) orelse 35 when not (eqb (e .serial) last || eqb (e .serial) (suc last)) orelse 23 when noRoom (envelopeBytes + replyBytes) room) (eqb (e .serial) (suc last)) (r .answer) (r .fresh) ⌝ }
+    ensures { λ r. ⌜ Told (33 when not (sameRoute (e .route) route) orelse 35 when not (eqb (e .serial) last || eqb (e .serial) (suc last)) orelse 23 when noRoom (envelopeBytes + replyBytes) room) (eqb (e .serial) (suc last)) (r .answer) (r .next) ⌝ }
 {
     let way = e.route;
-    let fresh = e.serial == last + 1;
+    let next = e.serial == last + 1;
     Arrival {
         answer: or_refused(
             refused_when(Refusal::OtherSession, !same_route(way, route)),
             or_refused(
-                refused_when(Refusal::UnexpectedSerial, !((e.serial == last) | fresh)),
+                refused_when(Refusal::UnexpectedSerial, !((e.serial == last) | next)),
                 refused_when(Refusal::ShortBuffer, room < ENVELOPE_BYTES + REPLY_BYTES),
             ),
         ),
-        fresh: fresh,
+        next: next,
     }
 }
 
 // Of any bytes, in a direction of this route whose last serial is this.
 pub fn read_message(message: &[u8], route: Route, last: u32, room: usize) -> Arrival
     requires { ⌜ last ≤ largestSerial ⌝ }
-    ensures { λ r. ⌜ Told (21 when not (envelopeGood Kind.Message (now (message .entry))) orelse 33 when not (sameRoute (envelopeOf (now (message .entry)) .route) route) orelse 35 when not (eqb (serialOf (now (message .entry))) last || eqb (serialOf (now (message .entry))) (suc last)) orelse 23 when noRoom (envelopeBytes + replyBytes) room) (eqb (serialOf (now (message .entry))) (suc last)) (r .answer) (r .fresh) ⌝ }
+    ensures { λ r. ⌜ Told (21 when not (envelopeGood Kind.Message (now (message .entry))) orelse 33 when not (sameRoute (envelopeOf (now (message .entry)) .route) route) orelse 35 when not (eqb (serialOf (now (message .entry))) last || eqb (serialOf (now (message .entry))) (suc last)) orelse 23 when noRoom (envelopeBytes + replyBytes) room) (eqb (serialOf (now (message .entry))) (suc last)) (r .answer) (r .next) ⌝ }
 {
     match read_envelope(message, Kind::Message) {
         ReadEnvelope::Read(e) => by_envelope(e, route, last, room),
         ReadEnvelope::Wrong => Arrival {
             answer: Answer::Refused(Refusal::WrongEnvelope),
-            fresh: false,
+            next: false,
         },
     }
 }

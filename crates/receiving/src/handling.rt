@@ -57,7 +57,7 @@ fn handle(time: u32, body: &[u8], p: Parties, running: Running, r: Receiving) ->
 
 // Of the last message again no body is read, and nothing is counted.
 pub fn handle_if(
-    fresh: bool,
+    next: bool,
     time: u32,
     body: &[u8],
     p: Parties,
@@ -65,10 +65,10 @@ pub fn handle_if(
     r: Receiving,
 ) -> Handled
     requires { ⌜ Lent p running r ⌝ }
-    ensures receiving { λ h. ⌜ h .receiving ≡ cond fresh (receivingAfter (codeBy (contentOf (now (body .entry))) time (now (body .entry)) p running r) (now (body .entry)) running r) r ⌝ }
-    ensures running { λ h. ⌜ h .running ≡ cond fresh (receivingCourse (codeBy (contentOf (now (body .entry))) time (now (body .entry)) p running r) (now (body .entry)) running r .running) running ⌝ }
+    ensures receiving { λ h. ⌜ h .receiving ≡ cond next (receivingAfter (codeBy (contentOf (now (body .entry))) time (now (body .entry)) p running r) (now (body .entry)) running r) r ⌝ }
+    ensures running { λ h. ⌜ h .running ≡ cond next (receivingCourse (codeBy (contentOf (now (body .entry))) time (now (body .entry)) p running r) (now (body .entry)) running r .running) running ⌝ }
 {
-    if fresh {
+    if next {
         return handle(time, body, p, running, r);
     }
     Handled {

@@ -87,7 +87,7 @@ pub fn receive(
     let answer = or_refused(time_refusal(time, session.seen, close), found);
     if answer_number(answer) == 0 {
         let body = &message[ENVELOPE_BYTES..];
-        let after = handle_if(arrived.fresh, time, body, parties, running, last);
+        let after = handle_if(arrived.next, time, body, parties, running, last);
         return replying(session, time, after, line);
     }
     ReceiveOutcome {

@@ -12,8 +12,8 @@ use borrow.Author.Needs.{needs}
 use Rattle.receiving.proofs.arrival.by_envelope.Statement.{statement}
 use Rattle.receiving.proofs.arrival.by_envelope.Tie as tie
 
-add-fresh : tie.Need-add-fresh
-add-fresh c = search needs
+add-next : tie.Need-add-next
+add-next c = search needs
 
 same-route-requires : tie.Need-same-route-requires
 same-route-requires c κs = search needs
@@ -49,7 +49,7 @@ pub by-envelope-spec : {M : Type 1} → statement M
 by-envelope-spec =
     tie.close
     (tie.spec
-    add-fresh
+    add-next
     same-route-requires
     refused-when-requires
     refused-when-requires-2

@@ -38,7 +38,7 @@ returns c =
     let a = m .before .before .before .before .args in
     let read = read-told Kind.Message (a .message .now) (m .e .given .0 .0) (ap envelopeSaid (sym (m .e .given .1)) ∙ m .before .before .read-envelope .ensures) in
     told-behind (21 when not (envelopeGood Kind.Message (a .message .now))) _ _ _ _ (ap (λ (b : Bool). 21 when not b) (read .0))
-    (subst (λ (e : Envelope). Told (33 when not (sameRoute (e .route) (a .route)) orelse 35 when not (eqb (e .serial) (a .last) || eqb (e .serial) (suc (a .last))) orelse 23 when noRoom (envelopeBytes + replyBytes) (a .room)) (eqb (e .serial) (suc (a .last))) (c .by-envelope .result .answer) (c .by-envelope .result .fresh)) (read .1) (c .by-envelope .ensures))
+    (subst (λ (e : Envelope). Told (33 when not (sameRoute (e .route) (a .route)) orelse 35 when not (eqb (e .serial) (a .last) || eqb (e .serial) (suc (a .last))) orelse 23 when noRoom (envelopeBytes + replyBytes) (a .room)) (eqb (e .serial) (suc (a .last))) (c .by-envelope .result .answer) (c .by-envelope .result .next)) (read .1) (c .by-envelope .ensures))
 
 returns-2 : tie.Need-returns-2
 returns-2 c =

@@ -5,7 +5,6 @@ use mathlib.Core.List.{List}
 use Prim.Native.Nat.{ℕ, suc, _+_}
 use lib.Dec.{eqb}
 use lib.ListN.{length}
-use lib.Seq.{sets}
 use Rattle.packed.proofs.Laws.Part.{part-tail}
 use Rattle.codes.specs.Chain.{_when_, _orelse_}
 use Rattle.codes.proofs.Laws.Chain.{none-both}
@@ -15,7 +14,6 @@ use Rattle.message.specs.Limits.{envelopeBytes, replyBytes}
 use Rattle.message.specs.Route.{sameRoute}
 use Rattle.message.specs.Envelope.{serialOf, envelopeGood, envelopeOf}
 use Rattle.message.specs.Content.{contentOf}
-use Rattle.message.specs.Line.{wholeReply}
 use Rattle.message.proofs.Laws.Envelope.{enough}
 use Rattle.session.specs.Course.{Direction}
 use Rattle.session.specs.Outcome.{answerNumber, noRoom, timeRefusal}
@@ -26,6 +24,8 @@ use Rattle.session.proofs.Laws.Refusals.{ReceiveTold}
 use Rattle.calls.specs.Arrival.{Told}
 use Rattle.calls.specs.Said.{held}
 use Rattle.calls.proofs.Laws.Said.{said-refused, so-kept-beside}
+use Rattle.receiving.specs.declared.receive.ReceiveOutcome.{ReceiveOutcome}
+use Rattle.receiving.specs.Said.{receiveSaid}
 use Rattle.receiving.proofs.Laws.Receive.{told, replied-so}
 use borrow.Author.Needs.{needs}
 use Rattle.receiving.proofs.receive.receive.Statement.{statement}
@@ -46,26 +46,26 @@ or-refused-requires c κs = search needs
 answer-number-requires : tie.Need-answer-number-requires
 answer-number-requires c κs = search needs
 
--- the chain, and whether a message that it lets pass is new
-arrived : (w : tie.After-or-refused) → let a = w .before .before .before .before .before .before .before .before .before .args in let answer = answerNumber (w .or-refused .result) in (answer ≡ receiveRefusal (a .time) (a .message .now) (length (a .line .now)) (a .session)) × (answer ≡ 0 → w .before .before .read-message .result .fresh ≡ isNext (a .message .now) (a .session .receiving))
+-- the chain, and whether a message that it lets pass is the next one
+arrived : (w : tie.After-or-refused) → let a = w .before .before .before .before .before .before .before .before .args in let answer = answerNumber (w .or-refused .result) in (answer ≡ receiveRefusal (a .time) (a .message .now) (length (a .line .now)) (a .session)) × (answer ≡ 0 → w .before .before .read-message .result .next ≡ isNext (a .message .now) (a .session .receiving))
 unfolding receiveRefusal
 arrived w =
-    let a = w .before .before .before .before .before .before .before .before .before .args in
+    let a = w .before .before .before .before .before .before .before .before .args in
     let bytes = a .message .now in
     let last = a .session .receiving .serial in
     let r = w .before .before .read-message .result in
-    let found = subst (λ (route : Route). Told (21 when not (envelopeGood Kind.Message bytes) orelse 33 when not (sameRoute (envelopeOf bytes .route) route) orelse 35 when not (eqb (serialOf bytes) last || eqb (serialOf bytes) (suc last)) orelse 23 when noRoom (envelopeBytes + replyBytes) (length (a .line .now))) (eqb (serialOf bytes) (suc last)) (r .answer) (r .fresh)) (w .before .before .before .receiving-route .ensures) (w .before .before .read-message .ensures) in
+    let found = subst (λ (route : Route). Told (21 when not (envelopeGood Kind.Message bytes) orelse 33 when not (sameRoute (envelopeOf bytes .route) route) orelse 35 when not (eqb (serialOf bytes) last || eqb (serialOf bytes) (suc last)) orelse 23 when noRoom (envelopeBytes + replyBytes) (length (a .line .now))) (eqb (serialOf bytes) (suc last)) (r .answer) (r .next)) (w .before .before .before .receiving-route .ensures) (w .before .before .read-message .ensures) in
     let chain = w .or-refused .ensures ∙ (λ i. w .before .time-refusal .ensures i orelse found .number i) in
     (chain, λ (e : answerNumber (w .or-refused .result) ≡ 0). found .finding (none-both (timeRefusal (a .time) (a .session .seen) (a .session .close)) _ (sym chain ∙ e) .1))
 
 none : (t : tie.Then1) → answerNumber (t .before .before .or-refused .result) ≡ 0
 none t = sym (t .before .answer-number .ensures) ∙ t .if1 .taken
 
-passed : (t : tie.Then1) → let a = t .before .before .before .before .before .before .before .before .before .before .before .args in ReceiveTold (a .message .now) (held (a .session) (a .running) (a .line .now))
-passed t = let a = t .before .before .before .before .before .before .before .before .before .before .before .args in told (a .time) (a .message .now) (a .session) (a .running) (a .line .now) (answerNumber (t .before .before .or-refused .result)) (arrived (t .before .before) .0) (none t)
+passed : (t : tie.Then1) → let a = t .before .before .before .before .before .before .before .before .before .before .args in ReceiveTold (a .message .now) (held (a .session) (a .running) (a .line .now))
+passed t = let a = t .before .before .before .before .before .before .before .before .before .before .args in told (a .time) (a .message .now) (a .session) (a .running) (a .line .now) (answerNumber (t .before .before .or-refused .result)) (arrived (t .before .before) .0) (none t)
 
 sub-body : tie.Need-sub-body
-sub-body c = let a = c .before .before .before .before .before .before .before .before .before .before .before .args in enough Kind.Message (a .message .now) (passed c .good)
+sub-body c = let a = c .before .before .before .before .before .before .before .before .before .before .args in enough Kind.Message (a .message .now) (passed c .good)
 
 part-body-start : tie.Need-part-body-start
 part-body-start c = let h = sub-body c in search needs
@@ -75,14 +75,11 @@ part-body-end c = search needs
 
 handle-if-requires : tie.Need-handle-if-requires
 handle-if-requires c κs =
-    let g = c .before .before .before .before .before .before .before .before .before .before .before .before .pre in
+    let g = c .before .before .before .before .before .before .before .before .before .before .before .pre in
     record { represented = g .0 .parties .represented; serial = g .0 .received; counters = g .0 .receiving; places = g .0 .places; running = g .1 .fits }
 
-write-reply-requires : tie.Need-write-reply-requires
-write-reply-requires c κs = passed (c .before .before .before .before .before .before) .room
-
-add-t25 : tie.Need-add-t25
-add-t25 c = search needs
+replying-requires : tie.Need-replying-requires
+replying-requires c κs = passed (c .before .before .before) .room
 
 same-length : tie.Need-same-length
 same-length c = search needs
@@ -90,27 +87,30 @@ same-length c = search needs
 returns : tie.Need-returns
 unfolding receive meaning
 returns c =
-    let t = c .before .before .before .before .before .before .before .before .before in
+    let t = c .before .before .before .before .before .before in
     let w = t .before .before in
-    let a = w .before .before .before .before .before .before .before .before .before .args in
+    let a = w .before .before .before .before .before .before .before .before .args in
     let s = a .session in
     let bytes = a .message .now in
-    let answer = answerNumber (w .or-refused .result) in
-    let fresh = w .before .before .read-message .result .fresh in
-    let handled = c .before .before .before .before .before .before .before .handle-if in
-    let after = handled .result .receiving in
+    let lent = held s (a .running) (a .line .now) in
+    let next = w .before .before .read-message .result .next in
+    let handled = c .before .before .before .before .handle-if in
     let body = part-tail envelopeBytes bytes in
-    let after-so = handled .ensures .0 ∙ ap (λ (x : List ℕ). cond fresh (receivingAfter (codeBy (contentOf x) (a .time) x (s .parties) (a .running) (s .receiving)) x (a .running) (s .receiving)) (s .receiving)) body in
-    let running-so = handled .ensures .1 ∙ ap (λ (x : List ℕ). cond fresh (receivingCourse (codeBy (contentOf x) (a .time) x (s .parties) (a .running) (s .receiving)) x (a .running) (s .receiving) .running) (a .running)) body in
-    let line-so = c .before .before .write-reply .ensures ∙ ap (λ (x : Route). sets (a .line .now) 0 (wholeReply (record { route = x; serial = after .serial }) (after .reply))) (w .before .before .before .receiving-route .ensures) in
-    let said : record { number = answer; written = envelopeBytes + replyBytes; left = held (withReceiving (a .time) after s) (handled .result .running) (c .before .before .write-reply .last .0) } ≡ receive (a .time) bytes (held s (a .running) (a .line .now)) = replied-so (a .time) bytes s (a .running) (a .line .now) answer (arrived w .0) (none t) fresh after (handled .result .running) (c .before .before .write-reply .last .0) (arrived w .1 (none t)) after-so running-so line-so in
-    (said, so-kept-beside s _ _ said Direction.receiving (kept-beside (Call.receive (a .time) bytes) (held s (a .running) (a .line .now)) (record { sound = w .before .before .before .before .before .before .before .before .before .pre .0; carried = w .before .before .before .before .before .before .before .before .before .pre .1 })))
+    let after = handled .ensures .0 ∙ ap (λ (x : List ℕ). cond next (receivingAfter (codeBy (contentOf x) (a .time) x (s .parties) (a .running) (s .receiving)) x (a .running) (s .receiving)) (s .receiving)) body in
+    let running = handled .ensures .1 ∙ ap (λ (x : List ℕ). cond next (receivingCourse (codeBy (contentOf x) (a .time) x (s .parties) (a .running) (s .receiving)) x (a .running) (s .receiving) .running) (a .running)) body in
+    let given = c .before .before .replying in
+    let line = given .last .1 .1 .1 .0 in
+    let said : receiveSaid (given .result) line ≡ receive (a .time) bytes lent =
+        ap (λ (x : ReceiveOutcome). receiveSaid x line) (given .ensures .0)
+        ∙ (λ i. record { number = sym (none t) i; written = envelopeBytes + replyBytes; left = held (withReceiving (a .time) (handled .result .receiving) s) (handled .result .running) line })
+        ∙ replied-so (a .time) bytes s (a .running) (a .line .now) (answerNumber (w .or-refused .result)) (arrived w .0) (none t) next (handled .result .receiving) (handled .result .running) line (arrived w .1 (none t)) after running (given .ensures .1) in
+    (said, so-kept-beside s _ _ said Direction.receiving (kept-beside (Call.receive (a .time) bytes) lent (record { sound = w .before .before .before .before .before .before .before .before .pre .0; carried = w .before .before .before .before .before .before .before .before .pre .1 })))
 
 returns-2 : tie.Need-returns-2
 unfolding receive meaning
 returns-2 c =
     let w = c .before .before in
-    let t = w .before .before .before .before .before .before .before .before .before in
+    let t = w .before .before .before .before .before .before .before .before in
     let lent = held (t .args .session) (t .args .running) (t .args .line .now) in
     let bytes = t .args .message .now in
     let time = t .args .time in
@@ -132,8 +132,7 @@ receive-spec =
     part-body-start
     part-body-end
     handle-if-requires
-    write-reply-requires
-    add-t25
+    replying-requires
     same-length
     returns
     returns-2)
