@@ -97,7 +97,7 @@ pub fn advance(effect: Effect, accepted: bool, counters: Counters, running: Runn
     }
 }
 
-// Whether it ends the direction.
+// Whether a message ends its direction: an accepted session total does.
 pub fn ends(effect: Effect, accepted: bool) -> bool
     ensures { λ r. ⌜ r ≡ ends effect accepted ⌝ }
 {

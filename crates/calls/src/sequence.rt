@@ -1,4 +1,5 @@
-// 07: which message has its place where. Each test is told whether the direction has ended and which lot is open.
+// 07: which message has its place where. Each test is told whether the direction has ended and which lot is open; while 07
+// is the one code of them all, a lot's own messages need not ask for the end.
 use codes::chain::or_else;
 use codes::chain::when;
 use codes::reply::Code;
@@ -9,6 +10,7 @@ ghost use mathlib.Core.Path.{_≡_};
 ghost use Rattle.codes.specs.Reply.{codeNumber};
 ghost use Rattle.session.specs.Sequence.{isOpen, isThis, headerSequence, lotSequence, lotTotalSequence, sessionTotalSequence};
 
+// Whether a lot is open.
 fn is_open(lot: OpenLot) -> bool
     ensures { λ r. ⌜ r ≡ isOpen lot ⌝ }
 {

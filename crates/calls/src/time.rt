@@ -9,6 +9,7 @@ use session::session::Close;
 ghost use mathlib.Core.Path.{_≡_};
 ghost use Rattle.session.specs.Outcome.{answerNumber, isClosed, clockRefusal, timeRefusal};
 
+// Whether the session was closed, in whatever way.
 fn is_closed(close: Close) -> bool
     ensures { λ r. ⌜ r ≡ isClosed close ⌝ }
 {

@@ -25,5 +25,5 @@ abbrev pub sendSaid : SendOutcome → Running → (line : List ℕ) → Outcome
 sendSaid r t line = record { number = sendNumber (r .answer); written = sendWritten (r .answer); left = held (r .session) t line }
 
 -- of a reply call, beside a line buffer that it is not lent
-abbrev pub replySaid : ReplyOutcome → (line : List ℕ) → Outcome
-replySaid r line = record { number = answerNumber (r .answer); written = 0; left = held (r .session) (r .running) line }
+abbrev pub takenSaid : ReplyOutcome → (line : List ℕ) → Outcome
+takenSaid r line = record { number = answerNumber (r .answer); written = 0; left = held (r .session) (r .running) line }

@@ -34,6 +34,7 @@ pub struct SendOutcome {
     pub session: Session,
 }
 
+// An answer and the session beside it.
 pub fn outcome(answer: SendAnswer, session: Session) -> SendOutcome
     ensures { λ r. ⌜ r ≡ record { answer = answer; session = session } ⌝ }
 {

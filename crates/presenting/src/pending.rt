@@ -5,6 +5,7 @@ ghost use mathlib.Core.Path.{_≡_};
 ghost use Rattle.session.specs.Sending.{isPending};
 ghost use Rattle.session.specs.Reply.{awaitedOperation};
 
+// Whether a reply is awaited.
 pub fn is_pending(effect: Effect) -> bool
     ensures { λ r. ⌜ r ≡ isPending effect ⌝ }
 {
@@ -17,7 +18,7 @@ pub fn is_pending(effect: Effect) -> bool
     }
 }
 
-// The operation of the reply that is awaited.
+// The operation of the reply that is awaited; where none is, it is not asked.
 pub fn awaited_operation(effect: Effect) -> Operation
     ensures { λ r. ⌜ r ≡ awaitedOperation effect ⌝ }
 {

@@ -43,7 +43,7 @@ ghost use Rattle.session.specs.Reply.{isAwaited, isAccepted, replied, takeReply
 ghost use Rattle.session.specs.Premise.{Sound, Carried, KeptBeside};
 ghost use Rattle.calls.specs.Arrival.{Told};
 ghost use Rattle.calls.specs.Said.{held};
-ghost use Rattle.presenting.specs.Said.{replySaid};
+ghost use Rattle.presenting.specs.Said.{takenSaid};
 
 // What a reply call gives.
 pub struct ReplyOutcome {
@@ -114,7 +114,7 @@ fn read_whole(reply: &[u8], route: Route, p: Presenting) -> Arrival
 fn replied(session: Session, running: Running, time: u32, accepted: bool) -> ReplyOutcome
     requires { ⌜ Sound session ⌝ }
     requires { ⌜ Carried Direction.presenting session running ⌝ }
-    ensures { λ r. ⌜ ((line : List ℕ) → replySaid r line ≡ silent (replied time accepted (held session running line))) ⌝ }
+    ensures { λ r. ⌜ ((line : List ℕ) → takenSaid r line ≡ silent (replied time accepted (held session running line))) ⌝ }
 {
     let parties = session.parties;
     let presenting = session.presenting;
@@ -148,7 +148,7 @@ fn replied(session: Session, running: Running, time: u32, accepted: bool) -> Rep
 pub fn take_reply(session: Session, running: Running, time: u32, reply: &[u8]) -> ReplyOutcome
     requires { ⌜ Sound session ⌝ }
     requires { ⌜ Carried Direction.presenting session running ⌝ }
-    ensures outcome { λ r. ⌜ ((line : List ℕ) → replySaid r line ≡ takeReply time (now (reply .entry)) (held session running line)) ⌝ }
+    ensures outcome { λ r. ⌜ ((line : List ℕ) → takenSaid r line ≡ takeReply time (now (reply .entry)) (held session running line)) ⌝ }
     ensures premise { λ r. ⌜ KeptBeside Direction.presenting session (r .session) (r .running) ⌝ }
 {
     let parties = session.parties;

@@ -36,7 +36,7 @@ ghost use Rattle.session.specs.Premise.{Sound, Carried, Kept, KeptBeside};
 ghost use Rattle.calls.specs.Said.{held};
 ghost use Rattle.presenting.specs.Said.{sendSaid};
 
-// Opens a lot. The moment is hhmmsscc, what the header says of its time; no running totals are asked for.
+// Sends the header of a lot. The moment is hhmmsscc, what the header says of its time; no running totals are asked for.
 pub fn send_header(
     session: Session,
     time: u32,
@@ -76,7 +76,7 @@ pub fn send_header(
     outcome(answer, session)
 }
 
-// Presents the documents of a part. They are read once and then copied once.
+// Sends the documents of a part. They are read once and then copied once.
 pub fn send_detail(
     session: Session,
     running: Running,
@@ -124,7 +124,7 @@ fn open_number(lot: OpenLot) -> u16
     }
 }
 
-// Ends the open lot with what it has gathered.
+// Sends the total of the open lot: what it has gathered.
 pub fn send_lot_total(session: Session, running: Running, time: u32, line: &mut [u8]) -> SendOutcome
     requires { ⌜ Sound session ⌝ }
     requires { ⌜ Carried Direction.presenting session running ⌝ }
@@ -159,7 +159,7 @@ pub fn send_lot_total(session: Session, running: Running, time: u32, line: &mut 
     outcome(answer, session)
 }
 
-// Ends the direction with what its accepted lots have gathered. No running totals are asked for.
+// Sends the session total: what the accepted lots have gathered. No running totals are asked for.
 pub fn send_session_total(session: Session, time: u32, line: &mut [u8]) -> SendOutcome
     requires { ⌜ Sound session ⌝ }
     ensures outcome { λ r. ⌜ ((t : Running) → sendSaid r t (now (line .exit)) ≡ sendSessionTotal time (held session t (now (line .entry)))) ⌝ }

@@ -1,4 +1,4 @@
-// The codes that a presenter applies to itself: never 04, 06, 08, nor that no detail was accepted.
+// What stops a header or a detail before it is sent. A total has only its place to ask for, 07.
 use calls::details::detail_code;
 use calls::sequence::header_sequence;
 use codes::chain::or_else;
@@ -14,6 +14,7 @@ ghost use mathlib.Core.Path.{_≡_};
 ghost use Rattle.codes.specs.Reply.{codeNumber};
 ghost use Rattle.session.specs.Sending.{partAdds, headerStop, detailStop};
 
+// The first of 01, 07, 10 and 11 that a header of these earns.
 pub fn header_stop(time: u32, moment: u32, centre: u16, number: u16, p: Presenting) -> Code
     ensures { λ c. ⌜ codeNumber c ≡ headerStop time moment centre number p ⌝ }
 {
@@ -37,6 +38,7 @@ pub struct PartStop {
     pub adds: Running,
 }
 
+// The first of 01, 03, 07 and 12. The part is passed over once.
 pub fn detail_stop(
     operation: u8,
     partner: u16,

@@ -1,4 +1,4 @@
-// What each message earns, in the paper's order, and what it does once that is known.
+// The code that each message earns, in the paper's order, and what the message does once its code is known.
 use crate::accepted::look_up;
 use calls::details::detail_code;
 use calls::sequence::header_sequence;
@@ -29,7 +29,7 @@ ghost use Rattle.session.specs.Parties.{receivingRoute};
 ghost use Rattle.receiving.specs.Earned.{Earns};
 ghost use Rattle.receiving.specs.Lent.{Lent};
 
-// A message's code, and what it does. What a refused one does is asked of its kind alone.
+// A message's code, and what it does. Of a refused one it counts only whether it is a lot total, which ends its lot.
 pub struct Found {
     pub code: Code,
     pub effect: Effect,
@@ -46,7 +46,7 @@ pub fn receiving_route(p: Parties) -> Route
     }
 }
 
-// A header.
+// A header that is not read is 01; one that is read goes down the chain.
 fn of_header(time: u32, body: &[u8], p: Parties, running: Running, r: Receiving) -> Found
     requires { ⌜ Lent p running r ⌝ }
     ensures { λ e. ⌜ Earns Content.Header time (now (body .entry)) p running r e ⌝ }
@@ -80,7 +80,7 @@ fn of_header(time: u32, body: &[u8], p: Parties, running: Running, r: Receiving)
     }
 }
 
-// A detail. Its documents are passed over once, after its heads.
+// A detail goes down the chain with what its bytes earn. It is read once.
 fn of_detail(time: u32, body: &[u8], p: Parties, running: Running, r: Receiving) -> Found
     requires { ⌜ Lent p running r ⌝ }
     ensures { λ e. ⌜ Earns Content.Detail time (now (body .entry)) p running r e ⌝ }
@@ -97,7 +97,7 @@ fn of_detail(time: u32, body: &[u8], p: Parties, running: Running, r: Receiving)
     }
 }
 
-// A lot total.
+// A lot total that is not read has its own code, 01 or 03. In either case the open lot ends.
 fn of_lot_total(time: u32, body: &[u8], p: Parties, running: Running, r: Receiving) -> Found
     requires { ⌜ Lent p running r ⌝ }
     ensures { λ e. ⌜ Earns Content.LotTotal time (now (body .entry)) p running r e ⌝ }

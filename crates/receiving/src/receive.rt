@@ -1,4 +1,4 @@
-// Receiving.
+// Receiving: a message of any bytes goes in, and the reply to it comes out in the line buffer.
 use crate::arrival::read_message;
 use crate::earned::receiving_route;
 use crate::handling::Handled;

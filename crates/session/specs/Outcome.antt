@@ -25,7 +25,7 @@ pub record Outcome : Type 0 where
   pub written : ℕ
   pub left : Held
 
--- the paper's number of an answer that comes with no bytes
+-- the paper's number of an answer
 abbrev pub answerNumber : Answer → ℕ
 answerNumber Answer.Done = 0
 answerNumber (Answer.Refused r) = refusalNumber r

@@ -87,6 +87,11 @@ pub record Premise (d : Direction) (h : Held) : Type 0 where
   pub sound : Sound (h .session)
   pub carried : Carried d (h .session) (h .running)
 
+-- A start begins it: a sound session, and running totals of no documents carried in both directions.
+pub record Begun (s : Session) : Type 0 where
+  pub sound : Sound s
+  pub carried : (d : Direction) → Carried d s empty
+
 -- A call keeps the premise. One that is lent no running totals leaves a sound session, and whatever is carried in a direction still is.
 pub record Kept (before after : Session) : Type 0 where
   pub sound : Sound after

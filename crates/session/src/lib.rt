@@ -1,6 +1,6 @@
 // The state of a session, its hours and limits, and the start (01, 'Centres and directions' and 'Course of a direction').
 // What every call means stands in specs/, with the claim about both ends of a line; proofs/ holds its proof. The calls
-// themselves are functions of the crate above.
+// themselves are functions of the crates above.
 
 pub mod counters;
 pub mod effect;

@@ -15,6 +15,7 @@ use message::reply::Operation;
 use message::reply::Reply;
 ghost use mathlib.Core.Path.{_≡_};
 ghost use Rattle.session.specs.Start.{noLots, unsent, unheard, fresh, startSaid, start};
+ghost use Rattle.session.specs.Premise.{Begun};
 
 // How a session was closed, if it was.
 pub enum Close {
@@ -51,7 +52,7 @@ pub struct Session {
     pub close: Close,
 }
 
-// A call that writes nothing is done, or refused.
+// A call is done, or refused.
 pub enum Answer {
     Done,
     Refused(Refusal),
@@ -130,7 +131,8 @@ impl Session {
     // A session just started; or 24. What stands beside 24 the paper leaves open: a session that is closed, was never
     // started, and meets the premise of every call.
     pub fn start(date: u32, own: u16, partner: u16, represented: &[u16]) -> Started
-        ensures { λ r. ⌜ startSaid r ≡ start date own partner (now (represented .entry)) ⌝ }
+        ensures outcome { λ r. ⌜ startSaid r ≡ start date own partner (now (represented .entry)) ⌝ }
+        ensures premise { λ r. ⌜ Begun (r .session) ⌝ }
     {
         if parties_good(date, own, partner, represented) {
             return Started {

@@ -32,7 +32,7 @@ use Rattle.session.specs.Sending.{posted, headerStop, sendRefusal, sent,
 use Rattle.session.specs.Receiving.{effectBy, codeFor, receivingAfter, isNext, receive, receiveRefusal, afterNew, afterRepeat, afterMessage}
 use Rattle.session.specs.Reply.{replyRefusal, isAccepted, takeReply}
 use Rattle.session.specs.Clock.{ticked, clock}
-use Rattle.session.specs.Premise.{Fits, CountersSound, OpenSound, PartiesSound, Sound, Carried, Premise, PendingSound, PendingCarried}
+use Rattle.session.specs.Premise.{Fits, CountersSound, OpenSound, PartiesSound, Sound, Carried, Premise, PendingSound, PendingCarried, Begun}
 use Rattle.session.proofs.Laws.Parties.{told as parties-told}
 use Rattle.session.proofs.Laws.Decided.{either}
 use Rattle.session.proofs.Laws.Refusals.{send-told, ReceiveTold, receive-told}
@@ -254,3 +254,12 @@ pub fresh-carried : (parties : Parties) (close : Close) (d : Direction) → Carr
 unfolding fresh
 fresh-carried parties close Direction.presenting = record { none-open = λ (e : OpenLot.None ≡ OpenLot.None). refl; fits = fits-empty lotDocuments; pending = tt }
 fresh-carried parties close Direction.receiving = record { none-open = λ (e : OpenLot.None ≡ OpenLot.None). refl; fits = fits-empty lotDocuments; pending = tt }
+
+-- so whatever a start gives
+pub begun : (date own partner : ℕ) (represented : List ℕ) → Begun (start date own partner represented .session)
+unfolding start
+begun date own partner represented = record { sound = start-sound date own partner represented; carried = go (partiesGood date own partner represented) }
+  where
+    go : (t : Bool) (d : Direction) → Carried d (cond t (started date own partner represented) (fresh nobody Close.Forced)) empty
+    go true d = fresh-carried (partiesOf date own partner represented) Close.Open d
+    go false d = fresh-carried nobody Close.Forced d

@@ -101,9 +101,9 @@ returns c =
     let given = c .before .before .replying in
     let line = given .last .1 .1 .1 .0 in
     let said : receiveSaid (given .result) line ≡ receive (a .time) bytes lent =
-        ap (λ (x : ReceiveOutcome). receiveSaid x line) (given .ensures .0)
-        ∙ (λ i. record { number = sym (none t) i; written = envelopeBytes + replyBytes; left = held (withReceiving (a .time) (handled .result .receiving) s) (handled .result .running) line })
-        ∙ replied-so (a .time) bytes s (a .running) (a .line .now) (answerNumber (w .or-refused .result)) (arrived w .0) (none t) next (handled .result .receiving) (handled .result .running) line (arrived w .1 (none t)) after running (given .ensures .1) in
+    ap (λ (x : ReceiveOutcome). receiveSaid x line) (given .ensures .0)
+    ∙ (λ i. record { number = sym (none t) i; written = envelopeBytes + replyBytes; left = held (withReceiving (a .time) (handled .result .receiving) s) (handled .result .running) line })
+    ∙ replied-so (a .time) bytes s (a .running) (a .line .now) (answerNumber (w .or-refused .result)) (arrived w .0) (none t) next (handled .result .receiving) (handled .result .running) line (arrived w .1 (none t)) after running (given .ensures .1) in
     (said, so-kept-beside s _ _ said Direction.receiving (kept-beside (Call.receive (a .time) bytes) lent (record { sound = w .before .before .before .before .before .before .before .before .pre .0; carried = w .before .before .before .before .before .before .before .before .pre .1 })))
 
 returns-2 : tie.Need-returns-2
