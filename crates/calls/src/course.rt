@@ -63,12 +63,13 @@ fn after_lot_total(lot: Lot, accepted: bool, counters: Counters, running: Runnin
     ensures { λ r. ⌜ r ≡ advance (Effect.LotTotal lot) accepted (course counters running) ⌝ }
 {
     if accepted {
+        let lots = counters.lots + 1;
         let earlier = counters.gathered;
         let last = lot.gathered;
         return Course {
             counters: Counters {
                 current: OpenLot::None,
-                lots: counters.lots + 1,
+                lots: lots,
                 gathered: gather(earlier, last),
             },
             running: empty(),

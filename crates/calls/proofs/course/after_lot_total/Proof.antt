@@ -12,8 +12,8 @@ use borrow.Author.Needs.{needs}
 use Rattle.calls.proofs.course.after_lot_total.Statement.{statement}
 use Rattle.calls.proofs.course.after_lot_total.Tie as tie
 
-add-t9 : tie.Need-add-t9
-add-t9 c = search needs
+add-lots : tie.Need-add-lots
+add-lots c = search needs
 
 gather-requires : tie.Need-gather-requires
 gather-requires c κs =
@@ -41,4 +41,4 @@ returns-2 c = rw (c .before .if1 .left) (c .reopened .ensures)
 
 pub after-lot-total-spec : {M : Type 1} → statement M
 after-lot-total-spec =
-    tie.close (tie.spec add-t9 gather-requires empty-requires returns reopened-requires returns-2)
+    tie.close (tie.spec add-lots gather-requires empty-requires returns reopened-requires returns-2)
