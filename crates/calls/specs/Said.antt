@@ -4,12 +4,12 @@ use mathlib.Core.List.{List}
 use Rattle.session.specs.declared.session.Session.{Session}
 use Rattle.session.specs.Running.{Running}
 use Rattle.session.specs.Outcome.{Held, Outcome, answerNumber}
-use Rattle.calls.specs.declared.clock.ClockOutcome.{ClockOutcome}
+use Rattle.calls.specs.declared.called.Called.{Called}
 
 -- what a call is lent
 abbrev pub held : Session → Running → (line : List ℕ) → Held
 held s t line = record { session = s; running = t; line = line }
 
--- of a clock call, beside running totals and a line buffer that it is not lent
-abbrev pub clockSaid : ClockOutcome → Running → (line : List ℕ) → Outcome
-clockSaid r t line = record { number = answerNumber (r .answer); written = 0; left = held (r .session) t line }
+-- of a call that writes nothing, beside the running totals and the line buffer that it leaves
+abbrev pub calledSaid : Called → Running → (line : List ℕ) → Outcome
+calledSaid r t line = record { number = answerNumber (r .answer); written = 0; left = held (r .session) t line }

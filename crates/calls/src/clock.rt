@@ -1,8 +1,8 @@
 // The clock call, and how a session closes.
 use crate::answer::answer_number;
+use crate::called::Called;
 use crate::time::clock_refusal;
 use session::hours::at_close;
-use session::session::Answer;
 use session::session::Close;
 use session::session::Session;
 ghost use mathlib.Core.Path.{_≡_};
@@ -13,13 +13,7 @@ ghost use Rattle.session.specs.Running.{Running};
 ghost use Rattle.session.specs.Hours.{atClose};
 ghost use Rattle.session.specs.Clock.{ticked, clock};
 ghost use Rattle.session.specs.Premise.{Sound, Kept};
-ghost use Rattle.calls.specs.Said.{held, clockSaid};
-
-// What a clock call gives.
-pub struct ClockOutcome {
-    pub answer: Answer,
-    pub session: Session,
-}
+ghost use Rattle.calls.specs.Said.{held, calledSaid};
 
 // The close after a call at this time: at the hour in order where both directions have ended, else forced; before it as it
 // was.
@@ -53,20 +47,20 @@ fn ticked(session: Session, time: u32) -> Session
 }
 
 // The last seen time moves, and at the hour the close. No running totals are asked for: whatever is carried is carried on.
-pub fn clock(session: Session, time: u32) -> ClockOutcome
+pub fn clock(session: Session, time: u32) -> Called
     requires { ⌜ Sound session ⌝ }
-    ensures outcome { λ r. ⌜ ((t : Running) (line : List ℕ) → clockSaid r t line ≡ clock time (held session t line)) ⌝ }
+    ensures outcome { λ r. ⌜ ((t : Running) (line : List ℕ) → calledSaid r t line ≡ clock time (held session t line)) ⌝ }
     ensures premise { λ r. ⌜ Kept session (r .session) ⌝ }
 {
     let close = session.close;
     let answer = clock_refusal(time, session.seen, close);
     if answer_number(answer) == 0 {
-        return ClockOutcome {
+        return Called {
             answer: answer,
             session: ticked(session, time),
         };
     }
-    ClockOutcome {
+    Called {
         answer: answer,
         session: session,
     }

@@ -3,6 +3,7 @@
 // the specs/ of `session`.
 
 pub mod answer;
+pub mod called;
 pub mod clock;
 pub mod course;
 pub mod details;

@@ -170,10 +170,11 @@ pub fn receive_call(c: Centre, time: u32, message: &[u8], line: &mut [u8; REPLY]
 {
     let session = c.session;
     let running = c.receiving;
-    let received = receive(session, running, time, message, line);
+    let outcome = receive(session, running, time, message, line);
+    let gathered = outcome.running;
+    let received = outcome.received;
     let answer = received.answer;
     let next = received.session;
-    let gathered = received.running;
     receiving_line(
         session.parties.own,
         time,
@@ -191,10 +192,11 @@ pub fn reply_call(c: Centre, time: u32, reply: &[u8; REPLY]) -> Centre
 {
     let session = c.session;
     let running = c.presenting;
-    let replied = take_reply(session, running, time, reply);
-    let answer = replied.answer;
-    let next = replied.session;
-    let gathered = replied.running;
+    let outcome = take_reply(session, running, time, reply);
+    let gathered = outcome.running;
+    let called = outcome.called;
+    let answer = called.answer;
+    let next = called.session;
     reply_line(session.parties.own, time, answer);
     with_presented(c, next, gathered)
 }

@@ -1,2 +1,2 @@
--- What the answers of this crate's calls say.
+-- What the answers of the sends say.
 pub mod Said

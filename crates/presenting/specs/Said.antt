@@ -1,14 +1,13 @@
--- What the answers of sends and of the reply call say: the paper's number, how many bytes were written, and what the call leaves.
+-- What the answer of a send says: the paper's number, how many bytes were written, and what the call leaves.
 use Prim.Native.Nat.{ℕ}
 use mathlib.Core.List.{List}
 use Rattle.codes.specs.Refusal.{refusalNumber}
 use Rattle.codes.specs.Reply.{codeNumber}
 use Rattle.session.specs.Running.{Running}
-use Rattle.session.specs.Outcome.{Outcome, answerNumber}
+use Rattle.session.specs.Outcome.{Outcome}
 use Rattle.calls.specs.Said.{held}
 use Rattle.presenting.specs.declared.answer.SendAnswer.{SendAnswer}
 use Rattle.presenting.specs.declared.answer.SendOutcome.{SendOutcome}
-use Rattle.presenting.specs.declared.reply.ReplyOutcome.{ReplyOutcome}
 
 abbrev pub sendNumber : SendAnswer → ℕ
 sendNumber (SendAnswer.Written bytes) = 0
@@ -23,7 +22,3 @@ sendWritten (SendAnswer.Refused r) = 0
 -- of a send, beside the running totals that it leaves as they are
 abbrev pub sendSaid : SendOutcome → Running → (line : List ℕ) → Outcome
 sendSaid r t line = record { number = sendNumber (r .answer); written = sendWritten (r .answer); left = held (r .session) t line }
-
--- of a reply call, beside a line buffer that it is not lent
-abbrev pub takenSaid : ReplyOutcome → (line : List ℕ) → Outcome
-takenSaid r line = record { number = answerNumber (r .answer); written = 0; left = held (r .session) (r .running) line }

@@ -5,6 +5,7 @@ use crate::post::presenting_route;
 use calls::answer::answer_number;
 use calls::answer::or_refused;
 use calls::answer::refused_when;
+use calls::called::Called;
 use calls::course::advance;
 use calls::course::ends;
 use calls::time::time_refusal;
@@ -42,14 +43,12 @@ ghost use Rattle.session.specs.Outcome.{silent};
 ghost use Rattle.session.specs.Reply.{isAwaited, isAccepted, replied, takeReply};
 ghost use Rattle.session.specs.Premise.{Sound, Carried, KeptBeside};
 ghost use Rattle.calls.specs.Arrival.{Told};
-ghost use Rattle.calls.specs.Said.{held};
-ghost use Rattle.presenting.specs.Said.{takenSaid};
+ghost use Rattle.calls.specs.Said.{held, calledSaid};
 
-// What a reply call gives.
+// What a reply call gives, and the running totals that it leaves.
 pub struct ReplyOutcome {
-    pub answer: Answer,
-    pub session: Session,
     pub running: Running,
+    pub called: Called,
 }
 
 // What refuses a reply, and whether its code accepts what was sent.
@@ -114,7 +113,7 @@ fn read_whole(reply: &[u8], route: Route, p: Presenting) -> Arrival
 fn replied(session: Session, running: Running, time: u32, accepted: bool) -> ReplyOutcome
     requires { ⌜ Sound session ⌝ }
     requires { ⌜ Carried Direction.presenting session running ⌝ }
-    ensures { λ r. ⌜ ((line : List ℕ) → takenSaid r line ≡ silent (replied time accepted (held session running line))) ⌝ }
+    ensures { λ r. ⌜ ((line : List ℕ) → calledSaid (r .called) (r .running) line ≡ silent (replied time accepted (held session running line))) ⌝ }
 {
     let parties = session.parties;
     let presenting = session.presenting;
@@ -132,15 +131,17 @@ fn replied(session: Session, running: Running, time: u32, accepted: bool) -> Rep
         ended: presenting.ended | ends(pending, accepted),
     };
     ReplyOutcome {
-        answer: Answer::Done,
-        session: Session {
-            parties: parties,
-            presenting: next,
-            receiving: receiving,
-            seen: time,
-            close: close,
-        },
         running: gathered,
+        called: Called {
+            answer: Answer::Done,
+            session: Session {
+                parties: parties,
+                presenting: next,
+                receiving: receiving,
+                seen: time,
+                close: close,
+            },
+        },
     }
 }
 
@@ -148,8 +149,8 @@ fn replied(session: Session, running: Running, time: u32, accepted: bool) -> Rep
 pub fn take_reply(session: Session, running: Running, time: u32, reply: &[u8]) -> ReplyOutcome
     requires { ⌜ Sound session ⌝ }
     requires { ⌜ Carried Direction.presenting session running ⌝ }
-    ensures outcome { λ r. ⌜ ((line : List ℕ) → takenSaid r line ≡ takeReply time (now (reply .entry)) (held session running line)) ⌝ }
-    ensures premise { λ r. ⌜ KeptBeside Direction.presenting session (r .session) (r .running) ⌝ }
+    ensures outcome { λ r. ⌜ ((line : List ℕ) → calledSaid (r .called) (r .running) line ≡ takeReply time (now (reply .entry)) (held session running line)) ⌝ }
+    ensures premise { λ r. ⌜ KeptBeside Direction.presenting session (r .called .session) (r .running) ⌝ }
 {
     let parties = session.parties;
     let presenting = session.presenting;
@@ -161,8 +162,10 @@ pub fn take_reply(session: Session, running: Running, time: u32, reply: &[u8]) -
         return replied(session, running, time, arrived.accepted);
     }
     ReplyOutcome {
-        answer: answer,
-        session: session,
         running: running,
+        called: Called {
+            answer: answer,
+            session: session,
+        },
     }
 }

@@ -24,21 +24,26 @@ ghost use Rattle.session.specs.Course.{Direction};
 ghost use Rattle.session.specs.Receiving.{withReceiving, receive};
 ghost use Rattle.session.specs.Premise.{Sound, Carried, KeptBeside};
 ghost use Rattle.calls.specs.Said.{held};
-ghost use Rattle.receiving.specs.Said.{receiveSaid};
+ghost use Rattle.receiving.specs.Said.{receivedSaid};
 
 // What receiving gives. A message that earns a code is not refused: its reply, which carries the code, is the first
 // `written` bytes of the line buffer.
-pub struct ReceiveOutcome {
+pub struct Received {
     pub answer: Answer,
     pub written: usize,
     pub session: Session,
+}
+
+// The same, and the running totals that it leaves.
+pub struct ReceiveOutcome {
     pub running: Running,
+    pub received: Received,
 }
 
 // Writes the reply that is kept after a message, new or again, and gives what the call leaves.
 fn replying(session: Session, time: u32, after: Handled, line: &mut [u8]) -> ReceiveOutcome
     requires { ⌜ envelopeBytes + replyBytes ≤ length (now line) ⌝ }
-    ensures result { λ r. ⌜ r ≡ record { answer = Answer.Done; written = envelopeBytes + replyBytes; session = withReceiving time (after .receiving) session; running = after .running } ⌝ }
+    ensures result { λ r. ⌜ r ≡ record { running = after .running; received = record { answer = Answer.Done; written = envelopeBytes + replyBytes; session = withReceiving time (after .receiving) session } } ⌝ }
     ensures line { λ _. ⌜ now (line .exit) ≡ sets (now (line .entry)) 0 (wholeReply (record { route = receivingRoute (session .parties); serial = after .receiving .serial }) (after .receiving .reply)) ⌝ }
 {
     let parties = session.parties;
@@ -53,16 +58,18 @@ fn replying(session: Session, time: u32, after: Handled, line: &mut [u8]) -> Rec
     };
     write_reply(line, envelope, reply);
     ReceiveOutcome {
-        answer: Answer::Done,
-        written: ENVELOPE_BYTES + REPLY_BYTES,
-        session: Session {
-            parties: parties,
-            presenting: presenting,
-            receiving: receiving,
-            seen: time,
-            close: close,
-        },
         running: running,
+        received: Received {
+            answer: Answer::Done,
+            written: ENVELOPE_BYTES + REPLY_BYTES,
+            session: Session {
+                parties: parties,
+                presenting: presenting,
+                receiving: receiving,
+                seen: time,
+                close: close,
+            },
+        },
     }
 }
 
@@ -76,8 +83,8 @@ pub fn receive(
 ) -> ReceiveOutcome
     requires { ⌜ Sound session ⌝ }
     requires { ⌜ Carried Direction.receiving session running ⌝ }
-    ensures outcome { λ r. ⌜ receiveSaid r (now (line .exit)) ≡ receive time (now (message .entry)) (held session running (now (line .entry))) ⌝ }
-    ensures premise { λ r. ⌜ KeptBeside Direction.receiving session (r .session) (r .running) ⌝ }
+    ensures outcome { λ r. ⌜ receivedSaid (r .received) (r .running) (now (line .exit)) ≡ receive time (now (message .entry)) (held session running (now (line .entry))) ⌝ }
+    ensures premise { λ r. ⌜ KeptBeside Direction.receiving session (r .received .session) (r .running) ⌝ }
 {
     let parties = session.parties;
     let last = session.receiving;
@@ -91,9 +98,11 @@ pub fn receive(
         return replying(session, time, after, line);
     }
     ReceiveOutcome {
-        answer: answer,
-        written: 0,
-        session: session,
         running: running,
+        received: Received {
+            answer: answer,
+            written: 0,
+            session: session,
+        },
     }
 }

@@ -17,9 +17,8 @@ use Rattle.session.specs.Reply.{isAwaited, isAccepted, replyRefusal, replied, t
 use Rattle.session.specs.Engine.{Call, meaning}
 use Rattle.session.proofs.Laws.EveryCall.{kept-beside}
 use Rattle.calls.specs.Arrival.{Told}
-use Rattle.calls.specs.Said.{held}
+use Rattle.calls.specs.Said.{held, calledSaid}
 use Rattle.calls.proofs.Laws.Said.{said-done, said-refused, so-kept-beside}
-use Rattle.presenting.specs.Said.{takenSaid}
 use borrow.Author.Needs.{needs}
 use Rattle.presenting.proofs.reply.take_reply.Statement.{statement}
 use Rattle.presenting.proofs.reply.take_reply.Tie as tie
@@ -63,7 +62,7 @@ returns c =
     let time = t .args .time in
     let bytes = t .args .reply .now in
     let none = sym (c .before .before .answer-number .ensures) ∙ c .before .if1 .taken in
-    let said : (line : List ℕ) → takenSaid (c .replied .result) line ≡ takeReply time bytes (lent line) = λ (line : List ℕ). c .replied .ensures line ∙ ap (λ (b : Bool). silent (replied time b (lent line))) (arrived w .1 none) ∙ said-done (answerNumber (w .or-refused .result)) (replyRefusal time bytes s) (lent line) (silent (replied time (isAccepted bytes) (lent line))) (arrived w .0) none in
+    let said : (line : List ℕ) → calledSaid (c .replied .result .called) (c .replied .result .running) line ≡ takeReply time bytes (lent line) = λ (line : List ℕ). c .replied .ensures line ∙ ap (λ (b : Bool). silent (replied time b (lent line))) (arrived w .1 none) ∙ said-done (answerNumber (w .or-refused .result)) (replyRefusal time bytes s) (lent line) (silent (replied time (isAccepted bytes) (lent line))) (arrived w .0) none in
     (said, so-kept-beside s _ _ (said []) Direction.presenting (kept-beside (Call.reply time bytes) (lent []) (record { sound = t .pre .0; carried = t .pre .1 })))
 
 returns-2 : tie.Need-returns-2

@@ -25,7 +25,7 @@ use Rattle.calls.specs.Arrival.{Told}
 use Rattle.calls.specs.Said.{held}
 use Rattle.calls.proofs.Laws.Said.{said-refused, so-kept-beside}
 use Rattle.receiving.specs.declared.receive.ReceiveOutcome.{ReceiveOutcome}
-use Rattle.receiving.specs.Said.{receiveSaid}
+use Rattle.receiving.specs.Said.{receivedSaid}
 use Rattle.receiving.proofs.Laws.Receive.{told, replied-so}
 use borrow.Author.Needs.{needs}
 use Rattle.receiving.proofs.receive.receive.Statement.{statement}
@@ -100,8 +100,8 @@ returns c =
     let running = handled .ensures .1 ∙ ap (λ (x : List ℕ). cond next (receivingCourse (codeBy (contentOf x) (a .time) x (s .parties) (a .running) (s .receiving)) x (a .running) (s .receiving) .running) (a .running)) body in
     let given = c .before .before .replying in
     let line = given .last .1 .1 .1 .0 in
-    let said : receiveSaid (given .result) line ≡ receive (a .time) bytes lent =
-    ap (λ (x : ReceiveOutcome). receiveSaid x line) (given .ensures .0)
+    let said : receivedSaid (given .result .received) (given .result .running) line ≡ receive (a .time) bytes lent =
+    ap (λ (x : ReceiveOutcome). receivedSaid (x .received) (x .running) line) (given .ensures .0)
     ∙ (λ i. record { number = sym (none t) i; written = envelopeBytes + replyBytes; left = held (withReceiving (a .time) (handled .result .receiving) s) (handled .result .running) line })
     ∙ replied-so (a .time) bytes s (a .running) (a .line .now) (answerNumber (w .or-refused .result)) (arrived w .0) (none t) next (handled .result .receiving) (handled .result .running) line (arrived w .1 (none t)) after running (given .ensures .1) in
     (said, so-kept-beside s _ _ said Direction.receiving (kept-beside (Call.receive (a .time) bytes) lent (record { sound = w .before .before .before .before .before .before .before .before .pre .0; carried = w .before .before .before .before .before .before .before .before .pre .1 })))

@@ -1,0 +1,30 @@
+// The running totals of a presented lot, changed in place.
+use calls::course::advance;
+use session::counters::Running;
+use session::session::Session;
+ghost use mathlib.Core.Path.{_≡_};
+ghost use Rattle.session.specs.Course.{Direction};
+ghost use Rattle.session.specs.Reply.{presentingCourse};
+ghost use Rattle.session.specs.Premise.{Sound, Carried};
+
+// What the reply to what is pending leaves of the running totals.
+fn with_accepted(session: Session, running: Running, accepted: bool) -> Running
+    requires { ⌜ Sound session ⌝ }
+    requires { ⌜ Carried Direction.presenting session running ⌝ }
+    ensures { λ r. ⌜ r ≡ presentingCourse accepted running (session .presenting) .running ⌝ }
+{
+    let presenting = session.presenting;
+    let pending = presenting.pending;
+    let counters = presenting.counters;
+    let after = advance(pending, accepted, counters, running);
+    after.running
+}
+
+// The same in place.
+pub fn add_accepted(session: Session, running: &mut Running, accepted: bool)
+    requires { ⌜ Sound session ⌝ }
+    requires { ⌜ Carried Direction.presenting session (now running) ⌝ }
+    ensures { λ _. ⌜ now (running .exit) ≡ presentingCourse accepted (now (running .entry)) (session .presenting) .running ⌝ }
+{
+    *running = with_accepted(session, *running, accepted);
+}

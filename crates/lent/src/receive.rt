@@ -1,0 +1,27 @@
+// Receiving, with the running totals of the received lot lent.
+use receiving::receive::Received;
+use session::counters::Running;
+use session::session::Session;
+ghost use mathlib.Core.Path.{_≡_};
+ghost use Rattle.session.specs.Course.{Direction};
+ghost use Rattle.session.specs.Receiving.{receive};
+ghost use Rattle.session.specs.Premise.{Sound, Carried, KeptBeside};
+ghost use Rattle.calls.specs.Said.{held};
+ghost use Rattle.receiving.specs.Said.{receivedSaid};
+
+// Takes a message of any bytes and writes the reply to it.
+pub fn receive(
+    session: Session,
+    running: &mut Running,
+    time: u32,
+    message: &[u8],
+    line: &mut [u8],
+) -> Received
+    requires { ⌜ Sound session ⌝ }
+    requires { ⌜ Carried Direction.receiving session (now running) ⌝ }
+    ensures { λ r. ⌜ (receivedSaid r (now (running .exit)) (now (line .exit)) ≡ receive time (now (message .entry)) (held session (now (running .entry)) (now (line .entry)))) × KeptBeside Direction.receiving session (r .session) (now (running .exit)) ⌝ }
+{
+    let outcome = receiving::receive::receive(session, *running, time, message, line);
+    *running = outcome.running;
+    outcome.received
+}
