@@ -2,5 +2,6 @@
 // and changed in place. Each is a thin function over the call by value.
 
 pub mod adding;
+pub mod example;
 pub mod receive;
 pub mod reply;

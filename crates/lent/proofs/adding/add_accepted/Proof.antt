@@ -2,7 +2,7 @@
 use denote.Builtin.{unit}
 use denote.Signature.{plain}
 use Rattle.session.specs.Reply.{presentingCourse}
-use Rattle.lent.proofs.InPlace.{ℕ, Bool, _≡_, refl, List, [], _∷_, URA, named, Val, vunit, vptr, SProp, ent, sep, emp, id⊢, GName, Lft, Share, ftrue, flft, Memory, Routine, Heap, Calls, Loops, WpFn, Atoms, Fun, fact, givenOf, FmC, Given, ‵, raw, _⊛_, ⋆, _$_, _∵_, !, qed, by, move, keep, drop, use0, split, join, fsplit, fsplit3, fjoin, feqI, suffices, frame, done, look, init, stop, from, unit-lit, of-opd, and-then, no-more, assigns, returns, enter, alloc1, alloc0, params1, pass1, pass0, free0, owns, Is, RefT, MutRef, only, nothing, Contract, Triple, onEntry, tripleOf, cited, says, walkOf, ends-at, Totals, Session, Direction, Sound, Carried, session, totals, truth, typed, Param, by-value, lent, stays, both, premise, Lent, has, settled, gone, here, hears, into, reads, writes, asks, concluded}
+use Rattle.lent.proofs.InPlace.{ℕ, Bool, _≡_, refl, List, [], _∷_, URA, named, Val, vunit, vptr, SProp, ent, sep, emp, id⊢, GName, Lft, Share, ftrue, flft, Memory, Routine, Heap, Calls, Loops, WpFn, Atoms, Fun, fact, givenOf, FmC, Given, ‵, raw, _⊛_, ⋆, _$_, _∵_, !, qed, by, move, keep, drop, use0, split, join, fsplit, fsplit3, fjoin, feqI, suffices, frame, done, look, init, unit-lit, of-opd, and-then, no-more, returns, enter, alloc1, alloc0, params1, pass1, pass0, free0, owns, Is, RefT, MutRef, only, nothing, Contract, Triple, onEntry, tripleOf, cited, says, walkOf, ends-at, Totals, Session, Direction, Sound, Carried, session, totals, truth, typed, Param, by-value, lent, stays, both, premise, Lent, has, settled, gone, here, hears, sets, into, reads, writes, asks, concluded}
 use Rattle.lent.proofs.adding.with_accepted as step
 use Rattle.lent.proofs.adding.with_accepted.Symbol as step-def
 use Rattle.lent.proofs.adding.with_accepted.Symbol.{name as #step}
@@ -57,7 +57,7 @@ module _ {M : Type 1} (𝓤 : URA M) (H : Heap 𝓤) (A : Atoms 𝓤) (W : Given
         reads ! {h = h} 6 0 refl refl (λ is. typed W totals h _ is .0) (λ is-h. use0 W (raw (Step .pre asked)) (goes sound carried is-h) $
         asks ! fm step.ended (step.clauses 𝓤 H A mem run) known asked (and-then ! (here ! (look ! 12 refl)) (and-then ! (here ! (look ! 4 refl)) (and-then ! (here ! (look ! 8 refl)) (no-more !)))) (λ v r is-r.
         hears ! step.ended (step.clauses 𝓤 H A mem run) asked r (λ _. Said r) (λ _. id⊢ 𝓤 _) (λ _ e. drop ! $ drop ! $ into ! 5 refl (typed W totals r _ is-r .0) $
-        writes ! {h = h} 6 refl r v is-r (here ! (look ! 7 refl)) $ assigns ! (of-opd ! (unit-lit !)) (from ! (stop !)) (init ! 13 refl (tt, tt)) $
+        writes ! {h = h} 6 refl r v is-r (here ! (look ! 7 refl)) $ sets ! 13 (of-opd ! (unit-lit !)) refl (tt, tt) $
         returns ! (look ! 13 refl) $ move ! (13 ∷ 14 ∷ 11 ∷ 12 ∷ 9 ∷ 10 ∷ 7 ∷ 8 ∷ 5 ∷ 6 ∷ 3 ∷ 4 ∷ []) $ gone ! $ gone ! $ gone ! $ gone ! $ gone ! $ gone ! $ free0 ! $ by ! (exits r e))))))))))
 
 pub add-accepted-spec : {M : Type 1} → stated.statement M

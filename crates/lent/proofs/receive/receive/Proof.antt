@@ -17,7 +17,7 @@ use Rattle.receiving.proofs.receive.receive as step
 use Rattle.receiving.proofs.receive.receive.Symbol as step-def
 use Rattle.receiving.proofs.receive.receive.Symbol.{name as #step}
 use Rattle.receiving.proofs.receive.receive.Met as step-thm
-use Rattle.lent.proofs.InPlace.{u8, ℕ, _≡_, refl, ap, List, [], _∷_, length, URA, named, Val, vptr, SProp, ent, sep, id⊢, GName, Lft, Share, ftrue, flft, Memory, Routine, Heap, Calls, Loops, WpFn, Atoms, Fun, fact, givenOf, FmC, Given, ‵, raw, _⊛_, ⋆, _$_, _∵_, !, qed, by, move, keep, drop, group, use0, use1, split, split3, join, fsplit, fsplit3, fjoin, feqL, suffices, frame, done, look, init, stop, hop, from, load, addr, and-then, no-more, assigns, returns, enter, alloc1, alloc0, params1, pass1, pass0, free0, agg, whole, sub, look-in, owns, Is, RefT, MutRef, sliceVal, slice-vals, ShrSlice, MutSlice, finally, shr-slice-lawful, mut-slice-lawful, only, nothing, Contract, Triple, onEntry, tripleOf, cited, says, walkOf, ends-at, Totals, Session, Direction, Sound, Carried, Plain, declared, session, totals, number, typed, Param, by-value, lent, shared, lent-on, stays, both, all-said, premise, Lent, has, settled, gone, here, apart, hears, into, reads, asks, gives, concluded}
+use Rattle.lent.proofs.InPlace.{u8, ℕ, _≡_, refl, ap, List, [], _∷_, length, URA, named, Val, vptr, SProp, ent, sep, id⊢, GName, Lft, Share, ftrue, flft, Memory, Routine, Heap, Calls, Loops, WpFn, Atoms, Fun, fact, givenOf, FmC, Given, ‵, raw, _⊛_, ⋆, _$_, _∵_, !, qed, by, move, keep, drop, group, use0, use1, split, split3, join, fsplit, fsplit3, fjoin, feqL, suffices, frame, done, look, init, stop, hop, from, load, addr, and-then, no-more, returns, enter, alloc1, alloc0, params1, pass1, pass0, free0, agg, whole, sub, look-in, owns, Is, RefT, MutRef, sliceVal, slice-vals, ShrSlice, MutSlice, finally, shr-slice-lawful, mut-slice-lawful, only, nothing, Contract, Triple, onEntry, tripleOf, cited, says, walkOf, ends-at, Totals, Session, Direction, Sound, Carried, Plain, declared, session, totals, number, typed, Param, by-value, lent, shared, lent-on, stays, both, all-said, premise, Lent, has, settled, gone, here, apart, hears, sets, into, reads, asks, gives, concluded}
 use Rattle.lent.proofs.receive.receive.Key.{name as #receive}
 use Rattle.lent.proofs.receive.receive as in-place
 use Rattle.lent.proofs.receive.receive.Statement as stated
@@ -80,8 +80,8 @@ module _ {M : Type 1} (𝓤 : URA M) (H : Heap 𝓤) (A : Atoms 𝓤) (W : Given
         pass1 ! (init ! 8 refl (mut-slice-lawful 𝓤 H A W (named 2) κ₂ u8 .typed line _ is-l .0)) $ pass0 ! $ move ! (20 ∷ 21 ∷ 22 ∷ []) $
         -- [the running totals, lent; _9 at 0, _8 at 2, _7 at 4, _6 at 6, _5 at 8, _4 at 10, _3 at 12, _2 at 14, _1 at 16, _0 at 18; the tokens of message and line buffer; the two]
         reads ! {h = h} 14 4 refl refl (λ is. typed W totals h _ is .0) (λ is-h.
-        assigns ! (addr ! (from ! (fld ! refl (hop ! (look-in ! 11 (sub ! 0 refl (whole !))) (stop !))))) (from ! (stop !)) (init ! 5 refl (tt, tt)) $
-        assigns ! (agg ! (and-then ! (here ! (look ! 5 refl)) (and-then ! (load ! (from ! (fld ! refl (stop !))) (look-in ! 11 (sub ! 1 refl (whole !)))) (no-more !)))) (from ! (stop !)) (init ! 3 refl (tt, (tt, (record { fits = is-l .0 .1 .0 }, tt)))) $
+        sets ! 5 (addr ! (from ! (fld ! refl (hop ! (look-in ! 11 (sub ! 0 refl (whole !))) (stop !))))) refl (tt, tt) $
+        sets ! 3 (agg ! (and-then ! (here ! (look ! 5 refl)) (and-then ! (load ! (from ! (fld ! refl (stop !))) (look-in ! 11 (sub ! 1 refl (whole !)))) (no-more !)))) refl (tt, (tt, (record { fits = is-l .0 .1 .0 }, tt))) $
         move ! (23 ∷ 24 ∷ 25 ∷ 26 ∷ []) $ group ! 4 $ use1 W (raw (Step .pre asked)) (goes sound carried is-h) $
         asks ! fm step.ended (step.clauses 𝓤 H A mem run) known asked (and-then ! (here ! (look ! 20 refl)) (and-then ! (here ! (look ! 8 refl)) (and-then ! (here ! (look ! 16 refl)) (and-then ! (here ! (look ! 14 refl)) (and-then ! (here ! (look ! 4 refl)) (no-more !)))))) (λ v r is.
         hears ! step.ended (step.clauses 𝓤 H A mem run) asked r (λ ws. Said (r .received) (r .running) (ws .1 .1 .1 .1 .0)) (λ _. all-said 𝓤 _ _) (λ ws e. fsplit ! $ drop ! $ fsplit ! $ drop ! $ fsplit ! $ drop ! $ fsplit ! $ drop ! $ fsplit ! $ fsplit ! $ move ! (1 ∷ []) $ feqL ! (λ l.
