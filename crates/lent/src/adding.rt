@@ -1,4 +1,4 @@
-// The running totals of a presented lot, changed in place.
+// The running totals of a presented lot, as the replies to its details are read.
 use calls::course::advance;
 use session::counters::Running;
 use session::session::Session;
@@ -7,8 +7,8 @@ ghost use Rattle.session.specs.Course.{Direction};
 ghost use Rattle.session.specs.Reply.{presentingCourse};
 ghost use Rattle.session.specs.Premise.{Sound, Carried};
 
-// What the reply to what is pending leaves of the running totals.
-fn with_accepted(session: Session, running: Running, accepted: bool) -> Running
+// The running totals after the reply to what is pending: an accepted detail is added, a refused one is not.
+pub fn with_accepted(session: Session, running: Running, accepted: bool) -> Running
     requires { ⌜ Sound session ⌝ }
     requires { ⌜ Carried Direction.presenting session running ⌝ }
     ensures { λ r. ⌜ r ≡ presentingCourse accepted running (session .presenting) .running ⌝ }
@@ -20,7 +20,7 @@ fn with_accepted(session: Session, running: Running, accepted: bool) -> Running
     after.running
 }
 
-// The same in place.
+// The same in place, for whoever reads a reply's code by other means than the reply call, which does it itself.
 pub fn add_accepted(session: Session, running: &mut Running, accepted: bool)
     requires { ⌜ Sound session ⌝ }
     requires { ⌜ Carried Direction.presenting session (now running) ⌝ }

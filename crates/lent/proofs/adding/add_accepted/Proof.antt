@@ -2,7 +2,12 @@
 use denote.Builtin.{unit}
 use denote.Signature.{plain}
 use Rattle.session.specs.Reply.{presentingCourse}
-use Rattle.lent.proofs.InPlace.{ℕ, Bool, _≡_, refl, List, [], _∷_, URA, named, Val, vunit, vptr, SProp, ent, sep, emp, id⊢, GName, Lft, Share, ftrue, flft, Memory, Routine, Heap, Calls, Loops, WpFn, Atoms, Fun, fact, givenOf, FmC, Given, ‵, raw, _⊛_, ⋆, _$_, _∵_, !, qed, by, move, keep, drop, use0, split, join, fsplit, fsplit3, fjoin, feqI, suffices, frame, done, look, init, unit-lit, of-opd, and-then, no-more, returns, enter, alloc1, alloc0, params1, pass1, pass0, free0, owns, Is, RefT, MutRef, only, nothing, Contract, Triple, onEntry, tripleOf, cited, says, walkOf, ends-at, Totals, Session, Direction, Sound, Carried, session, totals, truth, typed, Param, by-value, lent, stays, both, premise, Lent, has, settled, gone, here, hears, sets, into, reads, writes, asks, concluded}
+use Rattle.lent.proofs.InPlace.{ℕ, Bool, _≡_, refl, List, [], _∷_, URA, named, Val, vunit, vptr, SProp, ent, sep, emp, id⊢, GName, Lft, Share, ftrue, flft, Memory, Routine}
+use Rattle.lent.proofs.InPlace.{Heap, Calls, Loops, WpFn, Atoms, Fun, fact, givenOf, FmC, Given, ‵, raw, _⊛_, ⋆, _$_, _∵_, !, qed, by, move, keep, drop, use0, split, join}
+use Rattle.lent.proofs.InPlace.{fsplit, fsplit3, fjoin, feqI, suffices, frame, done, look, init, unit-lit, of-opd, and-then, no-more, returns, enter, alloc1, alloc0}
+use Rattle.lent.proofs.InPlace.{params1, pass1, pass0, free0, owns, Is, RefT, MutRef, only, nothing, Contract, Triple, onEntry, tripleOf, cited, says, walkOf, ends-at}
+use Rattle.lent.proofs.InPlace.{Session, Running, Direction, Sound, Carried, session, totals, truth, typed, Param, by-value, lent, stays, both, premise, Lent, has, settled}
+use Rattle.lent.proofs.InPlace.{gone, here, hears, sets, into, reads, writes, asks, concluded}
 use Rattle.lent.proofs.adding.with_accepted as step
 use Rattle.lent.proofs.adding.with_accepted.Symbol as step-def
 use Rattle.lent.proofs.adding.with_accepted.Symbol.{name as #step}
@@ -16,11 +21,11 @@ abbrev params : List (Param 1)
 params = by-value session (λ x f. refl) ∷ lent 0 tt ∷ by-value truth (λ x f. refl) ∷ []
 
 module _ {M : Type 1} (𝓤 : URA M) (H : Heap 𝓤) (A : Atoms 𝓤) (W : Given 𝓤 H A) (mem : Memory → SProp 𝓤) (run : Routine → Fun 𝓤)
-    (κ : Lft) (q : Share) (s : Session) (sv : Val) (b o : ℕ) (γ : GName) (h : Totals) (accepted : Bool) (av : Val) (is-s : Is (session .type) s (sv ∷ [])) (is-a : Is (truth .type) accepted (av ∷ [])) where
+    (κ : Lft) (q : Share) (s : Session) (sv : Val) (b o : ℕ) (γ : GName) (h : Running) (accepted : Bool) (av : Val) (is-s : Is (session .type) s (sv ∷ [])) (is-a : Is (truth .type) accepted (av ∷ [])) where
   abbrev Step : Contract 𝓤
   Step = tripleOf 𝓤 H A step.signature (step.spec 𝓤 H A mem run)
 
-  abbrev a : Session × (RefT Totals × (Bool × Unit {0}))
+  abbrev a : Session × (RefT Running × (Bool × Unit {0}))
   a = (s, (record { ptr = (b, o); name = γ; now = h }, (accepted, tt)))
 
   abbrev at : List Val × (List Val × (List Val × Unit {0}))
@@ -30,10 +35,10 @@ module _ {M : Type 1} (𝓤 : URA M) (H : Heap 𝓤) (A : Atoms 𝓤) (W : Given
   Post = walkOf 𝓤 H A add.ended (stays params) (add.clauses 𝓤 H A mem run) .post (((κ, tt), (q, tt), tt, a, at), tt)
 
   -- what the contract says of the last value
-  abbrev Said : Totals → Type 0
+  abbrev Said : Running → Type 0
   Said r = r ≡ presentingCourse accepted h (s .presenting) .running
 
-  exits : (r : Totals) → Said r → ent 𝓤 (⋆ 𝓤 H A (Lent κ q γ b o r [])) (Post vunit)
+  exits : (r : Running) → Said r → ent 𝓤 (⋆ 𝓤 H A (Lent κ q γ b o r [])) (Post vunit)
   exits r e =
       qed W (Lent κ q γ b o r []) ∵ suffices ! _ (ends-at 𝓤 H A add.ended (stays params) (add.clauses 𝓤 H A mem run) W (((κ, tt), (q, tt), tt, a, at), tt) vunit tt (tt, (r, (tt, tt))) (tt, (tt, (tt, tt)))) $ says ! e $
       settled ! b o r $ nothing ! $ move ! (2 ∷ 0 ∷ []) $ join ! $ frame ! $ nothing ! $ nothing ! $ fjoin ! $ move ! (1 ∷ 0 ∷ []) $ fjoin ! $ nothing ! $ fjoin ! $ frame ! $ feqI ! (List Val) (vunit ∷ []) (vunit ∷ []) refl $ done !

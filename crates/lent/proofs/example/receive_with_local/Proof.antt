@@ -2,7 +2,6 @@
 use mir.Val.{vstruct, vnil, vcons}
 use types.Run.{fld}
 use denote.Signature.{plain}
-use denote.Struct.Laws as LL
 use Rattle.session.specs.Receiving.{receive}
 use Rattle.session.specs.Premise.{KeptBeside}
 use Rattle.calls.specs.Said.{held}
@@ -13,7 +12,13 @@ use Rattle.receiving.proofs.receive.Received.Laws as R′
 use Rattle.receiving.specs.declared.receive.ReceiveOutcome.{ReceiveOutcome}
 use Rattle.receiving.proofs.receive.ReceiveOutcome as O
 use Rattle.receiving.proofs.receive.ReceiveOutcome.Laws as O′
-use Rattle.lent.proofs.InPlace.{u8, ℕ, _≡_, refl, List, [], _∷_, length, URA, fullShare, named, Val, vptr, SProp, ent, sep, id⊢, GName, Lft, Share, ftrue, flft, Memory, Routine, Heap, Calls, Loops, WpFn, Atoms, Fun, fact, givenOf, FmC, Given, Item, ‵, raw, _⊛_, ⋆, _$_, _∵_, !, qed, by, move, keep, drop, group, use0, use1, split3, join, fsplit, fjoin, feqL, suffices, frame, done, look, init, stop, hop, from, load, addr, of-opd, and-then, no-more, returns, enter, alloc1, alloc0, params1, pass1, pass0, free0, agg, whole, sub, look-in, owns, Is, RefT, MutRef, sliceVal, slice-vals, ShrSlice, MutSlice, finally, shr-slice-lawful, mut-slice-lawful, only, nothing, Contract, Triple, onEntry, tripleOf, cited, says, walkOf, ends-at, Totals, Session, Direction, Sound, Carried, Plain, declared, session, totals, number, typed, Param, by-value, shared, lent-on, stays, both, premise, has, lends, takes-back, gone, here, hears, sets, into, asks, concluded}
+use Rattle.lent.proofs.InPlace.{u8, ℕ, _≡_, refl, List, [], _∷_, length, URA, fullShare, named, Val, vptr, SProp, ent, sep, id⊢, GName, Lft, Share, ftrue, flft, Memory}
+use Rattle.lent.proofs.InPlace.{Routine, Heap, Calls, Loops, WpFn, Atoms, Fun, fact, givenOf, FmC, Given, Item, ‵, raw, _⊛_, ⋆, _$_, _∵_, !, qed, by, move, keep, drop}
+use Rattle.lent.proofs.InPlace.{group, use0, use1, split3, join, fsplit, fjoin, feqL, suffices, frame, done, look, init, stop, hop, from, load, addr, of-opd, and-then}
+use Rattle.lent.proofs.InPlace.{no-more, returns, enter, alloc1, alloc0, params1, pass1, pass0, free0, agg, whole, sub, look-in, owns, Is, RefT, MutRef, sliceVal}
+use Rattle.lent.proofs.InPlace.{slice-vals, ShrSlice, MutSlice, finally, shr-slice-lawful, mut-slice-lawful, only, nothing, Contract, Triple, onEntry, tripleOf, cited, says}
+use Rattle.lent.proofs.InPlace.{walkOf, ends-at, Session, Running, Direction, Sound, Carried, Plain, declared, session, totals, number, typed, Param, by-value, shared}
+use Rattle.lent.proofs.InPlace.{lent-on, stays, both, premise, has, lends, takes-back, gone, here, hears, sets, into, asks, concluded}
 use Rattle.lent.proofs.receive.receive as step
 use Rattle.lent.proofs.receive.receive.Symbol as step-def
 use Rattle.lent.proofs.receive.receive.Symbol.{name as #step}
@@ -33,18 +38,18 @@ abbrev outcome : Plain
 outcome = declared O.the-type O′.the-laws O′.the-plain
 
 -- the outcome is made of its two fields
-made : (r : Received) (t : Totals) (v : Val) → Is (received .type) r (v ∷ []) → Is (totals .type) t (totals .spell t) → Is (outcome .type) (record { running = t; received = r }) (vstruct (vcons (only (totals .spell t)) (vcons v vnil)) ∷ [])
+made : (r : Received) (t : Running) (v : Val) → Is (received .type) r (v ∷ []) → Is (totals .type) t (totals .spell t) → Is (outcome .type) (record { running = t; received = r }) (vstruct (vcons (only (totals .spell t)) (vcons v vnil)) ∷ [])
 made r t v is-r is-t = ((totals .spell t, (v ∷ [], tt)), (refl, (is-t, (is-r, tt))))
 
 module _ {M : Type 1} (𝓤 : URA M) (H : Heap 𝓤) (A : Atoms 𝓤) (W : Given 𝓤 H A) (mem : Memory → SProp 𝓤) (run : Routine → Fun 𝓤)
-    (κ₁ κ₂ : Lft) (q₁ q₂ : Share) (s : Session) (sv : Val) (h : Totals) (hv : Val) (time : ℕ) (tv : Val) (message : RefT (List ℕ)) (mv : Val) (line : RefT (List ℕ)) (is-s : Is (session .type) s (sv ∷ [])) (is-h : Is (totals .type) h (hv ∷ [])) (is-t : Is (number .type) time (tv ∷ [])) (is-m : Is (ShrSlice (named 0) κ₁ u8) message (mv ∷ [])) (is-l : Is (MutSlice (named 1) κ₂ u8) line (slice-vals line)) where
+    (κ₁ κ₂ : Lft) (q₁ q₂ : Share) (s : Session) (sv : Val) (h : Running) (hv : Val) (time : ℕ) (tv : Val) (message : RefT (List ℕ)) (mv : Val) (line : RefT (List ℕ)) (is-s : Is (session .type) s (sv ∷ [])) (is-h : Is (totals .type) h (hv ∷ [])) (is-t : Is (number .type) time (tv ∷ [])) (is-m : Is (ShrSlice (named 0) κ₁ u8) message (mv ∷ [])) (is-l : Is (MutSlice (named 1) κ₂ u8) line (slice-vals line)) where
   abbrev Step : Contract 𝓤
   Step = tripleOf 𝓤 H A step.signature (step.spec 𝓤 H A mem run)
 
   abbrev lv : Val
   lv = sliceVal (line .ptr) (length (line .now))
 
-  abbrev a : Session × (Totals × (ℕ × (RefT (List ℕ) × (RefT (List ℕ) × Unit {0}))))
+  abbrev a : Session × (Running × (ℕ × (RefT (List ℕ) × (RefT (List ℕ) × Unit {0}))))
   a = (s, (h, (time, (message, (line, tt)))))
 
   abbrev at : List Val × (List Val × (List Val × (List Val × (List Val × Unit {0}))))
@@ -54,7 +59,7 @@ module _ {M : Type 1} (𝓤 : URA M) (H : Heap 𝓤) (A : Atoms 𝓤) (W : Given
   Post = walkOf 𝓤 H A example.ended (stays params) (example.clauses 𝓤 H A mem run) .post (((κ₁, (κ₂, tt)), (q₁, (q₂, tt)), tt, a, at), tt)
 
   -- what both contracts say of the result and of the last values
-  abbrev Said : Received → Totals → List ℕ → Type 0
+  abbrev Said : Received → Running → List ℕ → Type 0
   Said r t bytes = (receivedSaid r t bytes ≡ receive time (message .now) (held s h (line .now))) × KeptBeside Direction.receiving s (r .session) t
 
   exits : (r : ReceiveOutcome) (v : Val) → Is (outcome .type) r (v ∷ []) → (bytes : List ℕ) → length bytes ≡ length (line .now) → Said (r .received) (r .running) bytes

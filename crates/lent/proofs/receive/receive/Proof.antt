@@ -17,7 +17,13 @@ use Rattle.receiving.proofs.receive.receive as step
 use Rattle.receiving.proofs.receive.receive.Symbol as step-def
 use Rattle.receiving.proofs.receive.receive.Symbol.{name as #step}
 use Rattle.receiving.proofs.receive.receive.Met as step-thm
-use Rattle.lent.proofs.InPlace.{u8, ℕ, _≡_, refl, ap, List, [], _∷_, length, URA, named, Val, vptr, SProp, ent, sep, id⊢, GName, Lft, Share, ftrue, flft, Memory, Routine, Heap, Calls, Loops, WpFn, Atoms, Fun, fact, givenOf, FmC, Given, ‵, raw, _⊛_, ⋆, _$_, _∵_, !, qed, by, move, keep, drop, group, use0, use1, split, split3, join, fsplit, fsplit3, fjoin, feqL, suffices, frame, done, look, init, stop, hop, from, load, addr, and-then, no-more, returns, enter, alloc1, alloc0, params1, pass1, pass0, free0, agg, whole, sub, look-in, owns, Is, RefT, MutRef, sliceVal, slice-vals, ShrSlice, MutSlice, finally, shr-slice-lawful, mut-slice-lawful, only, nothing, Contract, Triple, onEntry, tripleOf, cited, says, walkOf, ends-at, Totals, Session, Direction, Sound, Carried, Plain, declared, session, totals, number, typed, Param, by-value, lent, shared, lent-on, stays, both, all-said, premise, Lent, has, settled, gone, here, apart, hears, sets, into, reads, asks, gives, concluded}
+use Rattle.lent.proofs.InPlace.{u8, ℕ, _≡_, refl, ap, List, [], _∷_, length, URA, named, Val, vptr, SProp, ent, sep, id⊢, GName, Lft, Share, ftrue, flft, Memory, Routine}
+use Rattle.lent.proofs.InPlace.{Heap, Calls, Loops, WpFn, Atoms, Fun, fact, givenOf, FmC, Given, ‵, raw, _⊛_, ⋆, _$_, _∵_, !, qed, by, move, keep, drop, group, use0, use1}
+use Rattle.lent.proofs.InPlace.{split, split3, join, fsplit, fsplit3, fjoin, feqL, suffices, frame, done, look, init, stop, hop, from, load, addr, and-then, no-more}
+use Rattle.lent.proofs.InPlace.{returns, enter, alloc1, alloc0, params1, pass1, pass0, free0, agg, whole, sub, look-in, owns, Is, RefT, MutRef, sliceVal, slice-vals}
+use Rattle.lent.proofs.InPlace.{ShrSlice, MutSlice, finally, shr-slice-lawful, mut-slice-lawful, only, nothing, Contract, Triple, onEntry, tripleOf, cited, says, walkOf}
+use Rattle.lent.proofs.InPlace.{ends-at, Session, Running, Direction, Sound, Carried, Plain, declared, session, totals, number, typed, Param, by-value, lent, shared}
+use Rattle.lent.proofs.InPlace.{lent-on, stays, both, all-said, premise, Lent, has, settled, gone, here, apart, hears, sets, into, reads, asks, gives, concluded}
 use Rattle.lent.proofs.receive.receive.Key.{name as #receive}
 use Rattle.lent.proofs.receive.receive as in-place
 use Rattle.lent.proofs.receive.receive.Statement as stated
@@ -34,14 +40,14 @@ at-received : fieldOf O′.mir 1 ≡ just (R′.mir, 24)
 at-received = refl
 
 module _ {M : Type 1} (𝓤 : URA M) (H : Heap 𝓤) (A : Atoms 𝓤) (W : Given 𝓤 H A) (mem : Memory → SProp 𝓤) (run : Routine → Fun 𝓤)
-    (κ κ₁ κ₂ : Lft) (q q₁ q₂ : Share) (s : Session) (sv : Val) (b o : ℕ) (γ : GName) (h : Totals) (time : ℕ) (tv : Val) (message : RefT (List ℕ)) (mv : Val) (line : RefT (List ℕ)) (is-s : Is (session .type) s (sv ∷ [])) (is-t : Is (number .type) time (tv ∷ [])) (is-m : Is (ShrSlice (named 1) κ₁ u8) message (mv ∷ [])) (is-l : Is (MutSlice (named 2) κ₂ u8) line (slice-vals line)) where
+    (κ κ₁ κ₂ : Lft) (q q₁ q₂ : Share) (s : Session) (sv : Val) (b o : ℕ) (γ : GName) (h : Running) (time : ℕ) (tv : Val) (message : RefT (List ℕ)) (mv : Val) (line : RefT (List ℕ)) (is-s : Is (session .type) s (sv ∷ [])) (is-t : Is (number .type) time (tv ∷ [])) (is-m : Is (ShrSlice (named 1) κ₁ u8) message (mv ∷ [])) (is-l : Is (MutSlice (named 2) κ₂ u8) line (slice-vals line)) where
   abbrev Step : Contract 𝓤
   Step = tripleOf 𝓤 H A step.signature (step.spec 𝓤 H A mem run)
 
   abbrev lv : Val
   lv = sliceVal (line .ptr) (length (line .now))
 
-  abbrev a : Session × (RefT Totals × (ℕ × (RefT (List ℕ) × (RefT (List ℕ) × Unit {0}))))
+  abbrev a : Session × (RefT Running × (ℕ × (RefT (List ℕ) × (RefT (List ℕ) × Unit {0}))))
   a = (s, (record { ptr = (b, o); name = γ; now = h }, (time, (message, (line, tt)))))
 
   abbrev at : List Val × (List Val × (List Val × (List Val × (List Val × Unit {0}))))
@@ -51,10 +57,10 @@ module _ {M : Type 1} (𝓤 : URA M) (H : Heap 𝓤) (A : Atoms 𝓤) (W : Given
   Post = walkOf 𝓤 H A in-place.ended (stays params) (in-place.clauses 𝓤 H A mem run) .post (((κ, (κ₁, (κ₂, tt))), (q, (q₁, (q₂, tt))), tt, a, at), tt)
 
   -- what the contract says of the result and of the last values
-  abbrev Said : Received → Totals → List ℕ → Type 0
+  abbrev Said : Received → Running → List ℕ → Type 0
   Said r t bytes = (receivedSaid r t bytes ≡ receive time (message .now) (held s h (line .now))) × KeptBeside Direction.receiving s (r .session) t
 
-  exits : (r : Received) (v : Val) → Is (received .type) r (v ∷ []) → (t : Totals) (bytes : List ℕ) → length bytes ≡ length (line .now) → Said r t bytes
+  exits : (r : Received) (v : Val) → Is (received .type) r (v ∷ []) → (t : Running) (bytes : List ℕ) → length bytes ≡ length (line .now) → Said r t bytes
       → ent 𝓤 (⋆ 𝓤 H A (Lent κ q γ b o t (‵ (flft κ₁ q₁) ∷ ‵ (flft κ₂ q₂) ∷ ‵ (finally u8 (line .name) bytes) ∷ []))) (Post v)
   exits r v is t bytes l e =
       qed W (Lent κ q γ b o t (‵ (flft κ₁ q₁) ∷ ‵ (flft κ₂ q₂) ∷ ‵ (finally u8 (line .name) bytes) ∷ [])) ∵

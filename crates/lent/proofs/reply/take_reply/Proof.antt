@@ -15,7 +15,12 @@ use Rattle.presenting.proofs.reply.take_reply as step
 use Rattle.presenting.proofs.reply.take_reply.Symbol as step-def
 use Rattle.presenting.proofs.reply.take_reply.Symbol.{name as #step}
 use Rattle.presenting.proofs.reply.take_reply.Met as step-thm
-use Rattle.lent.proofs.InPlace.{u8, ℕ, _≡_, refl, ap, List, [], _∷_, URA, named, Val, vptr, SProp, ent, sep, id⊢, GName, Lft, Share, ftrue, flft, Memory, Routine, Heap, Calls, Loops, WpFn, Atoms, Fun, fact, givenOf, FmC, Given, ‵, raw, _⊛_, ⋆, _$_, _∵_, !, qed, by, move, keep, drop, group, use0, use1, split, split3, join, fsplit, fsplit3, fjoin, suffices, frame, done, look, init, and-then, no-more, returns, enter, alloc1, alloc0, params1, pass1, pass0, free0, owns, Is, RefT, MutRef, slice-vals, ShrSlice, shr-slice-lawful, only, nothing, Contract, Triple, onEntry, tripleOf, cited, says, walkOf, ends-at, Totals, Session, Direction, Sound, Carried, Plain, declared, session, totals, number, typed, Param, by-value, lent, shared, stays, both, all-said, premise, Lent, has, settled, gone, here, apart, hears, into, reads, asks, gives, concluded}
+use Rattle.lent.proofs.InPlace.{u8, ℕ, _≡_, refl, ap, List, [], _∷_, URA, named, Val, vptr, SProp, ent, sep, id⊢, GName, Lft, Share, ftrue, flft, Memory, Routine, Heap}
+use Rattle.lent.proofs.InPlace.{Calls, Loops, WpFn, Atoms, Fun, fact, givenOf, FmC, Given, ‵, raw, _⊛_, ⋆, _$_, _∵_, !, qed, by, move, keep, drop, group, use0, use1, split}
+use Rattle.lent.proofs.InPlace.{split3, join, fsplit, fsplit3, fjoin, suffices, frame, done, look, init, and-then, no-more, returns, enter, alloc1, alloc0, params1, pass1}
+use Rattle.lent.proofs.InPlace.{pass0, free0, owns, Is, RefT, MutRef, slice-vals, ShrSlice, shr-slice-lawful, only, nothing, Contract, Triple, onEntry, tripleOf, cited}
+use Rattle.lent.proofs.InPlace.{says, walkOf, ends-at, Session, Running, Direction, Sound, Carried, Plain, declared, session, totals, number, typed, Param, by-value, lent}
+use Rattle.lent.proofs.InPlace.{shared, stays, both, all-said, premise, Lent, has, settled, gone, here, apart, hears, into, reads, asks, gives, concluded}
 use Rattle.lent.proofs.reply.take_reply.Key.{name as #take}
 use Rattle.lent.proofs.reply.take_reply as take
 use Rattle.lent.proofs.reply.take_reply.Statement as stated
@@ -32,11 +37,11 @@ at-called : fieldOf O′.mir 1 ≡ just (R′.mir, 24)
 at-called = refl
 
 module _ {M : Type 1} (𝓤 : URA M) (H : Heap 𝓤) (A : Atoms 𝓤) (W : Given 𝓤 H A) (mem : Memory → SProp 𝓤) (run : Routine → Fun 𝓤)
-    (κ κ₁ : Lft) (q q₁ : Share) (s : Session) (sv : Val) (b o : ℕ) (γ : GName) (h : Totals) (time : ℕ) (tv : Val) (reply : RefT (List ℕ)) (rv : Val) (is-s : Is (session .type) s (sv ∷ [])) (is-t : Is (number .type) time (tv ∷ [])) (is-r : Is (ShrSlice (named 1) κ₁ u8) reply (rv ∷ [])) where
+    (κ κ₁ : Lft) (q q₁ : Share) (s : Session) (sv : Val) (b o : ℕ) (γ : GName) (h : Running) (time : ℕ) (tv : Val) (reply : RefT (List ℕ)) (rv : Val) (is-s : Is (session .type) s (sv ∷ [])) (is-t : Is (number .type) time (tv ∷ [])) (is-r : Is (ShrSlice (named 1) κ₁ u8) reply (rv ∷ [])) where
   abbrev Step : Contract 𝓤
   Step = tripleOf 𝓤 H A step.signature (step.spec 𝓤 H A mem run)
 
-  abbrev a : Session × (RefT Totals × (ℕ × (RefT (List ℕ) × Unit {0})))
+  abbrev a : Session × (RefT Running × (ℕ × (RefT (List ℕ) × Unit {0})))
   a = (s, (record { ptr = (b, o); name = γ; now = h }, (time, (reply, tt))))
 
   abbrev at : List Val × (List Val × (List Val × (List Val × Unit {0})))
@@ -46,10 +51,10 @@ module _ {M : Type 1} (𝓤 : URA M) (H : Heap 𝓤) (A : Atoms 𝓤) (W : Given
   Post = walkOf 𝓤 H A take.ended (stays params) (take.clauses 𝓤 H A mem run) .post (((κ, (κ₁, tt)), (q, (q₁, tt)), tt, a, at), tt)
 
   -- what the contract says of the result and of the last value
-  abbrev Said : Called → Totals → Type 0
+  abbrev Said : Called → Running → Type 0
   Said r t = ((line : List ℕ) → calledSaid r t line ≡ takeReply time (reply .now) (held s h line)) × KeptBeside Direction.presenting s (r .session) t
 
-  exits : (r : Called) (v : Val) → Is (called .type) r (v ∷ []) → (t : Totals) → Said r t → ent 𝓤 (⋆ 𝓤 H A (Lent κ q γ b o t (‵ (flft κ₁ q₁) ∷ []))) (Post v)
+  exits : (r : Called) (v : Val) → Is (called .type) r (v ∷ []) → (t : Running) → Said r t → ent 𝓤 (⋆ 𝓤 H A (Lent κ q γ b o t (‵ (flft κ₁ q₁) ∷ []))) (Post v)
   exits r v is t e =
       qed W (Lent κ q γ b o t (‵ (flft κ₁ q₁) ∷ [])) ∵ suffices ! _ (ends-at 𝓤 H A take.ended (stays params) (take.clauses 𝓤 H A mem run) W (((κ, (κ₁, tt)), (q, (q₁, tt)), tt, a, at), tt) v r (tt, (t, (tt, (tt, tt)))) (tt, (tt, (tt, (tt, tt))))) $ says ! e $
       settled ! b o t $ nothing ! $ move ! (3 ∷ 0 ∷ []) $ join ! $ move ! (2 ∷ 0 ∷ []) $ join ! $ frame ! $ nothing ! $ nothing ! $ fjoin ! $ nothing ! $ fjoin ! $ move ! (1 ∷ 0 ∷ []) $ fjoin ! $ nothing ! $ fjoin ! $ frame ! $ has ! called r is $ done !
