@@ -10,12 +10,12 @@ use crate::lines::start_line;
 use crate::lines::total_line;
 use calls::clock::clock;
 use calls::report::report;
+use lent::example::receive_with_local;
 use presenting::reply::take_reply;
 use presenting::sending::send_detail;
 use presenting::sending::send_header;
 use presenting::sending::send_lot_total;
 use presenting::sending::send_session_total;
-use receiving::receive::receive;
 use session::counters::Running;
 use session::counters::empty;
 use session::session::Session;
@@ -170,7 +170,7 @@ pub fn receive_call(c: Centre, time: u32, message: &[u8], line: &mut [u8; REPLY]
 {
     let session = c.session;
     let running = c.receiving;
-    let outcome = receive(session, running, time, message, line);
+    let outcome = receive_with_local(session, running, time, message, line);
     let gathered = outcome.running;
     let received = outcome.received;
     let answer = received.answer;
