@@ -163,7 +163,7 @@ pub fn session_total_call(c: Centre, time: u32, line: &mut [u8]) -> Centre
     with_session(c, next)
 }
 
-// Takes a message, and writes the reply to it.
+// Takes a message, and writes the reply to it. The call goes through the form with lent running totals.
 pub fn receive_call(c: Centre, time: u32, message: &[u8], line: &mut [u8; REPLY]) -> Centre
     requires { ⌜ Ready (engineOf c) ⌝ }
     ensures { λ r. ⌜ Ready (engineOf r) ⌝ }

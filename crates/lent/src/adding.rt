@@ -1,4 +1,4 @@
-// The running totals of a presented lot, as the replies to its details are read.
+// The step of an accepted detail alone: what it does to the running totals of a presented lot.
 use calls::course::advance;
 use session::counters::Running;
 use session::session::Session;
@@ -7,7 +7,8 @@ ghost use Rattle.session.specs.Course.{Direction};
 ghost use Rattle.session.specs.Reply.{presentingCourse};
 ghost use Rattle.session.specs.Premise.{Sound, Carried};
 
-// The running totals after the reply to what is pending: an accepted detail is added, a refused one is not.
+// The running totals that the reply to what is pending will leave: an accepted detail is added, a refused one is not. After
+// an accepted header, and after any reply to a lot total, there are none; all else leaves them.
 pub fn with_accepted(session: Session, running: Running, accepted: bool) -> Running
     requires { ⌜ Sound session ⌝ }
     requires { ⌜ Carried Direction.presenting session running ⌝ }
@@ -20,7 +21,7 @@ pub fn with_accepted(session: Session, running: Running, accepted: bool) -> Runn
     after.running
 }
 
-// The same in place, for whoever reads a reply's code by other means than the reply call, which does it itself.
+// The same in place. The session still awaits its reply: the reply call is to be lent the totals as they were.
 pub fn add_accepted(session: Session, running: &mut Running, accepted: bool)
     requires { ⌜ Sound session ⌝ }
     requires { ⌜ Carried Direction.presenting session (now running) ⌝ }

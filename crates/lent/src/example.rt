@@ -11,7 +11,7 @@ ghost use Rattle.session.specs.Premise.{Sound, Carried, KeptBeside};
 ghost use Rattle.calls.specs.Said.{held};
 ghost use Rattle.receiving.specs.Said.{receivedSaid};
 
-// Takes a message, with running totals that come and go by value.
+// Takes a message, with running totals that come and go by value. It promises what receiving by value promises.
 pub fn receive_with_local(
     session: Session,
     running: Running,

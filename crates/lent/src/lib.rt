@@ -1,5 +1,6 @@
 // The calls that change running totals, in the form in which 01 describes them: the running totals of a direction are lent
-// and changed in place. Each is a thin function over the call by value.
+// and changed in place. Receiving and the reply call are thin functions over the calls by value, `adding` has the step of an
+// accepted detail alone, and `example` a caller.
 
 pub mod adding;
 pub mod example;

@@ -1,5 +1,4 @@
--- What the answer of receiving says, beside the running totals and the line buffer that it leaves: the paper's number, and how many bytes the
--- reply has.
+-- What receiving says: the paper's number and the length of its reply; and what it leaves, the session, the running totals and the line buffer.
 use Prim.Native.Nat.{ℕ}
 use mathlib.Core.List.{List}
 use Rattle.session.specs.Running.{Running}

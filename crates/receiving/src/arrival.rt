@@ -11,7 +11,6 @@ use message::reply::REPLY_BYTES;
 use message::route::Route;
 use message::route::same_route;
 use session::session::Answer;
-ghost use mathlib.Core.Path.{_≡_};
 ghost use mathlib.Core.Bool.{not, _||_};
 ghost use Prim.Native.Nat.{suc, _+_, _≤_};
 ghost use lib.Dec.{eqb};

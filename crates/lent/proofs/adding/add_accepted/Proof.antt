@@ -1,13 +1,14 @@
--- `add_accepted`: a walk of its code. The running totals that are lent are copied out, `with_accepted` is called, and what it gives is written back.
+-- `add_accepted`: a walk of its code. The running totals that are lent are copied out, `with_accepted` is called, and what it gives is
+-- written back.
 use denote.Builtin.{unit}
 use denote.Signature.{plain}
 use Rattle.session.specs.Reply.{presentingCourse}
-use Rattle.lent.proofs.InPlace.{ℕ, Bool, _≡_, refl, List, [], _∷_, URA, named, Val, vunit, vptr, SProp, ent, sep, emp, id⊢, GName, Lft, Share, ftrue, flft, Memory, Routine}
-use Rattle.lent.proofs.InPlace.{Heap, Calls, Loops, WpFn, Atoms, Fun, fact, givenOf, FmC, Given, ‵, raw, _⊛_, ⋆, _$_, _∵_, !, qed, by, move, keep, drop, use0, split, join}
-use Rattle.lent.proofs.InPlace.{fsplit, fsplit3, fjoin, feqI, suffices, frame, done, look, init, unit-lit, of-opd, and-then, no-more, returns, enter, alloc1, alloc0}
-use Rattle.lent.proofs.InPlace.{params1, pass1, pass0, free0, owns, Is, RefT, MutRef, only, nothing, Contract, Triple, onEntry, tripleOf, cited, says, walkOf, ends-at}
-use Rattle.lent.proofs.InPlace.{Session, Running, Direction, Sound, Carried, session, totals, truth, typed, Param, by-value, lent, stays, both, premise, Lent, has, settled}
-use Rattle.lent.proofs.InPlace.{gone, here, hears, sets, into, reads, writes, asks, concluded}
+use Rattle.lent.proofs.InPlace.{ℕ, Bool, _≡_, refl, List, [], _∷_, URA, named, Val, vunit, vptr, SProp, ent, emp, id⊢, GName, Lft, Share, ftrue, flft, Memory, Routine, Heap}
+use Rattle.lent.proofs.InPlace.{Calls, Loops, WpFn, Atoms, Fun, givenOf, FmC, Given, ‵, raw, _⊛_, ⋆, _$_, _∵_, !, qed, by, move, keep, drop, use0, split, join, fsplit}
+use Rattle.lent.proofs.InPlace.{fsplit3, fjoin, feqI, suffices, frame, done, look, init, unit-lit, of-opd, and-then, no-more, returns, enter, alloc1, alloc0, params1, pass1}
+use Rattle.lent.proofs.InPlace.{pass0, free0, owns, Is, RefT, MutRef, only, nothing, Contract, Triple, onEntry, tripleOf, cited, says, walkOf, ends-at, Session, Running}
+use Rattle.lent.proofs.InPlace.{Direction, Sound, Carried, session, totals, truth, typed, Param, by-value, lent, stays, premise, Lent, has, settled, promised, gone, here}
+use Rattle.lent.proofs.InPlace.{hears, sets, into, reads, writes, asks, concluded}
 use Rattle.lent.proofs.adding.with_accepted as step
 use Rattle.lent.proofs.adding.with_accepted.Symbol as step-def
 use Rattle.lent.proofs.adding.with_accepted.Symbol.{name as #step}
@@ -48,7 +49,7 @@ module _ {M : Type 1} (𝓤 : URA M) (H : Heap 𝓤) (A : Atoms 𝓤) (W : Given
 
   goes : Sound s → Carried Direction.presenting s h → Is (totals .type) h (totals .spell h) → ent 𝓤 (emp 𝓤) (Step .pre asked)
   goes sound carried is-h =
-      qed W [] ∵ use0 W (raw (sep 𝓤 (fact 𝓤 (Sound s)) (fact 𝓤 (Carried Direction.presenting s h)))) (both 𝓤 _ _ sound carried) $
+      qed W [] ∵ promised ! (Sound s) (Carried Direction.presenting s h) sound carried $
       nothing ! $ has ! truth accepted is-a $ fjoin ! $ has ! totals h is-h $ fjoin ! $ has ! session s is-s $ fjoin ! $ nothing ! $ join ! $ done !
 
   module _ (C : Calls 𝓤 H) (Λ : Loops 𝓤 H) (known : Triple 𝓤 (C #step) Step) (fm : FmC 𝓤 H (W .laws) C) where

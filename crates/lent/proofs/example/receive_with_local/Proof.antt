@@ -1,24 +1,16 @@
--- `receive_with_local`: a walk of its code. The local is lent to `receive` for a lifetime of the call, the lifetime ends, and the outcome is made of what then stands in the local and of what the call gave.
+-- `receive_with_local`: a walk of its code. The local is lent to `receive` for a lifetime of the call, the lifetime ends, and the outcome is
+-- made of what then stands in the local and of what the call gave.
 use mir.Val.{vstruct, vnil, vcons}
 use types.Run.{fld}
 use denote.Signature.{plain}
-use Rattle.session.specs.Receiving.{receive}
-use Rattle.session.specs.Premise.{KeptBeside}
-use Rattle.calls.specs.Said.{held}
-use Rattle.receiving.specs.declared.receive.Received.{Received}
-use Rattle.receiving.specs.Said.{receivedSaid}
-use Rattle.receiving.proofs.receive.Received as R
-use Rattle.receiving.proofs.receive.Received.Laws as R′
 use Rattle.receiving.specs.declared.receive.ReceiveOutcome.{ReceiveOutcome}
-use Rattle.receiving.proofs.receive.ReceiveOutcome as O
-use Rattle.receiving.proofs.receive.ReceiveOutcome.Laws as O′
-use Rattle.lent.proofs.InPlace.{u8, ℕ, _≡_, refl, List, [], _∷_, length, URA, fullShare, named, Val, vptr, SProp, ent, sep, id⊢, GName, Lft, Share, ftrue, flft, Memory}
-use Rattle.lent.proofs.InPlace.{Routine, Heap, Calls, Loops, WpFn, Atoms, Fun, fact, givenOf, FmC, Given, Item, ‵, raw, _⊛_, ⋆, _$_, _∵_, !, qed, by, move, keep, drop}
-use Rattle.lent.proofs.InPlace.{group, use0, use1, split3, join, fsplit, fjoin, feqL, suffices, frame, done, look, init, stop, hop, from, load, addr, of-opd, and-then}
-use Rattle.lent.proofs.InPlace.{no-more, returns, enter, alloc1, alloc0, params1, pass1, pass0, free0, agg, whole, sub, look-in, owns, Is, RefT, MutRef, sliceVal}
-use Rattle.lent.proofs.InPlace.{slice-vals, ShrSlice, MutSlice, finally, shr-slice-lawful, mut-slice-lawful, only, nothing, Contract, Triple, onEntry, tripleOf, cited, says}
-use Rattle.lent.proofs.InPlace.{walkOf, ends-at, Session, Running, Direction, Sound, Carried, Plain, declared, session, totals, number, typed, Param, by-value, shared}
-use Rattle.lent.proofs.InPlace.{lent-on, stays, both, premise, has, lends, takes-back, gone, here, hears, sets, into, asks, concluded}
+use Rattle.lent.proofs.InPlace.{u8, ℕ, _≡_, refl, List, [], _∷_, length, URA, fullShare, named, Val, vptr, SProp, ent, id⊢, GName, Lft, Share, ftrue, flft, Memory, Routine}
+use Rattle.lent.proofs.InPlace.{Heap, Calls, Loops, WpFn, Atoms, Fun, givenOf, FmC, Given, Item, ‵, raw, _⊛_, ⋆, _$_, _∵_, !, qed, by, move, keep, drop, group, use1, split3}
+use Rattle.lent.proofs.InPlace.{join, fsplit, fjoin, feqL, suffices, frame, done, look, init, stop, hop, from, load, addr, of-opd, and-then, no-more, returns, enter, alloc1}
+use Rattle.lent.proofs.InPlace.{alloc0, params1, pass1, pass0, free0, agg, whole, sub, look-in, owns, Is, RefT, MutRef, sliceVal, slice-vals, ShrSlice, MutSlice, finally}
+use Rattle.lent.proofs.InPlace.{shr-slice-lawful, mut-slice-lawful, only, nothing, Contract, Triple, onEntry, tripleOf, cited, says, walkOf, ends-at, Session, Running}
+use Rattle.lent.proofs.InPlace.{Direction, Sound, Carried, Received, session, totals, number, received, outcome, typed, Param, by-value, shared, lent-on, stays, premise}
+use Rattle.lent.proofs.InPlace.{ReceivedSo, has, lends, takes-back, promised, gone, here, hears, sets, into, asks, concluded}
 use Rattle.lent.proofs.receive.receive as step
 use Rattle.lent.proofs.receive.receive.Symbol as step-def
 use Rattle.lent.proofs.receive.receive.Symbol.{name as #step}
@@ -30,12 +22,6 @@ use Rattle.lent.proofs.example.receive_with_local.Code as code
 
 abbrev params : List (Param 2)
 params = by-value session (λ x f. refl) ∷ by-value totals (λ x f. refl) ∷ by-value number (λ x f. refl) ∷ shared 0 tt ∷ lent-on 1 tt ∷ []
-
-abbrev received : Plain
-received = declared R.the-type R′.the-laws R′.the-plain
-
-abbrev outcome : Plain
-outcome = declared O.the-type O′.the-laws O′.the-plain
 
 -- the outcome is made of its two fields
 made : (r : Received) (t : Running) (v : Val) → Is (received .type) r (v ∷ []) → Is (totals .type) t (totals .spell t) → Is (outcome .type) (record { running = t; received = r }) (vstruct (vcons (only (totals .spell t)) (vcons v vnil)) ∷ [])
@@ -60,7 +46,7 @@ module _ {M : Type 1} (𝓤 : URA M) (H : Heap 𝓤) (A : Atoms 𝓤) (W : Given
 
   -- what both contracts say of the result and of the last values
   abbrev Said : Received → Running → List ℕ → Type 0
-  Said r t bytes = (receivedSaid r t bytes ≡ receive time (message .now) (held s h (line .now))) × KeptBeside Direction.receiving s (r .session) t
+  Said = ReceivedSo s h time (message .now) (line .now)
 
   exits : (r : ReceiveOutcome) (v : Val) → Is (outcome .type) r (v ∷ []) → (bytes : List ℕ) → length bytes ≡ length (line .now) → Said (r .received) (r .running) bytes
       → ent 𝓤 (⋆ 𝓤 H A (‵ (flft κ₁ q₁) ∷ (‵ (flft κ₂ q₂) ⊛ ‵ ftrue) ∷ ‵ (finally u8 (line .name) bytes) ∷ [])) (Post v)
@@ -78,7 +64,7 @@ module _ {M : Type 1} (𝓤 : URA M) (H : Heap 𝓤) (A : Atoms 𝓤) (W : Given
 
   goes : Sound s → Carried Direction.receiving s h → (ν : ℕ) (γ : GName) (b : ℕ) → ent 𝓤 (⋆ 𝓤 H A (Asks ν γ b)) (Step .pre (asked ν γ b))
   goes sound carried ν γ b =
-      qed W (Asks ν γ b) ∵ use0 W (raw (sep 𝓤 (fact 𝓤 (Sound s)) (fact 𝓤 (Carried Direction.receiving s h)))) (both 𝓤 _ _ sound carried) $
+      qed W (Asks ν γ b) ∵ promised ! (Sound s) (Carried Direction.receiving s h) sound carried $
       nothing ! $ move ! (7 ∷ 0 ∷ []) $ fjoin ! $ move ! (6 ∷ 0 ∷ []) $ fjoin ! $ has ! number time is-t $ fjoin ! $ move ! (5 ∷ 0 ∷ []) $ fjoin ! $ has ! session s is-s $ fjoin ! $
       nothing ! $ move ! (5 ∷ 0 ∷ []) $ join ! $ move ! (4 ∷ 0 ∷ []) $ join ! $ move ! (3 ∷ 0 ∷ []) $ join ! $ join ! $ done !
 

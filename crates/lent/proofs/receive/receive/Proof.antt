@@ -1,15 +1,10 @@
--- `receive`: a walk of its code. The running totals that are lent are copied out, receiving by value is called with the line buffer lent on, what it leaves of the totals is written back, and the rest of its outcome is given.
+-- `receive`: a walk of its code. The running totals that are lent are copied out, receiving by value is called with the line buffer lent on,
+-- what it leaves of the totals is written back, and the rest of its outcome is given.
 use mathlib.Core.Option.{some as just}
 use prog.Memory.{fieldOf}
 use types.Run.{fld}
 use denote.Signature.{plain}
 use denote.Struct.Laws as LL
-use Rattle.session.specs.Receiving.{receive}
-use Rattle.session.specs.Premise.{KeptBeside}
-use Rattle.calls.specs.Said.{held}
-use Rattle.receiving.specs.declared.receive.Received.{Received}
-use Rattle.receiving.specs.Said.{receivedSaid}
-use Rattle.receiving.proofs.receive.Received as R
 use Rattle.receiving.proofs.receive.Received.Laws as R′
 use Rattle.receiving.proofs.receive.ReceiveOutcome as O
 use Rattle.receiving.proofs.receive.ReceiveOutcome.Laws as O′
@@ -17,13 +12,13 @@ use Rattle.receiving.proofs.receive.receive as step
 use Rattle.receiving.proofs.receive.receive.Symbol as step-def
 use Rattle.receiving.proofs.receive.receive.Symbol.{name as #step}
 use Rattle.receiving.proofs.receive.receive.Met as step-thm
-use Rattle.lent.proofs.InPlace.{u8, ℕ, _≡_, refl, ap, List, [], _∷_, length, URA, named, Val, vptr, SProp, ent, sep, id⊢, GName, Lft, Share, ftrue, flft, Memory, Routine}
-use Rattle.lent.proofs.InPlace.{Heap, Calls, Loops, WpFn, Atoms, Fun, fact, givenOf, FmC, Given, ‵, raw, _⊛_, ⋆, _$_, _∵_, !, qed, by, move, keep, drop, group, use0, use1}
-use Rattle.lent.proofs.InPlace.{split, split3, join, fsplit, fsplit3, fjoin, feqL, suffices, frame, done, look, init, stop, hop, from, load, addr, and-then, no-more}
-use Rattle.lent.proofs.InPlace.{returns, enter, alloc1, alloc0, params1, pass1, pass0, free0, agg, whole, sub, look-in, owns, Is, RefT, MutRef, sliceVal, slice-vals}
-use Rattle.lent.proofs.InPlace.{ShrSlice, MutSlice, finally, shr-slice-lawful, mut-slice-lawful, only, nothing, Contract, Triple, onEntry, tripleOf, cited, says, walkOf}
-use Rattle.lent.proofs.InPlace.{ends-at, Session, Running, Direction, Sound, Carried, Plain, declared, session, totals, number, typed, Param, by-value, lent, shared}
-use Rattle.lent.proofs.InPlace.{lent-on, stays, both, all-said, premise, Lent, has, settled, gone, here, apart, hears, sets, into, reads, asks, gives, concluded}
+use Rattle.lent.proofs.InPlace.{u8, ℕ, _≡_, refl, ap, List, [], _∷_, length, URA, named, Val, vptr, SProp, ent, id⊢, GName, Lft, Share, ftrue, flft, Memory, Routine, Heap}
+use Rattle.lent.proofs.InPlace.{Calls, Loops, WpFn, Atoms, Fun, givenOf, FmC, Given, ‵, raw, _⊛_, ⋆, _$_, _∵_, !, qed, by, move, keep, drop, group, use1, split, split3}
+use Rattle.lent.proofs.InPlace.{join, fsplit, fsplit3, fjoin, feqL, suffices, frame, done, look, init, stop, hop, from, load, addr, and-then, no-more, returns, enter}
+use Rattle.lent.proofs.InPlace.{alloc1, alloc0, params1, pass1, pass0, free0, agg, whole, sub, look-in, owns, Is, RefT, MutRef, sliceVal, slice-vals, ShrSlice, MutSlice}
+use Rattle.lent.proofs.InPlace.{finally, shr-slice-lawful, mut-slice-lawful, only, nothing, Contract, Triple, onEntry, tripleOf, cited, says, walkOf, ends-at, Session}
+use Rattle.lent.proofs.InPlace.{Running, Direction, Sound, Carried, Received, session, totals, number, received, outcome, typed, Param, by-value, lent, shared, lent-on}
+use Rattle.lent.proofs.InPlace.{stays, all-said, premise, ReceivedSo, Lent, has, settled, promised, gone, here, apart, hears, sets, into, reads, asks, gives, concluded}
 use Rattle.lent.proofs.receive.receive.Key.{name as #receive}
 use Rattle.lent.proofs.receive.receive as in-place
 use Rattle.lent.proofs.receive.receive.Statement as stated
@@ -31,9 +26,6 @@ use Rattle.lent.proofs.receive.receive.Code as code
 
 abbrev params : List (Param 3)
 params = by-value session (λ x f. refl) ∷ lent 0 tt ∷ by-value number (λ x f. refl) ∷ shared 1 tt ∷ lent-on 2 tt ∷ []
-
-abbrev received : Plain
-received = declared R.the-type R′.the-laws R′.the-plain
 
 -- where the outcome by value has what the call gives beside the running totals
 at-received : fieldOf O′.mir 1 ≡ just (R′.mir, 24)
@@ -58,7 +50,7 @@ module _ {M : Type 1} (𝓤 : URA M) (H : Heap 𝓤) (A : Atoms 𝓤) (W : Given
 
   -- what the contract says of the result and of the last values
   abbrev Said : Received → Running → List ℕ → Type 0
-  Said r t bytes = (receivedSaid r t bytes ≡ receive time (message .now) (held s h (line .now))) × KeptBeside Direction.receiving s (r .session) t
+  Said = ReceivedSo s h time (message .now) (line .now)
 
   exits : (r : Received) (v : Val) → Is (received .type) r (v ∷ []) → (t : Running) (bytes : List ℕ) → length bytes ≡ length (line .now) → Said r t bytes
       → ent 𝓤 (⋆ 𝓤 H A (Lent κ q γ b o t (‵ (flft κ₁ q₁) ∷ ‵ (flft κ₂ q₂) ∷ ‵ (finally u8 (line .name) bytes) ∷ []))) (Post v)
@@ -73,7 +65,7 @@ module _ {M : Type 1} (𝓤 : URA M) (H : Heap 𝓤) (A : Atoms 𝓤) (W : Given
 
   goes : Sound s → Carried Direction.receiving s h → Is (totals .type) h (totals .spell h) → ent 𝓤 (⋆ 𝓤 H A (‵ (flft κ₁ q₁) ∷ ‵ (flft κ₂ q₂) ∷ ‵ (ShrSlice (named 1) κ₁ u8 .own message (mv ∷ [])) ∷ ‵ (MutSlice (named 2) κ₂ u8 .own line (lv ∷ [])) ∷ [])) (Step .pre asked)
   goes sound carried is-h =
-      qed W (‵ (flft κ₁ q₁) ∷ ‵ (flft κ₂ q₂) ∷ ‵ (ShrSlice (named 1) κ₁ u8 .own message (mv ∷ [])) ∷ ‵ (MutSlice (named 2) κ₂ u8 .own line (lv ∷ [])) ∷ []) ∵ use0 W (raw (sep 𝓤 (fact 𝓤 (Sound s)) (fact 𝓤 (Carried Direction.receiving s h)))) (both 𝓤 _ _ sound carried) $
+      qed W (‵ (flft κ₁ q₁) ∷ ‵ (flft κ₂ q₂) ∷ ‵ (ShrSlice (named 1) κ₁ u8 .own message (mv ∷ [])) ∷ ‵ (MutSlice (named 2) κ₂ u8 .own line (lv ∷ [])) ∷ []) ∵ promised ! (Sound s) (Carried Direction.receiving s h) sound carried $
       nothing ! $ move ! (5 ∷ 0 ∷ []) $ fjoin ! $ move ! (4 ∷ 0 ∷ []) $ fjoin ! $ has ! number time is-t $ fjoin ! $ has ! totals h is-h $ fjoin ! $ has ! session s is-s $ fjoin ! $ nothing ! $ move ! (4 ∷ 0 ∷ []) $ join ! $ move ! (3 ∷ 0 ∷ []) $ join ! $ join ! $ done !
 
   module _ (C : Calls 𝓤 H) (Λ : Loops 𝓤 H) (known : Triple 𝓤 (C #step) Step) (fm : FmC 𝓤 H (W .laws) C) where
@@ -91,7 +83,7 @@ module _ {M : Type 1} (𝓤 : URA M) (H : Heap 𝓤) (A : Atoms 𝓤) (W : Given
         move ! (23 ∷ 24 ∷ 25 ∷ 26 ∷ []) $ group ! 4 $ use1 W (raw (Step .pre asked)) (goes sound carried is-h) $
         asks ! fm step.ended (step.clauses 𝓤 H A mem run) known asked (and-then ! (here ! (look ! 20 refl)) (and-then ! (here ! (look ! 8 refl)) (and-then ! (here ! (look ! 16 refl)) (and-then ! (here ! (look ! 14 refl)) (and-then ! (here ! (look ! 4 refl)) (no-more !)))))) (λ v r is.
         hears ! step.ended (step.clauses 𝓤 H A mem run) asked r (λ ws. Said (r .received) (r .running) (ws .1 .1 .1 .1 .0)) (λ _. all-said 𝓤 _ _) (λ ws e. fsplit ! $ drop ! $ fsplit ! $ drop ! $ fsplit ! $ drop ! $ fsplit ! $ drop ! $ fsplit ! $ fsplit ! $ move ! (1 ∷ []) $ feqL ! (λ l.
-        move ! (2 ∷ []) $ use1 W (‵ (flft κ₁ q₁) ⊛ ‵ (flft κ₂ q₂) ⊛ ‵ ftrue) (id⊢ 𝓤 _) $ split3 ! $ move ! (5 ∷ 6 ∷ 7 ∷ []) $ into ! 14 refl (LL.lawful O.the-type O′.the-laws 𝓤 H A W .typed r _ is .0) $
+        move ! (2 ∷ []) $ use1 W (‵ (flft κ₁ q₁) ⊛ ‵ (flft κ₂ q₂) ⊛ ‵ ftrue) (id⊢ 𝓤 _) $ split3 ! $ move ! (5 ∷ 6 ∷ 7 ∷ []) $ into ! 14 refl (typed W outcome r _ is .0) $
         apart ! (λ (x : Val). Is (totals .type) (r .running) (x ∷ [])) (λ (x : Val). Is (received .type) (r .received) (x ∷ [])) 14 refl (ap only (LL.tells O.the-type O′.the-laws r _ is)) (LL.owed O.the-type O′.the-laws r _ is .0) (LL.owed O.the-type O′.the-laws r _ is .1 .0) (λ x y is-x is-y.
         -- [the running totals, lent; the other tokens; true; the line buffer's last bytes; true; _9 at 5, _8 at 7, _7 at 9, _6 at 11, _5 at 13, _4 at 15, _3 at 17, _2 at 19, _1 at 21, _0 at 23]
         gives ! O′.mir {h = h} 19 11 23 refl at-received refl refl refl refl (typed W received (r .received) _ is-y .0) (r .running) is-x $

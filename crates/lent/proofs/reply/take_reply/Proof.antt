@@ -1,4 +1,5 @@
--- `take_reply`: a walk of its code. The running totals that are lent are copied out, the reply call by value is made, what it leaves of them is written back, and the rest of its outcome is given.
+-- `take_reply`: a walk of its code. The running totals that are lent are copied out, the reply call by value is made, what it leaves of them
+-- is written back, and the rest of its outcome is given.
 use mathlib.Core.Option.{some as just}
 use prog.Memory.{fieldOf}
 use denote.Signature.{plain}
@@ -15,12 +16,12 @@ use Rattle.presenting.proofs.reply.take_reply as step
 use Rattle.presenting.proofs.reply.take_reply.Symbol as step-def
 use Rattle.presenting.proofs.reply.take_reply.Symbol.{name as #step}
 use Rattle.presenting.proofs.reply.take_reply.Met as step-thm
-use Rattle.lent.proofs.InPlace.{u8, ℕ, _≡_, refl, ap, List, [], _∷_, URA, named, Val, vptr, SProp, ent, sep, id⊢, GName, Lft, Share, ftrue, flft, Memory, Routine, Heap}
-use Rattle.lent.proofs.InPlace.{Calls, Loops, WpFn, Atoms, Fun, fact, givenOf, FmC, Given, ‵, raw, _⊛_, ⋆, _$_, _∵_, !, qed, by, move, keep, drop, group, use0, use1, split}
-use Rattle.lent.proofs.InPlace.{split3, join, fsplit, fsplit3, fjoin, suffices, frame, done, look, init, and-then, no-more, returns, enter, alloc1, alloc0, params1, pass1}
-use Rattle.lent.proofs.InPlace.{pass0, free0, owns, Is, RefT, MutRef, slice-vals, ShrSlice, shr-slice-lawful, only, nothing, Contract, Triple, onEntry, tripleOf, cited}
-use Rattle.lent.proofs.InPlace.{says, walkOf, ends-at, Session, Running, Direction, Sound, Carried, Plain, declared, session, totals, number, typed, Param, by-value, lent}
-use Rattle.lent.proofs.InPlace.{shared, stays, both, all-said, premise, Lent, has, settled, gone, here, apart, hears, into, reads, asks, gives, concluded}
+use Rattle.lent.proofs.InPlace.{u8, ℕ, _≡_, refl, ap, List, [], _∷_, URA, named, Val, vptr, SProp, ent, id⊢, GName, Lft, Share, ftrue, flft, Memory, Routine, Heap, Calls}
+use Rattle.lent.proofs.InPlace.{Loops, WpFn, Atoms, Fun, givenOf, FmC, Given, ‵, raw, _⊛_, ⋆, _$_, _∵_, !, qed, by, move, keep, drop, group, use1, split, split3, join}
+use Rattle.lent.proofs.InPlace.{fsplit, fsplit3, fjoin, suffices, frame, done, look, init, and-then, no-more, returns, enter, alloc1, alloc0, params1, pass1, pass0, free0}
+use Rattle.lent.proofs.InPlace.{owns, Is, RefT, MutRef, slice-vals, ShrSlice, shr-slice-lawful, only, nothing, Contract, Triple, onEntry, tripleOf, cited, says, walkOf}
+use Rattle.lent.proofs.InPlace.{ends-at, Session, Running, Direction, Sound, Carried, Plain, declared, session, totals, number, typed, Param, by-value, lent, shared, stays}
+use Rattle.lent.proofs.InPlace.{all-said, premise, Lent, has, settled, promised, gone, here, apart, hears, into, reads, asks, gives, concluded}
 use Rattle.lent.proofs.reply.take_reply.Key.{name as #take}
 use Rattle.lent.proofs.reply.take_reply as take
 use Rattle.lent.proofs.reply.take_reply.Statement as stated
@@ -31,6 +32,9 @@ params = by-value session (λ x f. refl) ∷ lent 0 tt ∷ by-value number (λ x
 
 abbrev called : Plain
 called = declared R.the-type R′.the-laws R′.the-plain
+
+abbrev outcome : Plain
+outcome = declared O.the-type O′.the-laws O′.the-plain
 
 -- where the outcome by value has what the call gives beside the running totals
 at-called : fieldOf O′.mir 1 ≡ just (R′.mir, 24)
@@ -64,7 +68,7 @@ module _ {M : Type 1} (𝓤 : URA M) (H : Heap 𝓤) (A : Atoms 𝓤) (W : Given
 
   goes : Sound s → Carried Direction.presenting s h → Is (totals .type) h (totals .spell h) → ent 𝓤 (⋆ 𝓤 H A (‵ (flft κ₁ q₁) ∷ ‵ (ShrSlice (named 1) κ₁ u8 .own reply (rv ∷ [])) ∷ [])) (Step .pre asked)
   goes sound carried is-h =
-      qed W (‵ (flft κ₁ q₁) ∷ ‵ (ShrSlice (named 1) κ₁ u8 .own reply (rv ∷ [])) ∷ []) ∵ use0 W (raw (sep 𝓤 (fact 𝓤 (Sound s)) (fact 𝓤 (Carried Direction.presenting s h)))) (both 𝓤 _ _ sound carried) $
+      qed W (‵ (flft κ₁ q₁) ∷ ‵ (ShrSlice (named 1) κ₁ u8 .own reply (rv ∷ [])) ∷ []) ∵ promised ! (Sound s) (Carried Direction.presenting s h) sound carried $
       nothing ! $ move ! (3 ∷ 0 ∷ []) $ fjoin ! $ has ! number time is-t $ fjoin ! $ has ! totals h is-h $ fjoin ! $ has ! session s is-s $ fjoin ! $ nothing ! $ move ! (3 ∷ 0 ∷ []) $ join ! $ join ! $ done !
 
   module _ (C : Calls 𝓤 H) (Λ : Loops 𝓤 H) (known : Triple 𝓤 (C #step) Step) (fm : FmC 𝓤 H (W .laws) C) where
@@ -77,7 +81,7 @@ module _ {M : Type 1} (𝓤 : URA M) (H : Heap 𝓤) (A : Atoms 𝓤) (W : Given
         -- [the running totals, lent; _6 at 0, _5 at 2, _4 at 4, _3 at 6, _2 at 8, _1 at 10, _0 at 12; the reply's token; the reply]
         reads ! {h = h} 8 0 refl refl (λ is. typed W totals h _ is .0) (λ is-h. move ! (17 ∷ 18 ∷ []) $ group ! 2 $ use1 W (raw (Step .pre asked)) (goes sound carried is-h) $
         asks ! fm step.ended (step.clauses 𝓤 H A mem run) known asked (and-then ! (here ! (look ! 14 refl)) (and-then ! (here ! (look ! 4 refl)) (and-then ! (here ! (look ! 10 refl)) (and-then ! (here ! (look ! 8 refl)) (no-more !))))) (λ v r is.
-        hears ! step.ended (step.clauses 𝓤 H A mem run) asked r (λ _. Said (r .called) (r .running)) (λ _. all-said 𝓤 _ _) (λ _ e. drop ! $ use1 W (‵ (flft κ₁ q₁) ⊛ ‵ ftrue) (id⊢ 𝓤 _) $ split ! $ move ! (2 ∷ 3 ∷ 4 ∷ []) $ into ! 7 refl (LL.lawful O.the-type O′.the-laws 𝓤 H A W .typed r _ is .0) $
+        hears ! step.ended (step.clauses 𝓤 H A mem run) asked r (λ _. Said (r .called) (r .running)) (λ _. all-said 𝓤 _ _) (λ _ e. drop ! $ use1 W (‵ (flft κ₁ q₁) ⊛ ‵ ftrue) (id⊢ 𝓤 _) $ split ! $ move ! (2 ∷ 3 ∷ 4 ∷ []) $ into ! 7 refl (typed W outcome r _ is .0) $
         apart ! (λ (x : Val). Is (totals .type) (r .running) (x ∷ [])) (λ (x : Val). Is (called .type) (r .called) (x ∷ [])) 7 refl (ap only (LL.tells O.the-type O′.the-laws r _ is)) (LL.owed O.the-type O′.the-laws r _ is .0) (LL.owed O.the-type O′.the-laws r _ is .1 .0) (λ x y is-x is-y.
         -- [the running totals, lent; the reply's token; true; _6 at 2, _5 at 4, _4 at 6, _3 at 8, _2 at 10, _1 at 12, _0 at 14]
         gives ! O′.mir {h = h} 10 4 14 refl at-called refl refl refl refl (typed W called (r .called) _ is-y .0) (r .running) is-x $
