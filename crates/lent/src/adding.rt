@@ -7,8 +7,8 @@ ghost use Rattle.session.specs.Course.{Direction};
 ghost use Rattle.session.specs.Reply.{presentingCourse};
 ghost use Rattle.session.specs.Premise.{Sound, Carried};
 
-// The running totals that the reply to what is pending will leave: an accepted detail is added, a refused one is not. After
-// an accepted header, and after any reply to a lot total, there are none; all else leaves them.
+// The running totals that the reply to what is pending leaves: an accepted detail is added, a refused one is not. After an
+// accepted header, and after any reply to a lot total, there are none; all else leaves them.
 pub fn with_accepted(session: Session, running: Running, accepted: bool) -> Running
     requires { ⌜ Sound session ⌝ }
     requires { ⌜ Carried Direction.presenting session running ⌝ }
@@ -21,7 +21,8 @@ pub fn with_accepted(session: Session, running: Running, accepted: bool) -> Runn
     after.running
 }
 
-// The same in place. The session still awaits its reply: the reply call is to be lent the totals as they were.
+// The same in place. The session is the one that awaits the reply, and what is left goes with the one that the reply call
+// gives.
 pub fn add_accepted(session: Session, running: &mut Running, accepted: bool)
     requires { ⌜ Sound session ⌝ }
     requires { ⌜ Carried Direction.presenting session (now running) ⌝ }
