@@ -55,6 +55,17 @@ pub fn send_number(a: SendAnswer) -> u8
     }
 }
 
+// How many bytes it wrote.
+pub fn send_written(a: SendAnswer) -> usize
+    ensures { λ r. ⌜ r ≡ sendWritten a ⌝ }
+{
+    match a {
+        SendAnswer::Written(bytes) => bytes,
+        SendAnswer::Stopped(_) => 0,
+        SendAnswer::Refused(_) => 0,
+    }
+}
+
 // What refuses a send before its own code.
 fn ready(session: Session, time: u32) -> Answer
     ensures { λ a. ⌜ answerNumber a ≡ (timeRefusal time (session .seen) (session .close) orelse 34 when isPending (session .presenting .pending) orelse 36 when leb largestSerial (session .presenting .serial)) ⌝ }
