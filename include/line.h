@@ -1,4 +1,8 @@
-/* The detail check for C and C++ callers. Link with libdetail.a. */
+/*
+ * For C and C++ callers: the detail check, link with libdetail.a; and a whole
+ * evening of two engines, for measurements, link with libexchange.a. Each
+ * library has its own call alone, and both may be linked into one program.
+ */
 #ifndef LINE_H
 #define LINE_H
 
@@ -48,6 +52,97 @@ line_checked line_check_detail(const uint8_t *body, size_t body_len,
                                uint16_t own,
                                const uint16_t *represented,
                                size_t represented_len);
+
+/* The accepted lots of a direction, as one end reports them. */
+typedef struct line_sums {
+    uint64_t lots;
+    uint64_t documents;
+    uint64_t nominal;    /* smallest units */
+    uint64_t commission; /* smallest units */
+} line_sums;
+
+/* The report of one end after its clock call at 23:30. */
+typedef struct line_side {
+    line_sums presented;
+    line_sums received;
+    uint8_t close; /* 0 open, 1 closed in order, 2 closed forced */
+} line_side;
+
+/* What an evening gives. Both sides are 0 unless code is 0. */
+typedef struct line_evening {
+    uint8_t code; /* 0, or 25 where a tray is not a multiple of 51 bytes */
+    line_side near;
+    line_side far;
+} line_evening;
+
+/*
+ * Runs an evening of two engines, 0081 near and 0072 far, none represented,
+ * on 14 March 2028, over four trays of ready documents, 51 bytes each.
+ *
+ * At 21:00 the near end presents its trays, then the far end its own. Lots
+ * are numbered from 1. Each takes the next parts of at most 200 documents,
+ * presentations before returns, until the next part would pass 2,600
+ * documents, the trays are used up, or a part is not accepted; then comes its
+ * total. After 64 lots, or where a lot takes no document or none remain, the
+ * direction ends with its session total. Then both ends close and report.
+ *
+ * What is refused or replied to with a code stays unsent: nobody mends it,
+ * and the reports show what was accepted. Two lots with the same three totals
+ * are such a case, so the amounts of a measurement should differ.
+ *
+ * Lengths, pointers and threads are as for line_check_detail. The call needs
+ * less than 128 kB of stack and no heap.
+ */
+line_evening line_exchange(const uint8_t *near_presentations,
+                           size_t near_presentations_len,
+                           const uint8_t *near_returns,
+                           size_t near_returns_len,
+                           const uint8_t *far_presentations,
+                           size_t far_presentations_len,
+                           const uint8_t *far_returns,
+                           size_t far_returns_len);
+
+/* How far a script was played. */
+typedef struct line_played {
+    uint64_t read;    /* bytes of the script whose lines were played */
+    uint64_t written; /* bytes of answers at the start of the output */
+    uint8_t stop;     /* 0 at the script's end; 1 where the answer to the next
+                         line does not fit in what is left of the output */
+} line_played;
+
+/*
+ * Plays a session script, a text that names calls at the two ends A and B,
+ * and writes a line of answer for each line that is not passed over, `bad
+ * line` for one that cannot be read. Link with libscript.a.
+ *
+ * Both ends are without a session at first. The script's last line may lack
+ * its line feed; the last answer has one. Any bytes may be passed.
+ *
+ * Stop 1: read is where the line begins whose answer does not fit. No part of
+ * that answer is written, and nothing after it is played. A call always
+ * starts anew and cannot go on from there: play again with a longer output.
+ *
+ * wire is where the messages and replies are remembered that later lines name
+ * by their numbers. With 2,097,152 bytes all is remembered that a script may
+ * name. With fewer, what does not fit is forgotten, and naming it is a bad
+ * line. What lies in wire at first does not count, and what lies there
+ * afterwards means nothing.
+ *
+ * Lengths: each counts bytes, and any length up to PTRDIFF_MAX may be passed,
+ * 0 too.
+ *
+ * Pointers: script must be valid for reading its whole length, output and
+ * wire for writing theirs, and the three must not overlap. A null pointer is
+ * not allowed, not even with length 0; the address of any object will do
+ * there.
+ *
+ * The call changes the first `written` bytes of output and any of wire,
+ * nothing else, and keeps nothing. There is no global state, so several
+ * threads may call at once, each with its own output and wire.
+ */
+line_played line_play_script(const uint8_t *script, size_t script_len,
+                             uint8_t *output, size_t output_len,
+                             uint8_t *wire, size_t wire_len);
 
 #ifdef __cplusplus
 }

@@ -1,20 +1,24 @@
-//! Tells the linker where the archive with the exported detail check lies.
+//! Tells the linker where the archives with the line's exported functions lie.
 
 use std::env;
 use std::path::{Path, PathBuf};
 
+const ARCHIVES: [&str; 3] = ["detail", "script", "exchange"];
+
 fn main() {
     println!("cargo:rerun-if-env-changed=LINE_LIB");
     let directory = env::var_os("LINE_LIB").map_or_else(beside_the_package, PathBuf::from);
-    let archive = directory.join("libdetail.a");
-    println!("cargo:rerun-if-changed={}", archive.display());
-    assert!(
-        archive.is_file(),
-        "\n\nThere is no {}.\nMake it with `rt staticlib detail`, run in the repository's root.\n",
-        archive.display()
-    );
     println!("cargo:rustc-link-search=native={}", directory.display());
-    println!("cargo:rustc-link-lib=static=detail");
+    for name in ARCHIVES {
+        let archive = directory.join(format!("lib{name}.a"));
+        println!("cargo:rerun-if-changed={}", archive.display());
+        assert!(
+            archive.is_file(),
+            "\n\nThere is no {}.\nMake it with `rt staticlib {name}`, run in the repository's root.\n",
+            archive.display()
+        );
+        println!("cargo:rustc-link-lib=static={name}");
+    }
 }
 
 fn beside_the_package() -> PathBuf {

@@ -1,6 +1,7 @@
 //! Bodies for the tests and the benchmark: the paper's example, bodies of given documents,
 //! and generated ones, good or changed, each made from its seed alone.
 
+use crate::random::{packed, Random};
 use std::ops::Range;
 
 /// A document as it stands in a group; the paper's positions 5 to 55 are its bytes 0 to 50.
@@ -49,6 +50,20 @@ pub fn of_examples(operation: u8, count: usize) -> Vec<u8> {
 pub fn generated(seed: u64, operation: u8, count: usize, own: u16, drawees: &[u16]) -> Vec<u8> {
     let mut random = Random::new(seed);
     good_body(&mut random, operation, count, own, drawees)
+}
+
+/// Good documents whose drawees are all among `drawees`.
+pub fn documents(
+    seed: u64,
+    operation: u8,
+    count: usize,
+    own: u16,
+    drawees: &[u16],
+) -> Vec<Document> {
+    let mut random = Random::new(seed);
+    many(count, || {
+        good_document(&mut random, operation, own, drawees)
+    })
 }
 
 /// What one call of the detail check is given.
@@ -104,7 +119,12 @@ fn good_body(
     body
 }
 
-fn good_document(random: &mut Random, operation: u8, own: u16, drawees: &[u16]) -> Document {
+pub(crate) fn good_document(
+    random: &mut Random,
+    operation: u8,
+    own: u16,
+    drawees: &[u16],
+) -> Document {
     let mut document = [0; 51];
     for field in ANY_DIGITS {
         random.digits(&mut document[field]);
@@ -136,10 +156,6 @@ fn good_day(random: &mut Random) -> [u8; 2] {
 
 fn packed_entity(entity: u16) -> [u8; 2] {
     [packed((entity / 100) as u8), packed((entity % 100) as u8)]
-}
-
-fn packed(value: u8) -> u8 {
-    value / 10 * 16 + value % 10
 }
 
 /// One change, anywhere in what the check is given.
@@ -260,66 +276,5 @@ fn document_start(random: &mut Random, body: &[u8]) -> usize {
 fn set(body: &mut [u8], at: usize, value: u8) {
     if let Some(byte) = body.get_mut(at) {
         *byte = value;
-    }
-}
-
-/// A xorshift generator.
-struct Random(u64);
-
-impl Random {
-    /// Multiplied by an odd number, neighbouring seeds give unlike sequences; 0 would stay 0.
-    fn new(seed: u64) -> Random {
-        let mut random = Random(seed.wrapping_add(1).wrapping_mul(0x9E37_79B9_7F4A_7C15) | 1);
-        random.next();
-        random
-    }
-
-    fn next(&mut self) -> u64 {
-        self.0 ^= self.0 << 13;
-        self.0 ^= self.0 >> 7;
-        self.0 ^= self.0 << 17;
-        self.0.wrapping_mul(0x2545_F491_4F6C_DD1D)
-    }
-
-    fn below(&mut self, limit: usize) -> usize {
-        ((self.next() >> 32) as usize * limit) >> 32
-    }
-
-    fn once_in(&mut self, times: usize) -> bool {
-        self.below(times) == 0
-    }
-
-    fn one_of<T: Copy>(&mut self, items: &[T]) -> T {
-        items[self.below(items.len())]
-    }
-
-    fn byte(&mut self) -> u8 {
-        self.below(256) as u8
-    }
-
-    fn entity(&mut self) -> u16 {
-        match self.below(8) {
-            0 => self.one_of(&[0, 1, 72, 73, 99, 100, 9999]),
-            _ => self.below(10_000) as u16,
-        }
-    }
-
-    /// A packed byte of a number from `first` to `last`, one of the two ends more often.
-    fn packed(&mut self, first: u8, last: u8) -> u8 {
-        let value = match self.below(8) {
-            0 => first,
-            1 => last,
-            _ => first + self.below(usize::from(last - first) + 1) as u8,
-        };
-        packed(value)
-    }
-
-    /// Any digits, now and then all the same byte.
-    fn digits(&mut self, field: &mut [u8]) {
-        if self.once_in(16) {
-            field.fill(self.one_of(&[0x00, 0x09, 0x90, 0x99]));
-        } else {
-            field.fill_with(|| packed(self.below(100) as u8));
-        }
     }
 }

@@ -7,6 +7,8 @@ pub type Document = [u8; 51];
 
 /// The length of a full group.
 pub const GROUP: usize = 208;
+/// The length of a full group's documents.
+pub const PART: usize = 204;
 /// Groups whose digits can be summed in bytes: 7 groups of 4 documents, and 28 * 9 is below 256.
 pub const STRETCH: usize = 7;
 
@@ -39,18 +41,28 @@ pub fn check(
     let is_return = body[2] == 0x40;
     let pass = if is_return { returns } else { presented };
     let found = pass(body, packed(own));
+    let checked = field_codes(&found, body.len() / 52);
+    if checked.code == 0
+        && !is_return
+        && !found.all_drawn_on_own
+        && !all_drawn_here(body, own, represented)
+    {
+        return Checked::refused(6);
+    }
+    checked
+}
+
+/// The codes 01 and 03, and the totals where there is none.
+pub fn field_codes(found: &Found, documents: usize) -> Checked {
     if !found.fields_hold {
         return Checked::refused(1);
     }
     if !found.amounts_are_digits {
         return Checked::refused(3);
     }
-    if !is_return && !found.all_drawn_on_own && !all_drawn_here(body, own, represented) {
-        return Checked::refused(6);
-    }
     Checked {
         code: 0,
-        documents: (body.len() / 52) as u64,
+        documents: documents as u64,
         nominal: found.nominal,
         commission: found.commission,
     }
@@ -89,7 +101,7 @@ fn head(group: &[u8]) -> u32 {
     u32::from_le_bytes([group[0], group[1], group[2], group[3]])
 }
 
-fn packed(entity: u16) -> [u8; 2] {
+pub fn packed(entity: u16) -> [u8; 2] {
     let pair = |number: u16| (number / 10 * 16 + number % 10) as u8;
     [pair(entity / 100), pair(entity % 100)]
 }

@@ -1,30 +1,28 @@
-//! The detail check four times: written plainly, tuned, by columns, and as the line's exported
-//! function. The first three are the measure for the fourth, in answers and in speed.
+//! A second implementation of the cheque exchange, the measure for the first in answers and speed.
+//! The detail check stands here four times: written plainly, tuned, by columns, and as the line's
+//! exported function. The session and the script interpreter are built on the plain check.
 
 pub mod bodies;
+pub mod books;
 pub mod columns;
-mod frame;
+pub mod compare;
+pub mod corpus;
+pub mod exchange;
+pub mod generate;
 pub mod line;
+pub mod open_points;
+pub mod packed;
 pub mod plain;
+pub mod random;
+pub mod script;
+pub mod session;
+pub mod timing;
+pub mod tray_script;
 pub mod tuned;
 
-/// The answer of a detail check; the totals are 0 unless the code is 0.
-#[repr(C)]
-#[derive(Clone, Copy, Debug, PartialEq, Eq)]
-pub struct Checked {
-    pub code: u8,
-    pub documents: u64,
-    pub nominal: u64,
-    pub commission: u64,
-}
+mod checked;
+mod frame;
+mod hex;
+mod shortest;
 
-impl Checked {
-    pub const fn refused(code: u8) -> Checked {
-        Checked {
-            code,
-            documents: 0,
-            nominal: 0,
-            commission: 0,
-        }
-    }
-}
+pub use checked::Checked;

@@ -1,6 +1,77 @@
-//! The binding to the exported detail check that the line driver calls.
+//! The bindings to what the line exports for C: the detail check that its driver calls, the
+//! script player for the comparison, and the evening for measurements.
 
+use crate::session::report::Report;
+use crate::session::totals::SessionTotals;
+use crate::session::Close;
 use crate::Checked;
+use std::cell::RefCell;
+
+/// How far a script was played.
+#[repr(C)]
+#[derive(Clone, Copy, Debug, PartialEq, Eq)]
+pub struct Played {
+    /// Bytes of the script; with stop 1 the line that was not played begins here.
+    pub read: u64,
+    pub written: u64,
+    /// 0 at the script's end, 1 where the answer to the next line does not fit.
+    pub stop: u8,
+}
+
+/// The accepted lots of a direction, as one end reports them.
+#[repr(C)]
+#[derive(Clone, Copy, Debug, Default, PartialEq, Eq)]
+pub struct Sums {
+    pub lots: u64,
+    pub documents: u64,
+    pub nominal: u64,
+    pub commission: u64,
+}
+
+/// The report of one end after its close.
+#[repr(C)]
+#[derive(Clone, Copy, Debug, Default, PartialEq, Eq)]
+pub struct Side {
+    pub presented: Sums,
+    pub received: Sums,
+    /// 0 open, 1 in order, 2 forced.
+    pub close: u8,
+}
+
+impl From<SessionTotals> for Sums {
+    fn from(of_session: SessionTotals) -> Sums {
+        let totals = of_session.totals;
+        Sums {
+            lots: of_session.lots,
+            documents: totals.documents,
+            nominal: totals.nominal,
+            commission: totals.commission,
+        }
+    }
+}
+
+impl From<Report> for Side {
+    fn from(report: Report) -> Side {
+        Side {
+            presented: report.presented.into(),
+            received: report.received.into(),
+            close: match report.close {
+                Close::Open => 0,
+                Close::Ordered => 1,
+                Close::Forced => 2,
+            },
+        }
+    }
+}
+
+/// What an evening gives; both sides are 0 unless the code is 0.
+#[repr(C)]
+#[derive(Clone, Copy, Debug, Default, PartialEq, Eq)]
+pub struct Evening {
+    pub code: u8,
+    pub near: Side,
+    pub far: Side,
+}
 
 unsafe extern "C" {
     fn line_check_detail(
@@ -10,6 +81,26 @@ unsafe extern "C" {
         represented: *const u16,
         represented_len: usize,
     ) -> Checked;
+
+    fn line_play_script(
+        script: *const u8,
+        script_len: usize,
+        output: *mut u8,
+        output_len: usize,
+        wire: *mut u8,
+        wire_len: usize,
+    ) -> Played;
+
+    fn line_exchange(
+        near_presentations: *const u8,
+        near_presentations_len: usize,
+        near_returns: *const u8,
+        near_returns_len: usize,
+        far_presentations: *const u8,
+        far_presentations_len: usize,
+        far_returns: *const u8,
+        far_returns_len: usize,
+    ) -> Evening;
 }
 
 pub fn check(body: &[u8], own: u16, represented: &[u16]) -> Checked {
@@ -23,5 +114,77 @@ pub fn check(body: &[u8], own: u16, represented: &[u16]) -> Checked {
             represented.as_ptr(),
             represented.len(),
         )
+    }
+}
+
+/// Of 0081, near, and 0072, far; each gives its presentations and its returns.
+pub fn exchange(near: [&[u8]; 2], far: [&[u8]; 2]) -> Evening {
+    // SAFETY: all pointers are good for reading the stated number of bytes during the call,
+    // and the function neither writes nor keeps them.
+    unsafe {
+        line_exchange(
+            near[0].as_ptr(),
+            near[0].len(),
+            near[1].as_ptr(),
+            near[1].len(),
+            far[0].as_ptr(),
+            far[0].len(),
+            far[1].as_ptr(),
+            far[1].len(),
+        )
+    }
+}
+
+/// Plays as far as the answers fit in `output`. `wire` is where written bytes are remembered.
+pub fn play_into(script: &[u8], output: &mut [u8], wire: &mut [u8]) -> Played {
+    // SAFETY: the pointers are good for the stated number of bytes during the call, the last two
+    // also for writing, the three stretches lie apart, and the function keeps none of them.
+    unsafe {
+        line_play_script(
+            script.as_ptr(),
+            script.len(),
+            output.as_mut_ptr(),
+            output.len(),
+            wire.as_mut_ptr(),
+            wire.len(),
+        )
+    }
+}
+
+/// As much as the player needs to remember what the format asks.
+pub const WIRE: usize = 2_097_152;
+/// More than any script of the tests has for answer.
+const MOST_OUTPUT: usize = 1 << 30;
+
+thread_local! {
+    static MEMORY: RefCell<Memory> = RefCell::new(Memory::default());
+}
+
+/// All answers to a script.
+pub fn play(script: &[u8]) -> Vec<u8> {
+    MEMORY.with_borrow_mut(|memory| memory.play(script))
+}
+
+/// What a thread lends to the player, script after script, with what the last one left in it.
+#[derive(Default)]
+struct Memory {
+    output: Vec<u8>,
+    wire: Vec<u8>,
+}
+
+impl Memory {
+    fn play(&mut self, script: &[u8]) -> Vec<u8> {
+        let generous = 4 * script.len() + (4 << 20);
+        self.output.resize(self.output.len().max(generous), 0);
+        self.wire.resize(WIRE, 0);
+        loop {
+            let played = play_into(script, &mut self.output, &mut self.wire);
+            if played.stop == 0 {
+                return self.output[..played.written as usize].to_vec();
+            }
+            let longer = 2 * self.output.len();
+            assert!(longer <= MOST_OUTPUT, "the answers never fit");
+            self.output.resize(longer, 0);
+        }
     }
 }

@@ -1,5 +1,6 @@
 //! The detail check as the paper tells it: one pass over the message for each code.
 
+use crate::packed::{are_digits, value};
 use crate::Checked;
 use std::slice::Chunks;
 
@@ -7,6 +8,7 @@ const HEAD: usize = 4;
 const DOCUMENT: usize = 51;
 const FULL_GROUP: usize = HEAD + 4 * DOCUMENT;
 
+/// The receiver's check of a detail body.
 pub fn check(body: &[u8], own: u16, represented: &[u16]) -> Checked {
     if !within_limits(own, represented) {
         return Checked::refused(24);
@@ -18,21 +20,38 @@ pub fn check(body: &[u8], own: u16, represented: &[u16]) -> Checked {
     if groups(body).any(|group| group[2] != operation) {
         return Checked::refused(9);
     }
-    if !documents(body).all(|document| fields_hold(document, operation, own)) {
+    let checked = field_codes(documents(body), operation, own);
+    let drawn_elsewhere = |document| !drawn_here(document, own, represented);
+    if checked.code == 0 && operation == 0x30 && documents(body).any(drawn_elsewhere) {
+        return Checked::refused(6);
+    }
+    checked
+}
+
+/// The presenter's check of whole documents before they are sent under an operation, 30 or 40.
+/// It does not look at the drawees.
+pub fn check_to_send(documents: &[u8], operation: u8, receiving: u16) -> Checked {
+    field_codes(documents.chunks_exact(DOCUMENT), operation, receiving)
+}
+
+/// The codes 01 and 03 of the documents' fields, and the totals where there is none.
+fn field_codes<'a>(
+    documents: impl Iterator<Item = &'a [u8]> + Clone,
+    operation: u8,
+    receiving: u16,
+) -> Checked {
+    let every = || documents.clone();
+    if !every().all(|document| fields_hold(document, operation, receiving)) {
         return Checked::refused(1);
     }
-    if !documents(body).all(amounts_are_digits) {
+    if !every().all(amounts_are_digits) {
         return Checked::refused(3);
-    }
-    if operation == 0x30 && !documents(body).all(|document| drawn_here(document, own, represented))
-    {
-        return Checked::refused(6);
     }
     Checked {
         code: 0,
-        documents: documents(body).count() as u64,
-        nominal: documents(body).map(nominal).sum(),
-        commission: documents(body).map(commission).sum(),
+        documents: every().count() as u64,
+        nominal: every().map(nominal).sum(),
+        commission: every().map(commission).sum(),
     }
 }
 
@@ -45,7 +64,7 @@ fn groups(body: &[u8]) -> Chunks<'_, u8> {
     body.chunks(FULL_GROUP)
 }
 
-fn documents(body: &[u8]) -> impl Iterator<Item = &[u8]> {
+fn documents(body: &[u8]) -> impl Iterator<Item = &[u8]> + Clone {
     groups(body).flat_map(|group| group[HEAD..].chunks_exact(DOCUMENT))
 }
 
@@ -68,14 +87,14 @@ fn field(document: &[u8], first: usize, last: usize) -> &[u8] {
     &document[first - 5..=last - 5]
 }
 
-fn fields_hold(document: &[u8], operation: u8, own: u16) -> bool {
-    let number = |first, last| packed(field(document, first, last));
+fn fields_hold(document: &[u8], operation: u8, receiving: u16) -> bool {
+    let number = |first, last| value(field(document, first, last));
     are_digits(field(document, 5, 29))
         && are_digits(field(document, 36, 47))
         && matches!(field(document, 10, 11), [0, 0] | [0x80, _])
         && is_day(number(16, 16), number(17, 17))
         && (1..=52).contains(&number(22, 22))
-        && number(23, 24) == u64::from(own)
+        && number(23, 24) == u64::from(receiving)
         && (1..=52).contains(&number(25, 25))
         && (1..=2).contains(&number(45, 45))
         && (operation == 0x30 || matches!(number(46, 47), 1..=49 | 51..=99))
@@ -96,7 +115,7 @@ fn amounts_are_digits(document: &[u8]) -> bool {
 }
 
 fn drawn_here(document: &[u8], own: u16, represented: &[u16]) -> bool {
-    let drawee = packed(field(document, 36, 37));
+    let drawee = value(field(document, 36, 37));
     drawee == u64::from(own)
         || represented
             .iter()
@@ -104,19 +123,9 @@ fn drawn_here(document: &[u8], own: u16, represented: &[u16]) -> bool {
 }
 
 fn nominal(document: &[u8]) -> u64 {
-    packed(field(document, 30, 35))
+    value(field(document, 30, 35))
 }
 
 fn commission(document: &[u8]) -> u64 {
-    packed(field(document, 48, 51))
-}
-
-fn are_digits(bytes: &[u8]) -> bool {
-    bytes.iter().all(|&byte| byte >> 4 <= 9 && byte & 15 <= 9)
-}
-
-fn packed(bytes: &[u8]) -> u64 {
-    bytes.iter().fold(0, |value, &byte| {
-        value * 100 + u64::from(byte >> 4) * 10 + u64::from(byte & 15)
-    })
+    value(field(document, 48, 51))
 }

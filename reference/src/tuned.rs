@@ -1,6 +1,6 @@
 //! The detail check tuned for speed: one pass over the documents, eight bytes at a time.
 
-use crate::frame::{self, word, wrong, Amounts, Document, Found, GROUP, STRETCH};
+use crate::frame::{self, word, wrong, Amounts, Document, Found, GROUP, PART, STRETCH};
 use crate::Checked;
 
 const LOW_DIGITS: u64 = 0x0F0F_0F0F_0F0F_0F0F;
@@ -20,12 +20,28 @@ pub fn check(body: &[u8], own: u16, represented: &[u16]) -> Checked {
     frame::check(body, own, represented, pass::<false>, pass::<true>)
 }
 
+/// The presenter's check of whole documents under an operation, 30 or 40, as the plain one does it.
+pub fn check_to_send(documents: &[u8], operation: u8, receiving: u16) -> Checked {
+    let pass = if operation == 0x40 {
+        look::<true, PART>
+    } else {
+        look::<false, PART>
+    };
+    let found = pass(documents, frame::packed(receiving));
+    frame::field_codes(&found, documents.len() / 51)
+}
+
 fn pass<const RETURNS: bool>(body: &[u8], own: [u8; 2]) -> Found {
+    look::<RETURNS, GROUP>(body, own)
+}
+
+/// Over pieces that end with four documents, and then the documents of a last, shorter piece.
+fn look<const RETURNS: bool, const SIZE: usize>(bytes: &[u8], own: [u8; 2]) -> Found {
     let own = u64::from(u16::from_le_bytes(own));
     let least = [0x0000_0100_0001_0000 | own << 24, 0, own, 0x0100];
-    let (full, rest) = body.as_chunks::<GROUP>();
+    let (full, rest) = bytes.as_chunks::<SIZE>();
     let mut seen = Seen::default();
-    seen.take_all::<RETURNS, GROUP>(full, &least);
+    seen.take_all::<RETURNS, SIZE>(full, &least);
     seen.take_all::<RETURNS, 51>(rest.as_rchunks().1, &least);
     seen.found::<RETURNS>()
 }

@@ -2,6 +2,7 @@
 use crate::Commission;
 use crate::Nominal;
 ghost use mathlib.Core.Path.{_≡_};
+ghost use lib.IntN.{natAbs};
 ghost use Rattle.amounts.specs.Difference.{difference, DifferenceFits};
 
 // The first less the second, whatever the two count.
@@ -26,4 +27,14 @@ pub fn commission_difference(a: Commission, b: Commission) -> i64
     ensures { λ r. ⌜ r ≡ difference (a .0) (b .0) ⌝ }
 {
     difference(a.0, b.0)
+}
+
+// A number without its sign. Below zero one is added before the sign is turned, so that the lowest number fits as well.
+pub fn magnitude(n: i64) -> u64
+    ensures { λ r. ⌜ r ≡ natAbs n ⌝ }
+{
+    if n < 0 {
+        return (-(n + 1)) as u64 + 1;
+    }
+    n as u64
 }

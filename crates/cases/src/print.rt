@@ -1,6 +1,5 @@
 // Numbers and words on standard output.
-ghost use mathlib.Core.Path.{_≡_};
-ghost use lib.IntN.{natAbs};
+use amounts::difference::magnitude;
 
 pub fn print_text(words: &[u8]) {
     io::write_all(1, words);
@@ -33,16 +32,6 @@ pub fn print_answer(n: u8) {
         print_text(b"0");
     }
     io::print_decimal(1, n as u64);
-}
-
-// A number without its sign. Below zero one is added before the sign is turned, so that the lowest number fits as well.
-fn magnitude(n: i64) -> u64
-    ensures { λ r. ⌜ r ≡ natAbs n ⌝ }
-{
-    if n < 0 {
-        return (-(n + 1)) as u64 + 1;
-    }
-    n as u64
 }
 
 // Some words, and a number that may be negative.

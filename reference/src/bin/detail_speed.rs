@@ -1,11 +1,11 @@
 //! Times the four detail checks side by side on full good bodies and prints their ratios.
 
+use reference::timing::{in_turn, time, Run};
 use reference::{bodies, columns, line, plain, tuned, Checked};
 use std::hint::black_box;
-use std::time::Instant;
 
 const SAMPLES: usize = 2_000;
-const CALLS: u32 = 20;
+const CALLS: usize = 20;
 const DOCUMENTS: usize = 200;
 const OWN: u16 = 72;
 const REPRESENTED: [u16; 8] = [81, 182, 1465, 2038, 2100, 3058, 49, 9000];
@@ -40,44 +40,29 @@ fn compare(case: &str, body: &[u8], represented: &[u16]) {
     for (name, check) in CHECKS {
         assert_eq!(check(body, OWN, represented), answer, "{name}");
     }
-    println!("{case}");
-    let times = measure(body, represented);
-    let (plain_least, plain_median) = summary(&times[0]);
-    for ((name, _), samples) in CHECKS.iter().zip(&times) {
-        let (least, median) = summary(samples);
+    let runs = CHECKS.map(|(_, check)| run(check, body, represented));
+    let times = in_turn(SAMPLES, runs.into());
+    let (plain, tuned) = (times[0], times[1]);
+    println!("{case}, {SAMPLES} samples of {CALLS} calls");
+    println!("             least  of plain  of tuned    median  of plain  of tuned");
+    for ((name, _), times) in CHECKS.iter().zip(times) {
+        let one = times.for_each(CALLS);
         println!(
-            "  {name:<8}{least:>9.0} ns  {:>6.3} of plain  {:>6.3} by medians",
-            least / plain_least,
-            median / plain_median,
+            "  {name:<8}{:>5.0} ns  {:>8.3}  {:>8.3}  {:>5.0} ns  {:>8.3}  {:>8.3}",
+            one.least,
+            times.least / plain.least,
+            times.least / tuned.least,
+            one.median,
+            times.median / plain.median,
+            times.median / tuned.median,
         );
     }
 }
 
-/// Nanoseconds per call, one list for each check; the checks take turns sample by sample.
-fn measure(body: &[u8], represented: &[u16]) -> [Vec<f64>; CHECKS.len()] {
-    let mut times: [Vec<f64>; CHECKS.len()] = Default::default();
-    for _ in 0..SAMPLES {
-        for ((_, check), samples) in CHECKS.iter().zip(&mut times) {
-            samples.push(sample(*check, body, represented));
-        }
-    }
-    times
-}
-
-fn sample(check: Check, body: &[u8], represented: &[u16]) -> f64 {
-    let start = Instant::now();
-    for _ in 0..CALLS {
-        black_box(check(
-            black_box(body),
-            black_box(OWN),
-            black_box(represented),
-        ));
-    }
-    start.elapsed().as_nanos() as f64 / f64::from(CALLS)
-}
-
-fn summary(samples: &[f64]) -> (f64, f64) {
-    let mut sorted = samples.to_vec();
-    sorted.sort_by(f64::total_cmp);
-    (sorted[0], sorted[sorted.len() / 2])
+fn run<'a>(check: Check, body: &'a [u8], represented: &'a [u16]) -> Run<'a> {
+    Box::new(move || {
+        time(CALLS, || {
+            check(black_box(body), black_box(OWN), black_box(represented))
+        })
+    })
 }

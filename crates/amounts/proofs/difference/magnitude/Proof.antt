@@ -10,8 +10,8 @@ use mir.Syntax.{w64}
 use mir.Val.{Fits, SFits, toZ, ofZ}
 use mir.Facts.{toZ-ofZ, fits-ofZ, sfits-toZ}
 use borrow.Author.Tests.{ltb-true}
-use Rattle.cases.proofs.print.magnitude.Statement.{statement}
-use Rattle.cases.proofs.print.magnitude.Tie as tie
+use Rattle.amounts.proofs.difference.magnitude.Statement.{statement}
+use Rattle.amounts.proofs.difference.magnitude.Tie as tie
 
 -- what the machine reads back from the bits of a number
 abbrev read : ℤ → ℤ

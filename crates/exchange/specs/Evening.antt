@@ -1,0 +1,68 @@
+-- A whole evening as C sees it: a code, and both reports in plain numbers.
+use Prim.Native.Nat.{ℕ}
+use mathlib.Core.Bool.{cond}
+use mathlib.Core.List.{List, []}
+use lib.Dec.{eqb}
+use lib.ListN.{replicate}
+use Rattle.codes.specs.Chain.{_orelse_}
+use Rattle.outgoing.specs.Outgoing.{checkCode}
+use Rattle.session.specs.declared.report.Tally.{Tally}
+use Rattle.session.specs.declared.report.Report.{Report}
+use Rattle.session.specs.declared.session.Close.{Close}
+use Rattle.session.specs.Hours.{close}
+use Rattle.session.specs.Start.{start}
+use Rattle.session.specs.Report.{report}
+use Rattle.session.specs.Engine.{Call, Engine, withEmpty}
+use Rattle.centre.specs.Turn.{turned}
+use Rattle.exchange.specs.declared.shown.Sums.{Sums}
+use Rattle.exchange.specs.declared.shown.Side.{Side}
+use Rattle.exchange.specs.declared.shown.Evening.{Evening}
+use Rattle.exchange.specs.Fixed.{date, near, far, messageBytes, replyBytes}
+use Rattle.exchange.specs.Course.{Ends, bothDirections}
+
+-- a report in plain numbers; the close is 0 for open, 1 for in order, 2 for forced
+abbrev pub sumsOf : Tally → Sums
+sumsOf t = record { lots = t .lots; documents = t .gathered .documents .0; nominal = t .gathered .nominal .0; commission = t .gathered .commission .0 }
+
+abbrev pub closeNumber : Close → ℕ
+closeNumber Close.Open = 0
+closeNumber Close.Ordered = 1
+closeNumber Close.Forced = 2
+
+abbrev pub sideOf : Report → Side
+sideOf r = record { presented = sumsOf (r .presented); received = sumsOf (r .received); close = closeNumber (r .close) }
+
+abbrev pub noSums : Sums
+noSums = record { lots = 0; documents = 0; nominal = 0; commission = 0 }
+
+abbrev pub noSide : Side
+noSide = record { presented = noSums; received = noSums; close = 0 }
+
+-- the report of an end after its clock call at the close, which uses no line buffer
+unfoldable pub closedSide : Engine → Side
+closedSide e = sideOf (report (turned (Call.clock close) [] e .engine .session))
+
+-- an end just started, with nobody represented
+abbrev pub startedEnd : (own partner : ℕ) → Engine
+startedEnd own partner = withEmpty (start date own partner [] .session)
+
+-- both ends at the beginning, the near one to present first, and line buffers of zeros
+unfoldable pub beginning : Ends
+beginning = record { presenter = startedEnd near far; receiver = startedEnd far near; message = replicate messageBytes 0; reply = replicate replyBytes 0 }
+
+-- after both directions the far end is the one that has presented
+abbrev pub shownOf : Ends → Evening
+shownOf e = record { code = 0; near = closedSide (e .receiver); far = closedSide (e .presenter) }
+
+unfoldable pub evening : (nearPresentations nearReturns farPresentations farReturns : List ℕ) → Evening
+evening nearPresentations nearReturns farPresentations farReturns = shownOf (bothDirections nearPresentations nearReturns farPresentations farReturns beginning)
+
+-- 25 where a tray is bad
+unfoldable pub traysCode : (nearPresentations nearReturns farPresentations farReturns : List ℕ) → ℕ
+traysCode nearPresentations nearReturns farPresentations farReturns = checkCode nearPresentations nearReturns 0 0 orelse checkCode farPresentations farReturns 0 0
+
+-- the evening, or the code with nothing beside it
+unfoldable pub exchanged : (nearPresentations nearReturns farPresentations farReturns : List ℕ) → Evening
+exchanged nearPresentations nearReturns farPresentations farReturns =
+    let code = traysCode nearPresentations nearReturns farPresentations farReturns in
+    cond (eqb code 0) (evening nearPresentations nearReturns farPresentations farReturns) (record { code = code; near = noSide; far = noSide })

@@ -1,0 +1,7 @@
+-- What a line of a script does.
+pub mod Within
+pub mod Hex
+pub mod Reading
+pub mod Answer
+pub mod Player
+pub mod Play

@@ -1,0 +1,36 @@
+-- What playing a line leaves.
+use Prim.Native.Nat.{ℕ, _+_, _^_, _≤_, _<_}
+use mathlib.Core.Path.{_≡_}
+use mathlib.Core.Bool.{Bool, cond}
+use mathlib.Core.List.{List}
+use lib.ListN.{length, drop, replicate}
+use Rattle.script.specs.declared.player.Player.{Player}
+use Rattle.script.specs.declared.play.Cut.{Cut}
+use Rattle.script.specs.declared.play.LinePlayed.{LinePlayed}
+use Rattle.script.specs.Player.{endsOf, played, ReadyPlayer}
+
+-- the bytes of a line buffer, before a call
+unfoldable pub filled : List ℕ
+filled = replicate 10412 238
+
+-- A line was played: the two ends, each session with its running totals, are as the call that was read leaves them, or as they were where the
+-- output has no room for the answer. Of the output only the answer is written. The text of the answer is left open.
+pub record Done (player : Player) (bytes line before after : List ℕ) (r : LinePlayed) : Type 0 where
+  pub ends : endsOf (r .player) ≡ cond (r .full) (endsOf player) (played (r .reading) bytes line (endsOf player))
+  pub written : r .written ≤ length before
+  pub kept : drop (r .written) after ≡ drop (r .written) before
+  pub ready : ReadyPlayer (r .player)
+
+-- a line was played, with so many bytes of output before its answer
+pub record Behind (count : ℕ) (before after : List ℕ) (r : LinePlayed) : Type 0 where
+  pub written : count + r .written ≤ length before
+  pub fits : count + r .written < 2 ^ 64
+  pub kept : drop (count + r .written) after ≡ drop (count + r .written) before
+  pub ready : ReadyPlayer (r .player)
+
+-- a line that was cut from a text lies in it, and the next begins behind where it began
+pub record CutWithin (at : ℕ) (text : List ℕ) (r : Cut) : Type 0 where
+  pub from : at ≤ r .to
+  pub to : r .to ≤ length text
+  pub on : at < r .next
+  pub next : r .next ≤ length text

@@ -1,0 +1,62 @@
+-- Two ends of a line, each with a session or none yet, and what a line of a script does to them.
+use Prim.Native.Nat.{ℕ}
+use mathlib.Core.Bool.{Bool, true, cond}
+use mathlib.Core.List.{List}
+use lib.Dec.{eqb}
+use Rattle.session.specs.Start as Start
+use Rattle.session.specs.Engine.{Call, Engine, withEmpty}
+use Rattle.session.specs.Claim.{Ready}
+use Rattle.centre.specs.Turn.{engineOf, turned}
+use Rattle.script.specs.declared.player.Seat.{Seat}
+use Rattle.script.specs.declared.player.Player.{Player}
+use Rattle.script.specs.declared.reading.Reading.{Reading}
+use Rattle.script.specs.Reading.{Named, namedBy}
+
+-- an end: whether a start there has succeeded, and its engine
+pub record Seated : Type 0 where
+  pub started : Bool
+  pub engine : Engine
+
+pub record Ends : Type 0 where
+  pub near : Seated
+  pub far : Seated
+
+abbrev pub seatOf : Seat → Seated
+seatOf s = record { started = s .started; engine = engineOf (s .centre) }
+
+abbrev pub endsOf : Player → Ends
+endsOf p = record { near = seatOf (p .near); far = seatOf (p .far) }
+
+-- a call at an end; one without a session stays as it is
+unfoldable pub called : Call → (line : List ℕ) → Seated → Seated
+called call line s = cond (s .started) (record { started = true; engine = turned call line (s .engine) .engine }) s
+
+-- a start at an end; a refused one leaves what was there
+unfoldable pub begunAt : (date own partner : ℕ) (represented : List ℕ) → Seated → Seated
+begunAt date own partner represented s =
+    let o = Start.start date own partner represented in
+    cond (eqb (o .number) 0) (record { started = true; engine = withEmpty (o .session) }) s
+
+-- what a line names is done at its end
+abbrev pub done : Named → (line : List ℕ) → Seated → Seated
+done Named.nothing line s = s
+done (Named.start date own partner represented) line s = begunAt date own partner represented s
+done (Named.call call) line s = called call line s
+
+abbrev pub seatAt : (near : Bool) → Ends → Seated
+seatAt near e = cond near (e .near) (e .far)
+
+abbrev pub withSeat : (near : Bool) → Seated → Ends → Ends
+withSeat near s e = cond near (record { near = s; far = e .far }) (record { near = e .near; far = s })
+
+-- both ends after a line that was read, with the bytes that stand in it and the line buffer of its call
+abbrev pub played : Reading → (bytes line : List ℕ) → Ends → Ends
+played r bytes line e = withSeat (r .near) (done (namedBy (r .asked) r bytes) line (seatAt (r .near) e)) e
+
+-- the premise of every call, at each end
+abbrev pub ReadySeat : Seat → Type 0
+ReadySeat s = Ready (engineOf (s .centre))
+
+pub record ReadyPlayer (p : Player) : Type 0 where
+  pub near : ReadySeat (p .near)
+  pub far : ReadySeat (p .far)

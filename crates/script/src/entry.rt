@@ -1,0 +1,44 @@
+// Scripts for C: a whole script in, its answers out. include/line.h says how it is called.
+use crate::play::Stop;
+use crate::play::play;
+use crate::player::fresh;
+ghost use mathlib.Core.Path.{_≡_};
+ghost use Prim.Native.Nat.{_≤_};
+ghost use lib.ListN.{length, drop};
+
+// How many bytes of the script were played, how many bytes answer them, and why it stopped: 0 where all was played, 1 where
+// the answer to the next line does not fit.
+#[repr(C)]
+pub struct ScriptPlayed {
+    pub read: u64,
+    pub written: u64,
+    pub stop: u8,
+}
+
+fn stop_number(stop: Stop) -> u8 {
+    match stop {
+        Stop::Done => 0,
+        Stop::Unfinished => 0,
+        Stop::Full => 1,
+    }
+}
+
+// Plays a script on two ends that have no session yet.
+#[no_mangle]
+pub extern "C" fn line_play_script(
+    script: &[u8],
+    output: &mut [u8],
+    wire: &mut [u8],
+) -> ScriptPlayed
+    ensures read { λ r. ⌜ r .read ≤ length (now (script .entry)) ⌝ }
+    ensures written { λ r. ⌜ r .written ≤ length (now (output .entry)) ⌝ }
+    ensures kept { λ r. ⌜ drop (r .written) (now (output .exit)) ≡ drop (r .written) (now (output .entry)) ⌝ }
+{
+    let played = play(fresh(), script, true, output, wire);
+    let stop = played.stop;
+    ScriptPlayed {
+        read: played.read as u64,
+        written: played.written as u64,
+        stop: stop_number(stop),
+    }
+}

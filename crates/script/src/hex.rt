@@ -1,0 +1,98 @@
+// Bytes as pairs of hexadecimal digits, read in either case and written in lower case.
+ghost use mathlib.Core.Path.{_≡_};
+ghost use Prim.Native.Nat.{_+_, _*_, _≤_, _<_};
+ghost use lib.ListN.{length};
+ghost use lib.Seq.{sets};
+ghost use Rattle.script.specs.Hex.{hexText, hexDigit};
+
+// How many bytes were read, if they were.
+pub struct Bytes {
+    pub good: bool,
+    pub count: usize,
+}
+
+pub fn no_bytes(good: bool) -> Bytes
+    ensures { λ r. ⌜ r .count ≡ 0 ⌝ }
+{
+    Bytes {
+        good: good,
+        count: 0,
+    }
+}
+
+// A digit's value; 16 for any other byte.
+fn digit(b: u8) -> u8
+    ensures { λ r. ⌜ r ≤ 16 ⌝ }
+{
+    match b {
+        b'0'..=b'9' => b - b'0',
+        b'a'..=b'f' => b - b'a' + 10,
+        b'A'..=b'F' => b - b'A' + 10,
+        _ => 16,
+    }
+}
+
+// Reads pairs of digits into the first bytes of a buffer, if they fit.
+fn read_pairs(word: &[u8], bytes: &mut [u8]) -> Bytes
+    ensures { λ r. ⌜ r .count ≤ length (now (bytes .entry)) ⌝ }
+{
+    let count = word.len() / 2;
+    if bytes.len() < count {
+        return no_bytes(false);
+    }
+    let mut i: usize = 0;
+    while i < count {
+        let high = digit(word[i * 2]);
+        let low = digit(word[i * 2 + 1]);
+        if 15 < high {
+            return no_bytes(false);
+        }
+        if 15 < low {
+            return no_bytes(false);
+        }
+        bytes[i] = high * 16 + low;
+        i += 1;
+    }
+    Bytes {
+        good: true,
+        count: count,
+    }
+}
+
+// A word of an even number of digits, or `-` for no bytes at all.
+pub fn read_hex(word: &[u8], bytes: &mut [u8]) -> Bytes
+    ensures { λ r. ⌜ r .count ≤ length (now (bytes .entry)) ⌝ }
+{
+    if word.len() == 1 {
+        return no_bytes(word[0] == b'-');
+    }
+    if word.len() % 2 == 1 {
+        return no_bytes(false);
+    }
+    read_pairs(word, bytes)
+}
+
+// The digit of a half of a byte.
+fn hex_digit(half: u8) -> u8
+    requires { ⌜ half < 16 ⌝ }
+    ensures { λ r. ⌜ r ≡ hexDigit half ⌝ }
+{
+    if half < 10 {
+        return b'0' + half;
+    }
+    b'a' - 10 + half
+}
+
+// Writes bytes as pairs of digits from `at` on; every other byte keeps its value.
+pub fn write_hex(d: &mut [u8], at: usize, bytes: &[u8])
+    requires { ⌜ at + 2 * length (now bytes) ≤ length (now d) ⌝ }
+    ensures { λ _. ⌜ now (d .exit) ≡ sets (now (d .entry)) at (hexText (now (bytes .entry))) ⌝ }
+{
+    let mut i: usize = 0;
+    while i < bytes.len() {
+        let b = bytes[i];
+        d[at + i * 2] = hex_digit(b / 16);
+        d[at + i * 2 + 1] = hex_digit(b % 16);
+        i += 1;
+    }
+}

@@ -1,0 +1,84 @@
+// Decimal numbers of a script: digits alone, at most 20 of them, below 2^64.
+ghost use mathlib.Core.Path.{_≡_};
+ghost use Prim.Native.Nat.{_≤_, _-_, _^_, min};
+
+pub struct Number {
+    pub good: bool,
+    pub value: u64,
+}
+
+// The most digits, leading zeros too.
+const MOST_DIGITS: usize = 20;
+
+const LARGEST: u64 = 18_446_744_073_709_551_615;
+
+// A digit's value; 10 for any other byte.
+fn digit(b: u8) -> u64
+    ensures { λ r. ⌜ r ≤ 10 ⌝ }
+{
+    if b < b'0' {
+        return 10;
+    }
+    if b'9' < b {
+        return 10;
+    }
+    (b - b'0') as u64
+}
+
+fn wrong() -> Number {
+    Number {
+        good: false,
+        value: 0,
+    }
+}
+
+pub fn read_number(word: &[u8]) -> Number {
+    if MOST_DIGITS < word.len() {
+        return wrong();
+    }
+    let mut value: u64 = 0;
+    let mut i: usize = 0;
+    while i < word.len() {
+        let d = digit(word[i]);
+        if 9 < d {
+            return wrong();
+        }
+        if (LARGEST - d) / 10 < value {
+            return wrong();
+        }
+        value = value * 10 + d;
+        i += 1;
+    }
+    Number {
+        good: 0 < word.len(),
+        value: value,
+    }
+}
+
+// The number, or the largest of the argument's type where it is larger.
+pub fn to_u32(value: u64) -> u32
+    ensures { λ r. ⌜ r ≡ min value (2 ^ 32 - 1) ⌝ }
+{
+    if 4_294_967_295 < value {
+        return 4_294_967_295;
+    }
+    value as u32
+}
+
+pub fn to_u16(value: u64) -> u16
+    ensures { λ r. ⌜ r ≡ min value (2 ^ 16 - 1) ⌝ }
+{
+    if 65_535 < value {
+        return 65_535;
+    }
+    value as u16
+}
+
+pub fn to_u8(value: u64) -> u8
+    ensures { λ r. ⌜ r ≡ min value (2 ^ 8 - 1) ⌝ }
+{
+    if 255 < value {
+        return 255;
+    }
+    value as u8
+}

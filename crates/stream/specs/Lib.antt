@@ -1,0 +1,2 @@
+-- What stays true between two pieces of a script.
+pub mod Stream

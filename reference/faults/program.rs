@@ -1,0 +1,44 @@
+//! The engine and the script interpreter, meant to have one fault in them. Plays the scripts of
+//! the file named as argument and tells the first whose answers differ from those noted there,
+//! or that makes the player panic.
+
+mod checked;
+mod packed;
+mod plain;
+mod script;
+mod session;
+mod tray_script;
+
+/// The tuned check has no part in scripts.
+mod tuned {
+    pub use crate::plain::{check, check_to_send};
+}
+
+use checked::Checked;
+use std::panic::catch_unwind;
+use std::process::ExitCode;
+
+/// Each script has a line with its name and the lengths of its text and of its answers, parted
+/// by tabs; text and answers follow.
+fn main() -> ExitCode {
+    let path = std::env::args().nth(1).expect("the corpus is named");
+    let corpus = std::fs::read(path).expect("the corpus can be read");
+    let mut rest = corpus.as_slice();
+    while let Some(end) = rest.iter().position(|&byte| byte == b'\n') {
+        let head = String::from_utf8_lossy(&rest[..end]);
+        let words: Vec<&str> = head.split('\t').collect();
+        let length = |at: usize| words[at].parse().expect("a length");
+        let (text, after) = rest[end + 1..].split_at(length(1));
+        let (answers, after) = after.split_at(length(2));
+        let play = match words[0] {
+            "trays" => tray_script::play,
+            _ => script::play,
+        };
+        if !catch_unwind(|| play(text)).is_ok_and(|played| played == answers) {
+            println!("{}", words[0]);
+            return ExitCode::from(1);
+        }
+        rest = after;
+    }
+    ExitCode::SUCCESS
+}

@@ -1,0 +1,264 @@
+//! Faulty variants of the reference, each compiled and played over the corpus: every fault must
+//! show in the answers. The unmodified reference says what the answers should be.
+
+use reference::corpus::{corpus, generated, tray_corpus, Script};
+use reference::{script, tray_script};
+use std::collections::HashSet;
+use std::fs;
+use std::path::{Path, PathBuf};
+use std::process::Command;
+use std::sync::atomic::{AtomicUsize, Ordering};
+use std::sync::Mutex;
+use std::thread;
+
+const COMPILERS: usize = 2;
+/// The sources that the small program is made of, and where it starts.
+const SOURCES: [&str; 4] = ["checked.rs", "packed.rs", "plain.rs", "tray_script.rs"];
+const FOLDERS: [&str; 2] = ["script", "session"];
+const PROGRAM: &str = "faults/program.rs";
+/// No call of a script reaches what is in it.
+const TRAYS: &str = "src/session/trays.rs";
+
+struct Fault {
+    what: String,
+    file: String,
+    changes: Vec<Change>,
+}
+
+#[derive(Default)]
+struct Change {
+    old: Vec<String>,
+    new: Vec<String>,
+}
+
+enum Outcome {
+    /// By the script of this name.
+    Caught(String),
+    Missed,
+    /// The program was not made, so the fault says nothing.
+    NoProgram(String),
+}
+
+/// What all faults have come to.
+#[derive(Default)]
+struct Tally {
+    by_generated: usize,
+    by_others: usize,
+    failures: Vec<String>,
+}
+
+#[test]
+fn every_fault_is_caught() {
+    let faults = faults();
+    assert!(faults.len() >= 100, "only {} faults", faults.len());
+    let workshop = Workshop::new();
+    assert!(
+        matches!(workshop.outcome(0, None), Outcome::Missed),
+        "the unchanged program differs from the reference"
+    );
+    let next = AtomicUsize::new(0);
+    let tally = Mutex::new(Tally::default());
+    thread::scope(|scope| {
+        for worker in 0..COMPILERS {
+            let (workshop, next, tally, faults) = (&workshop, &next, &tally, &faults);
+            scope.spawn(move || {
+                while let Some(fault) = faults.get(next.fetch_add(1, Ordering::Relaxed)) {
+                    let outcome = workshop.outcome(worker, Some(fault));
+                    tally.lock().unwrap().add(fault, outcome, workshop);
+                }
+            });
+        }
+    });
+    let tally = tally.into_inner().unwrap();
+    let (generated, others) = (tally.by_generated, tally.by_others);
+    println!("caught by generated scripts alone: {generated}, by others only: {others}");
+    assert!(tally.failures.is_empty(), "{}", tally.failures.join("\n"));
+    let reached = faults.iter().filter(|fault| fault.file != TRAYS).count();
+    assert!(10 * generated >= 9 * reached, "{generated} are few");
+}
+
+impl Tally {
+    fn add(&mut self, fault: &Fault, outcome: Outcome, workshop: &Workshop) {
+        let what = &fault.what;
+        match outcome {
+            Outcome::Caught(script) => {
+                println!("{script:24} {what}");
+                if workshop.generated.contains(&script) {
+                    self.by_generated += 1;
+                } else {
+                    self.by_others += 1;
+                }
+            }
+            Outcome::Missed => self.failures.push(format!("not caught: {what}")),
+            Outcome::NoProgram(why) => self.failures.push(format!("no program: {what}\n{why}")),
+        }
+    }
+}
+
+/// A directory with the scripts, their answers, and a copy of the sources for each compiler.
+struct Workshop {
+    package: PathBuf,
+    place: PathBuf,
+    /// The names of the generated scripts, which are played before the hand-made ones.
+    generated: HashSet<String>,
+}
+
+impl Workshop {
+    fn new() -> Workshop {
+        let place = std::env::temp_dir().join(format!("faults-{}", std::process::id()));
+        fs::create_dir_all(&place).unwrap();
+        let mut text = noted(&tray_corpus(), tray_script::play);
+        text.extend(noted(&corpus(), script::play));
+        fs::write(place.join("corpus"), text).unwrap();
+        let package = PathBuf::from(env!("CARGO_MANIFEST_DIR"));
+        let generated = generated().into_iter().map(|script| script.name);
+        Workshop {
+            package,
+            place,
+            generated: generated.collect(),
+        }
+    }
+
+    fn outcome(&self, worker: usize, fault: Option<&Fault>) -> Outcome {
+        let bench = self.place.join(worker.to_string());
+        self.copy_sources(&bench);
+        if let Some(fault) = fault {
+            if let Err(why) = fault.put_in(&bench) {
+                return Outcome::NoProgram(why);
+            }
+        }
+        match compiled(&bench) {
+            Ok(program) => self.played(&program),
+            Err(why) => Outcome::NoProgram(why),
+        }
+    }
+
+    fn copy_sources(&self, bench: &Path) {
+        fs::create_dir_all(bench).unwrap();
+        fs::copy(self.package.join(PROGRAM), bench.join("main.rs")).unwrap();
+        let source = self.package.join("src");
+        for name in SOURCES {
+            fs::copy(source.join(name), bench.join(name)).unwrap();
+        }
+        for folder in FOLDERS {
+            fs::create_dir_all(bench.join(folder)).unwrap();
+            for entry in fs::read_dir(source.join(folder)).unwrap() {
+                let file = entry.unwrap();
+                fs::copy(file.path(), bench.join(folder).join(file.file_name())).unwrap();
+            }
+        }
+    }
+
+    fn played(&self, program: &Path) -> Outcome {
+        let corpus = self.place.join("corpus");
+        let run = Command::new(program).arg(corpus).output().unwrap();
+        let script = String::from_utf8_lossy(&run.stdout).trim().to_string();
+        match run.status.code() {
+            Some(0) => Outcome::Missed,
+            Some(1) => Outcome::Caught(script),
+            _ => Outcome::NoProgram(format!("it ended with {}", run.status)),
+        }
+    }
+}
+
+/// The scripts with their answers, as the program reads them.
+fn noted(scripts: &[Script], play: fn(&[u8]) -> Vec<u8>) -> Vec<u8> {
+    let mut text = Vec::new();
+    for script in scripts {
+        let answers = play(&script.text);
+        let (name, length) = (&script.name, script.text.len());
+        text.extend(format!("{name}\t{length}\t{}\n", answers.len()).into_bytes());
+        text.extend(&script.text);
+        text.extend(answers);
+    }
+    text
+}
+
+impl Drop for Workshop {
+    fn drop(&mut self) {
+        let _ = fs::remove_dir_all(&self.place);
+    }
+}
+
+/// Unoptimised, which takes the least time in all. What the last fault has not changed is kept
+/// from its compilation.
+fn compiled(bench: &Path) -> Result<PathBuf, String> {
+    let program = bench.join("program");
+    let incremental = format!("incremental={}", bench.join("kept").display());
+    let compiler = std::env::var("RUSTC").unwrap_or("rustc".into());
+    let run = Command::new(compiler)
+        .args(["--edition", "2021", "--cap-lints", "allow"])
+        .args(["-C", "opt-level=0", "-C", "debuginfo=0", "-C", &incremental])
+        .args(["-C", "prefer-dynamic", "-C", "rpath"])
+        .arg(bench.join("main.rs"))
+        .arg("-o")
+        .arg(&program)
+        .output()
+        .unwrap();
+    let messages = String::from_utf8_lossy(&run.stderr).into_owned();
+    run.status.success().then_some(program).ok_or(messages)
+}
+
+impl Fault {
+    fn put_in(&self, bench: &Path) -> Result<(), String> {
+        let name = self.file.strip_prefix("src/").unwrap_or(&self.file);
+        let path = bench.join(name);
+        let mut text = fs::read_to_string(&path).map_err(|error| format!("{name}: {error}"))?;
+        for change in &self.changes {
+            let (old, new) = (change.old.join("\n"), change.new.join("\n"));
+            let times = text.matches(&old).count();
+            if times != 1 {
+                return Err(format!("{name} has {times} times:\n{old}"));
+            }
+            text = text.replace(&old, &new);
+        }
+        fs::write(path, text).map_err(|error| error.to_string())
+    }
+}
+
+/// From all lists, which are the text files beside the program.
+fn faults() -> Vec<Fault> {
+    let folder = Path::new(env!("CARGO_MANIFEST_DIR")).join("faults");
+    let entries = fs::read_dir(folder).unwrap();
+    let mut paths: Vec<PathBuf> = entries.map(|entry| entry.unwrap().path()).collect();
+    paths.retain(|path| path.extension().is_some_and(|extension| extension == "txt"));
+    paths.sort();
+    let lists = paths.iter().map(|path| fs::read_to_string(path).unwrap());
+    lists.flat_map(|list| read(&list)).collect()
+}
+
+fn read(list: &str) -> Vec<Fault> {
+    let mut faults: Vec<Fault> = Vec::new();
+    for line in list.lines().filter(|line| !line.starts_with('#')) {
+        if let Some(what) = line.strip_prefix("== ") {
+            faults.push(Fault {
+                what: what.into(),
+                file: String::new(),
+                changes: Vec::new(),
+            });
+        } else if !line.is_empty() {
+            read_line(faults.last_mut().expect("a fault has a sentence"), line);
+        }
+    }
+    faults
+}
+
+fn read_line(fault: &mut Fault, line: &str) {
+    if let Some(file) = line.strip_prefix("in ") {
+        fault.file = file.into();
+    } else if let Some(old) = line.strip_prefix('-') {
+        let begun = fault
+            .changes
+            .last()
+            .is_some_and(|change| change.new.is_empty());
+        if !begun {
+            fault.changes.push(Change::default());
+        }
+        fault.changes.last_mut().unwrap().old.push(old.into());
+    } else if let Some(new) = line.strip_prefix('+') {
+        let change = fault.changes.last_mut().expect("old text comes first");
+        change.new.push(new.into());
+    } else {
+        panic!("{line} is no line of a fault");
+    }
+}

@@ -1,0 +1,145 @@
+//! The reference and the engine under test play the same generated scripts and must answer
+//! alike; the engine's answers must also keep the books of both ends.
+//!
+//! `LONG=n` plays n times as many scripts, `SEED=s` begins with another seed than 0.
+
+use reference::generate::{self, Kind};
+use reference::line::play as engine;
+use reference::script::play as reference;
+use reference::{books, compare};
+use std::collections::BTreeMap;
+use std::env;
+use std::sync::atomic::{AtomicUsize, Ordering};
+use std::sync::Mutex;
+use std::thread;
+
+const THREADS: usize = 2;
+/// More would say nothing new.
+const MOST_FAILURES: usize = 3;
+
+#[derive(Clone, Copy)]
+struct Task {
+    kind: Kind,
+    seed: u64,
+}
+
+/// What the threads have come to.
+#[derive(Default)]
+struct Outcome {
+    scripts: BTreeMap<String, u64>,
+    books: u64,
+    reports: u64,
+    named: u64,
+    ahead: u64,
+    settled: u64,
+    failures: Vec<String>,
+}
+
+#[test]
+fn the_engine_answers_like_the_reference() {
+    let tasks = tasks();
+    let next = AtomicUsize::new(0);
+    let outcome = Mutex::new(Outcome::default());
+    thread::scope(|scope| {
+        for _ in 0..THREADS {
+            scope.spawn(|| work(&tasks, &next, &outcome));
+        }
+    });
+    let outcome = outcome.into_inner().unwrap();
+    println!("scripts {:?}", outcome.scripts);
+    println!(
+        "books of {} scripts: {} reports, {} name a lot, {} lines ahead, {} lots settled",
+        outcome.books, outcome.reports, outcome.named, outcome.ahead, outcome.settled
+    );
+    assert!(
+        outcome.failures.is_empty(),
+        "{}",
+        outcome.failures.join("\n\n")
+    );
+    assert!(tasks.len() >= 2_000 && outcome.books >= 1_000);
+    assert!(outcome.named >= 1_000 && outcome.ahead >= 1_000 && outcome.settled >= 1_000);
+}
+
+fn tasks() -> Vec<Task> {
+    let first = number_from("SEED").unwrap_or(0);
+    let times = number_from("LONG").unwrap_or(1);
+    let seeds = |kind: Kind| first..first + times * kind.scripts();
+    let of_kind = |kind| seeds(kind).map(move |seed| Task { kind, seed });
+    Kind::ALL.into_iter().flat_map(of_kind).collect()
+}
+
+fn number_from(name: &str) -> Option<u64> {
+    let text = env::var(name).ok()?;
+    Some(
+        text.parse()
+            .unwrap_or_else(|_| panic!("{name}={text} is no number")),
+    )
+}
+
+fn work(tasks: &[Task], next: &AtomicUsize, outcome: &Mutex<Outcome>) {
+    while let Some(task) = tasks.get(next.fetch_add(1, Ordering::Relaxed)) {
+        let script = generate::script(task.kind, task.seed);
+        let compared = compared(*task, &script);
+        let checked = booked(*task, &script);
+        let mut outcome = outcome.lock().unwrap();
+        *outcome
+            .scripts
+            .entry(format!("{:?}", task.kind))
+            .or_default() += 1;
+        outcome.failures.extend(compared);
+        note(&mut outcome, checked);
+        if outcome.failures.len() >= MOST_FAILURES {
+            return;
+        }
+    }
+}
+
+fn note(outcome: &mut Outcome, checked: Option<Result<books::Checked, String>>) {
+    match checked {
+        None => {}
+        Some(Err(failure)) => outcome.failures.push(failure),
+        Some(Ok(checked)) => {
+            outcome.books += 1;
+            outcome.reports += checked.reports;
+            outcome.named += checked.named;
+            outcome.ahead += checked.ahead;
+            outcome.settled += checked.settled;
+        }
+    }
+}
+
+/// The failure as a text that tells how to see it again.
+fn compared(task: Task, script: &[u8]) -> Option<String> {
+    compare::difference(script, reference, engine)?;
+    let fails = |script: &[u8]| compare::difference(script, reference, engine).is_some();
+    let shortest = compare::shortest(script, &fails);
+    let difference = compare::difference(&shortest, reference, engine)?;
+    Some(format!(
+        "{:?} seed {}: answer {} differs\nreference: {}engine:    {}script:\n{}",
+        task.kind,
+        task.seed,
+        difference.line,
+        String::from_utf8_lossy(&difference.reference),
+        String::from_utf8_lossy(&difference.engine),
+        String::from_utf8_lossy(&shortest),
+    ))
+}
+
+/// None where the claim does not speak of the script.
+fn booked(task: Task, script: &[u8]) -> Option<Result<books::Checked, String>> {
+    if !books::applies(script) {
+        return None;
+    }
+    let check = |script: &[u8]| books::check(script, &engine(script));
+    let full = books::with_reports(script);
+    Some(check(&full).map_err(|_| {
+        let fails = |script: &[u8]| books::applies(script) && check(script).is_err();
+        let shortest = compare::shortest(&full, &fails);
+        let what = check(&shortest).err().unwrap_or_default();
+        let text = String::from_utf8_lossy(&shortest);
+        format!(
+            "{:?} seed {}: books, answer {what}\nscript:\n{text}",
+            task.kind, task.seed
+        )
+    }))
+}
