@@ -1,6 +1,6 @@
 /*
  * For C and C++ callers: the detail check, link with libdetail.a; and a whole
- * evening of two engines, for measurements, link with libexchange.a. Each
+ * evening of two engines, for measurements, link with libentries.a. Each
  * library has its own call alone, and both may be linked into one program.
  */
 #ifndef LINE_H
@@ -113,7 +113,7 @@ typedef struct line_played {
 /*
  * Plays a session script, a text that names calls at the two ends A and B,
  * and writes a line of answer for each line that is not passed over, `bad
- * line` for one that cannot be read. Link with libscript.a.
+ * line` for one that cannot be read. Link with libentries.a.
  *
  * Both ends are without a session at first. The script's last line may lack
  * its line feed; the last answer has one. Any bytes may be passed.

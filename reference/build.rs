@@ -3,7 +3,7 @@
 use std::env;
 use std::path::{Path, PathBuf};
 
-const ARCHIVES: [&str; 3] = ["detail", "script", "exchange"];
+const ARCHIVES: [&str; 2] = ["detail", "entries"];
 
 fn main() {
     println!("cargo:rerun-if-env-changed=LINE_LIB");

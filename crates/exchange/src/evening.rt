@@ -157,9 +157,8 @@ fn trays_code(
     near
 }
 
-// The evening for C; or 25, where a tray is bad, with zeros beside it.
-#[no_mangle]
-pub extern "C" fn line_exchange<'a>(
+// A whole evening over the trays of two ends; or 25, where a tray is bad, with zeros beside it.
+pub fn exchange<'a>(
     near_presentations: &'a [u8],
     near_returns: &'a [u8],
     far_presentations: &'a [u8],

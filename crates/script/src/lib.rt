@@ -4,7 +4,6 @@
 // and the text of an answer they leave open.
 
 pub mod answer;
-pub mod entry;
 pub mod hex;
 pub mod number;
 pub mod play;

@@ -99,13 +99,21 @@ fn begun() -> Stream
     }
 }
 
+// One piece: what comes is heard and answered.
+fn turn(fd: i32, s: Stream, input: &mut [u8], output: &mut [u8], wire: &mut [u8]) -> Stream
+    requires { ⌜ Filled (length (now input)) s ⌝ }
+    ensures { λ r. ⌜ Filled (length (now (input .entry))) r ⌝ }
+{
+    let heard = listen(fd, s, input);
+    answer(heard, input, output, wire)
+}
+
 // A loop has to end, and nothing says that a script does: the turns are counted down from a number that no run uses up.
 fn run(fd: i32, input: &mut [u8], output: &mut [u8], wire: &mut [u8]) {
     let mut stream = begun();
     let mut turns = u64::MAX;
     while turns > 0 {
-        let heard = listen(fd, stream, input);
-        stream = answer(heard, input, output, wire);
+        stream = turn(fd, stream, input, output, wire);
         if stream.over {
             return;
         }

@@ -1,10 +1,14 @@
-// Scripts for C: a whole script in, its answers out. include/line.h says how it is called.
-use crate::play::Stop;
-use crate::play::play;
-use crate::player::fresh;
+// What C calls beside the detail check: a script is played, and an evening is run over the trays of two ends.
+// include/line.h says how each is called.
+use exchange::evening::exchange;
+use exchange::shown::Evening;
+use script::play::Stop;
+use script::play::play;
+use script::player::fresh;
 ghost use mathlib.Core.Path.{_≡_};
 ghost use Prim.Native.Nat.{_≤_};
 ghost use lib.ListN.{length, drop};
+ghost use Rattle.exchange.specs.Evening.{exchanged};
 
 // How many bytes of the script were played, how many bytes answer them, and why it stopped: 0 where all was played, 1 where
 // the answer to the next line does not fit.
@@ -41,4 +45,22 @@ pub extern "C" fn line_play_script(
         written: played.written as u64,
         stop: stop_number(stop),
     }
+}
+
+// Runs an evening of 0081 and 0072 over their trays.
+#[no_mangle]
+pub extern "C" fn line_exchange<'a>(
+    near_presentations: &'a [u8],
+    near_returns: &'a [u8],
+    far_presentations: &'a [u8],
+    far_returns: &'a [u8],
+) -> Evening
+    ensures { λ r. ⌜ r ≡ exchanged (now («near_presentations» .entry)) (now («near_returns» .entry)) (now («far_presentations» .entry)) (now («far_returns» .entry)) ⌝ }
+{
+    exchange(
+        near_presentations,
+        near_returns,
+        far_presentations,
+        far_returns,
+    )
 }

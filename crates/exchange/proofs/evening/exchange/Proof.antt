@@ -2,8 +2,8 @@
 use mathlib.Core.Path.{_∙_}
 use Rattle.exchange.proofs.Laws.Evening.{trays-good, ran, refused}
 use borrow.Author.Needs.{needs}
-use Rattle.exchange.proofs.evening.line_exchange.Statement.{statement}
-use Rattle.exchange.proofs.evening.line_exchange.Tie as tie
+use Rattle.exchange.proofs.evening.exchange.Statement.{statement}
+use Rattle.exchange.proofs.evening.exchange.Tie as tie
 
 trays-code-requires : tie.Need-trays-code-requires
 trays-code-requires c κs = search needs
@@ -29,8 +29,8 @@ returns-2 c =
     let a = c .before .before .before .before .before .before .before .before .args in
     refused (a .near-presentations .now) (a .near-returns .now) (a .far-presentations .now) (a .far-returns .now) _ (c .before .before .before .trays-code .ensures) (c .before .before .if1 .left) (c .before .no-side .ensures) (c .no-side2 .ensures)
 
-pub line-exchange-spec : {M : Type 1} → statement M
-line-exchange-spec =
+pub exchange-spec : {M : Type 1} → statement M
+exchange-spec =
     tie.close
     (tie.spec
     trays-code-requires
