@@ -1,7 +1,7 @@
 /*
- * For C and C++ callers: the detail check, link with libdetail.a; and a whole
- * evening of two engines, for measurements, link with libentries.a. Each
- * library has its own call alone, and both may be linked into one program.
+ * For C and C++ callers: the detail check, link with libdetail.a; a whole
+ * evening of two engines over trays, and scripts of evenings, link with
+ * libentries.a. Both libraries may be linked into one program.
  */
 #ifndef LINE_H
 #define LINE_H
@@ -123,10 +123,9 @@ typedef struct line_played {
  * starts anew and cannot go on from there: play again with a longer output.
  *
  * wire is where the messages and replies are remembered that later lines name
- * by their numbers. With 2,097,152 bytes all is remembered that a script may
- * name. With fewer, what does not fit is forgotten, and naming it is a bad
- * line. What lies in wire at first does not count, and what lies there
- * afterwards means nothing.
+ * by their numbers. It takes 2,097,152 bytes; with fewer nothing is
+ * remembered, and naming a number is a bad line. What lies in wire at first
+ * does not count, and what lies there afterwards means nothing.
  *
  * Lengths: each counts bytes, and any length up to PTRDIFF_MAX may be passed,
  * 0 too.
