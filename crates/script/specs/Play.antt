@@ -1,7 +1,7 @@
 -- What playing a line leaves.
 use Prim.Native.Nat.{ℕ, _+_, _^_, _≤_, _<_}
 use mathlib.Core.Path.{_≡_}
-use mathlib.Core.Bool.{Bool, cond}
+use mathlib.Core.Bool.{true, cond}
 use mathlib.Core.List.{List}
 use lib.ListN.{length, drop, replicate}
 use Rattle.script.specs.declared.player.Player.{Player}
@@ -13,10 +13,16 @@ use Rattle.script.specs.Player.{endsOf, played, ReadyPlayer}
 unfoldable pub filled : List ℕ
 filled = replicate 10412 238
 
+-- no answer is longer: 400 bytes of words, two characters for each byte of the longest message, and a line feed
+abbrev pub longestAnswer : ℕ
+longestAnswer = 21225
+
 -- A line was played: the two ends, each session with its running totals, are as the call that was read leaves them, or as they were where the
--- output has no room for the answer. Of the output only the answer is written. The text of the answer is left open.
+-- output has no room for the answer, which it has wherever the longest would fit. Of the output only the answer is written. The text of the
+-- answer is left open.
 pub record Done (player : Player) (bytes line before after : List ℕ) (r : LinePlayed) : Type 0 where
   pub ends : endsOf (r .player) ≡ cond (r .full) (endsOf player) (played (r .reading) bytes line (endsOf player))
+  pub full : r .full ≡ true → length before < longestAnswer
   pub written : r .written ≤ length before
   pub kept : drop (r .written) after ≡ drop (r .written) before
   pub ready : ReadyPlayer (r .player)

@@ -16,12 +16,12 @@ use crate::wire::next_number;
 use crate::wire::remember;
 use crate::word::find_byte;
 ghost use mathlib.Core.Path.{_≡_};
-ghost use mathlib.Core.List.{List};
-ghost use Prim.Native.Nat.{ℕ, _≤_, _<_};
+ghost use mathlib.Core.Bool.{true};
+ghost use Prim.Native.Nat.{_≤_, _<_};
 ghost use lib.ListN.{length, take, drop};
 ghost use Rattle.script.specs.Reading.{namedBy};
 ghost use Rattle.script.specs.Player.{seatOf, done, endsOf, seatAt, withSeat, ReadySeat, ReadyPlayer};
-ghost use Rattle.script.specs.Play.{filled, Done, Behind, CutWithin};
+ghost use Rattle.script.specs.Play.{filled, longestAnswer, Done, Behind, CutWithin};
 
 // The most bytes that stand in a line.
 const MOST_BYTES: usize = LONGEST_LINE / 2;
@@ -142,6 +142,7 @@ fn emit(output: &mut [u8], head: &[u8], line: &[u8], words: usize, written: usiz
     requires { ⌜ (written ≤ 10412) × (written ≤ length (now line)) ⌝ }
     ensures written { λ r. ⌜ r .count ≤ length (now (output .entry)) ⌝ }
     ensures kept { λ r. ⌜ drop (r .count) (now (output .exit)) ≡ drop (r .count) (now (output .entry)) ⌝ }
+    ensures full { λ r. ⌜ (r .full ≡ true → length (now (output .entry)) < longestAnswer) ⌝ }
 {
     if output.len() < answer_bytes(words, written) {
         return Emitted {

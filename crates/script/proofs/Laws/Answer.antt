@@ -40,3 +40,9 @@ all-behind words shown d e f end one two last h =
 -- an answer that fits, by lengths that are others
 pub fits : {w s w' s' n r : ℕ} → r ≡ answerBytes w s → w' ≡ w → s' ≡ s → r ≤ n → answerBytes w' s' ≤ n
 fits {n = n} e one two h = subst (λ (k : ℕ). k ≤ n) (e ∙ (λ i. answerBytes (sym one i) (sym two i))) h
+
+-- no answer is longer than its parts
+pub at-most : (w s : ℕ) → answerBytes w s ≤ w + 2 * s + 1
+unfolding answerBytes
+at-most zero s = omega arith
+at-most (suc w) s = omega arith

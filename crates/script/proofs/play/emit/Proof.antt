@@ -1,9 +1,10 @@
 -- An answer is written where it fits, and nothing else.
-use mathlib.Core.Path.{_≡_, sym, subst}
+use mathlib.Core.Path.{_≡_, refl, sym, subst}
 use Prim.Native.Nat.{ℕ, _≤_}
+use mathlib.Core.Bool.{false≢true}
 use lib.ListN.{length}
 use lib.Seq.{length-take-le}
-use Rattle.script.proofs.Laws.Answer.{fits}
+use Rattle.script.proofs.Laws.Answer.{at-most, fits}
 use borrow.Author.Needs.{needs}
 use native.Mathlib.Omega.{arith}
 use Rattle.script.proofs.play.emit.Statement.{statement}
@@ -13,7 +14,9 @@ answer-bytes-requires : tie.Need-answer-bytes-requires
 answer-bytes-requires c κs = search needs
 
 returns : tie.Need-returns
-returns c = search needs
+returns c =
+    let s = c .before .before .before .before .before in
+    (search needs, (refl, λ e. omega (arith, c .if1 .taken, c .before .answer-bytes .ensures, at-most (s .args .words) (s .args .written), s .pre .0 .0, s .pre .1 .0)))
 
 slice-aggregate-write-answer : tie.Need-slice-aggregate-write-answer
 slice-aggregate-write-answer c = sym (length-take-le _ _ (c .before .before .before .before .before .before .before .pre .0 .1))
@@ -35,7 +38,7 @@ returns-2 c =
     let said = c .before .before .write-answer .ensures in (
       subst (λ (n : ℕ). n ≤ length (s .args .output .now)) (sym (said .0))
           (fits (c .before .before .before .before .before .before .before .answer-bytes .ensures) (length-take-le (s .args .words) (s .args .head .now) (s .pre .0 .1)) (length-take-le (s .args .written) (s .args .line .now) (s .pre .1 .1)) (omega (arith, c .before .before .before .before .before .before .if1 .left))),
-      said .1,
+      (said .1, λ e. absurd (false≢true e)),
     )
 
 pub emit-spec : {M : Type 1} → statement M

@@ -1,5 +1,6 @@
 -- Without room for the answer nothing is done; else the end that is meant is as the line leaves it.
 use mathlib.Core.Path.{_≡_, refl, ap, sym, _∙_}
+use mathlib.Core.Bool.{false≢true}
 use lib.Seq.{length-take-le}
 use Rattle.script.specs.Reading.{namedBy}
 use Rattle.script.specs.Player.{Seated, seatOf, endsOf, done, withSeat}
@@ -37,8 +38,16 @@ same-length-2 c = search needs
 
 returns : tie.Need-returns
 returns c =
-    let said = c .before .before .before .emit .ensures in
-    (record { ends = refl; written = said .0; kept = said .1; ready = c .before .before .before .before .before .before .before .before .before .before .before .before .before .before .before .before .before .before .before .before .before .pre .0 }, refl)
+    let said = c .before .before .before .emit .ensures in (
+      record {
+        ends = refl;
+        full = λ e. said .1 .1 (c .if1 .taken);
+        written = said .0;
+        kept = said .1 .0;
+        ready = c .before .before .before .before .before .before .before .before .before .before .before .before .before .before .before .before .before .before .before .before .before .pre .0;
+      },
+      refl,
+    )
 
 slice-reshare-prefix-after-writing : tie.Need-slice-reshare-prefix-after-writing
 slice-reshare-prefix-after-writing c = search needs
@@ -74,8 +83,9 @@ returns-2 c =
     let kept = c .with-seat .ensures in (
       record {
         ends = kept .0 ∙ ap (λ (x : Seated). withSeat near x ends) (after ∙ ap (λ (x : Seated). done (namedBy (s .args .reading .asked) (s .args .reading) (s .args .bytes .now)) (s .args .line .now) x) there);
+        full = λ e. absurd (false≢true e);
         written = said .0;
-        kept = said .1;
+        kept = said .1 .0;
         ready = kept .1;
       },
       refl,
