@@ -1,7 +1,9 @@
-// Runs the cases of 01 that have no star, clock calls at the edges of the hours, and a message that is received with lent
-// running totals. Each line tells the call, its number in two digits, and how the session stands or which code the reply has.
+// Runs the cases of 01 that have no star, clock calls at the edges of the hours; a message that is received with lent running
+// totals; and what messages do to running totals, which no script shows. Each line tells the call, its number in two digits,
+// and how the session stands or which code the reply has.
 use calls::answer::answer_number;
 use centre::call::clock_call;
+use centre::call::receive_call;
 use centre::end::Centre;
 use centre::end::begun;
 use lent::example::receive_with_local;
@@ -108,6 +110,181 @@ fn receive_case(time: u32) {
     print_code(reply[15]);
 }
 
+// The detail of 01's example, behind it.
+const DETAIL: [u8; 67] = [
+    0x01,
+    0x14,
+    0x03,
+    0x28,
+    0x00,
+    0x81,
+    0x00,
+    0x72,
+    0x00,
+    0x00,
+    0x00,
+    0x02,
+    0x00,
+    0x51,
+    0x30,
+    0x01,
+    0x00,
+    0x00,
+    0x00,
+    0x00,
+    0x01,
+    0x00,
+    0x00,
+    0x02,
+    0x43,
+    0x41,
+    0x57,
+    0x14,
+    0x03,
+    0x00,
+    0x81,
+    0x01,
+    0x10,
+    0x28,
+    0x00,
+    0x72,
+    0x08,
+    0x00,
+    0x81,
+    0x01,
+    0x10,
+    0x00,
+    0x00,
+    0x00,
+    0x01,
+    0x50,
+    0x00,
+    0x00,
+    0x72,
+    0x01,
+    0x10,
+    0x00,
+    0x00,
+    0x12,
+    0x34,
+    0x56,
+    0x01,
+    0x00,
+    0x01,
+    0x00,
+    0x00,
+    0x00,
+    0x30,
+    0x00,
+    0x00,
+    0x00,
+    0x00,
+];
+
+// The total of lot 7.
+const TOTAL: [u8; 34] = [
+    0x01,
+    0x14,
+    0x03,
+    0x28,
+    0x00,
+    0x81,
+    0x00,
+    0x72,
+    0x00,
+    0x00,
+    0x00,
+    0x03,
+    0x00,
+    0x51,
+    0x80,
+    0x00,
+    0x07,
+    0x00,
+    0x00,
+    0x01,
+    0x00,
+    0x00,
+    0x00,
+    0x00,
+    0x00,
+    0x01,
+    0x50,
+    0x00,
+    0x00,
+    0x00,
+    0x00,
+    0x00,
+    0x00,
+    0x30,
+];
+
+// The same totals, stated of lot 8.
+const OTHER_TOTAL: [u8; 34] = [
+    0x01,
+    0x14,
+    0x03,
+    0x28,
+    0x00,
+    0x81,
+    0x00,
+    0x72,
+    0x00,
+    0x00,
+    0x00,
+    0x03,
+    0x00,
+    0x51,
+    0x80,
+    0x00,
+    0x08,
+    0x00,
+    0x00,
+    0x01,
+    0x00,
+    0x00,
+    0x00,
+    0x00,
+    0x00,
+    0x01,
+    0x50,
+    0x00,
+    0x00,
+    0x00,
+    0x00,
+    0x00,
+    0x00,
+    0x30,
+];
+
+// Receives a message, and prints the running totals that it leaves.
+fn heard(c: Centre, message: &[u8]) -> Centre
+    requires { ⌜ Ready (engineOf c) ⌝ }
+    ensures { λ r. ⌜ Ready (engineOf r) ⌝ }
+{
+    let mut reply = [0u8; 16];
+    let turn = receive_call(c, 75_600, message, &mut reply);
+    let next = turn.centre;
+    let running = next.receiving;
+    print_text(b"running: ");
+    io::print_decimal(1, running.documents.0);
+    print_text(b" ");
+    io::print_decimal(1, running.nominal.0);
+    print_text(b" ");
+    io::print_decimal(1, running.commission.0);
+    print_text(b", code ");
+    print_code(reply[15]);
+    next
+}
+
+// Running totals are those of the open lot: a lot total that is accepted moves them, and one that is not drops them.
+fn running_case() {
+    let opened = heard(started(), &HEADER);
+    let gathered = heard(opened, &DETAIL);
+    heard(gathered, &TOTAL);
+    heard(gathered, &OTHER_TOTAL);
+}
+
 fn main() {
     clock_case(0);
     clock_case(84_599);
@@ -117,4 +294,5 @@ fn main() {
     receive_case(83_699);
     receive_case(83_700);
     receive_case(84_600);
+    running_case();
 }
