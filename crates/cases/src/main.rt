@@ -219,43 +219,8 @@ const TOTAL: [u8; 34] = [
     0x30,
 ];
 
-// The same totals, stated of lot 8.
-const OTHER_TOTAL: [u8; 34] = [
-    0x01,
-    0x14,
-    0x03,
-    0x28,
-    0x00,
-    0x81,
-    0x00,
-    0x72,
-    0x00,
-    0x00,
-    0x00,
-    0x03,
-    0x00,
-    0x51,
-    0x80,
-    0x00,
-    0x08,
-    0x00,
-    0x00,
-    0x01,
-    0x00,
-    0x00,
-    0x00,
-    0x00,
-    0x00,
-    0x01,
-    0x50,
-    0x00,
-    0x00,
-    0x00,
-    0x00,
-    0x00,
-    0x00,
-    0x30,
-];
+// Where the last two digits of the lot's number stand in it.
+const LOT: usize = 16;
 
 // Receives a message, and prints the running totals that it leaves.
 fn heard(c: Centre, message: &[u8]) -> Centre
@@ -282,7 +247,9 @@ fn running_case() {
     let opened = heard(started(), &HEADER);
     let gathered = heard(opened, &DETAIL);
     heard(gathered, &TOTAL);
-    heard(gathered, &OTHER_TOTAL);
+    let mut other = TOTAL;
+    other[LOT] = 0x08;
+    heard(gathered, &other);
 }
 
 fn main() {
