@@ -1,5 +1,5 @@
 -- 01, 'Centres and directions': documents, nominal and commission together.
-use Prim.Native.Nat.{ℕ, _+_, _^_, _<_}
+use Prim.Native.Nat.{ℕ, _+_}
 use mathlib.Core.Bool.{Bool, _&&_}
 use lib.Dec.{eqb}
 use Rattle.amounts.specs.declared.Totals.{Totals}
@@ -19,9 +19,3 @@ plus a b = totals (a .documents .0 + b .documents .0) (a .nominal .0 + b .nomina
 -- whether all three are equal, as 01's 04 and 08 compare them
 abbrev pub same : Totals → Totals → Bool
 same a b = eqb (a .documents .0) (b .documents .0) && eqb (a .nominal .0) (b .nominal .0) && eqb (a .commission .0) (b .commission .0)
-
--- the three sums fit their counters
-pub record SumFits (a b : Totals) : Type 0 where
-  pub documents : a .documents .0 + b .documents .0 < 2 ^ 64
-  pub nominal : a .nominal .0 + b .nominal .0 < 2 ^ 64
-  pub commission : a .commission .0 + b .commission .0 < 2 ^ 64

@@ -3,7 +3,8 @@ use crate::Commission;
 use crate::Nominal;
 ghost use mathlib.Core.Path.{_≡_};
 ghost use lib.IntN.{natAbs};
-ghost use Rattle.amounts.specs.Difference.{difference, DifferenceFits};
+ghost use Rattle.amounts.specs.Difference.{difference};
+ghost use Rattle.amounts.specs.Inner.Fits.{DifferenceFits};
 
 // The first less the second, whatever the two count.
 fn difference(a: u64, b: u64) -> i64

@@ -2,7 +2,8 @@
 // directions'). Each has its own type, so that the compiler refuses one where another is due. What the words mean stands
 // in specs/.
 ghost use mathlib.Core.Path.{_≡_};
-ghost use Rattle.amounts.specs.Totals.{zeros, plus, same, SumFits};
+ghost use Rattle.amounts.specs.Totals.{zeros, plus, same};
+ghost use Rattle.amounts.specs.Inner.Fits.{SumFits};
 
 pub mod difference;
 

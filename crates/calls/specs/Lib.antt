@@ -1,4 +1,3 @@
--- What the answers say, what is told of what arrives, and what the code that moves counters asks.
+-- How the answers of a call are said.
 pub mod Said
-pub mod Arrival
-pub mod Course
+pub mod Inner

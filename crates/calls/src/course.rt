@@ -10,7 +10,7 @@ use session::effect::Effect;
 ghost use mathlib.Core.Path.{_≡_};
 ghost use Rattle.session.specs.Running.{empty};
 ghost use Rattle.session.specs.Course.{course, reopened, advance, ends};
-ghost use Rattle.calls.specs.Course.{Countable};
+ghost use Rattle.calls.specs.Inner.Course.{Countable};
 
 // No documents beside these counters, with this lot open, or none.
 fn reopened(lot: OpenLot, counters: Counters) -> Course

@@ -10,7 +10,7 @@ use session::report::Report;
 use session::report::Tally;
 use session::session::Session;
 ghost use mathlib.Core.Path.{_≡_};
-ghost use Rattle.amounts.specs.Difference.{DifferenceFits};
+ghost use Rattle.amounts.specs.Inner.Fits.{DifferenceFits};
 ghost use Rattle.session.specs.Report.{tally, awaited, positions, report};
 ghost use Rattle.session.specs.Premise.{Sound};
 

@@ -59,47 +59,13 @@ fn clock_case(time: u32) {
     print_close(close);
 }
 
-// A header of lot 7, as 0081 sends it: envelope and body.
-const HEADER: [u8; 31] = [
-    0x01,
-    0x14,
-    0x03,
-    0x28,
-    0x00,
-    0x81,
-    0x00,
-    0x72,
-    0x00,
-    0x00,
-    0x00,
-    0x01,
-    0x00,
-    0x51,
-    0x01,
-    0x21,
-    0x00,
-    0x00,
-    0x00,
-    0x14,
-    0x03,
-    0x28,
-    0x00,
-    0x81,
-    0x00,
-    0x72,
-    0x00,
-    0x01,
-    0x00,
-    0x07,
-    0x00,
-];
-
-fn receive_case(time: u32) {
+// A message as the first of a session, with lent running totals.
+fn receive_case(time: u32, message: &[u8]) {
     let centre = started();
     let session = centre.session;
     let running = centre.receiving;
     let mut reply = [0u8; 16];
-    let outcome = receive_with_local(session, running, time, &HEADER, &mut reply);
+    let outcome = receive_with_local(session, running, time, message, &mut reply);
     let received = outcome.received;
     let answer = received.answer;
     print_text(b"receive ");
@@ -109,118 +75,6 @@ fn receive_case(time: u32) {
     print_text(b", code ");
     print_code(reply[15]);
 }
-
-// The detail of 01's example, behind it.
-const DETAIL: [u8; 67] = [
-    0x01,
-    0x14,
-    0x03,
-    0x28,
-    0x00,
-    0x81,
-    0x00,
-    0x72,
-    0x00,
-    0x00,
-    0x00,
-    0x02,
-    0x00,
-    0x51,
-    0x30,
-    0x01,
-    0x00,
-    0x00,
-    0x00,
-    0x00,
-    0x01,
-    0x00,
-    0x00,
-    0x02,
-    0x43,
-    0x41,
-    0x57,
-    0x14,
-    0x03,
-    0x00,
-    0x81,
-    0x01,
-    0x10,
-    0x28,
-    0x00,
-    0x72,
-    0x08,
-    0x00,
-    0x81,
-    0x01,
-    0x10,
-    0x00,
-    0x00,
-    0x00,
-    0x01,
-    0x50,
-    0x00,
-    0x00,
-    0x72,
-    0x01,
-    0x10,
-    0x00,
-    0x00,
-    0x12,
-    0x34,
-    0x56,
-    0x01,
-    0x00,
-    0x01,
-    0x00,
-    0x00,
-    0x00,
-    0x30,
-    0x00,
-    0x00,
-    0x00,
-    0x00,
-];
-
-// The total of lot 7.
-const TOTAL: [u8; 34] = [
-    0x01,
-    0x14,
-    0x03,
-    0x28,
-    0x00,
-    0x81,
-    0x00,
-    0x72,
-    0x00,
-    0x00,
-    0x00,
-    0x03,
-    0x00,
-    0x51,
-    0x80,
-    0x00,
-    0x07,
-    0x00,
-    0x00,
-    0x01,
-    0x00,
-    0x00,
-    0x00,
-    0x00,
-    0x00,
-    0x01,
-    0x50,
-    0x00,
-    0x00,
-    0x00,
-    0x00,
-    0x00,
-    0x00,
-    0x30,
-];
-
-// Where the last two digits of the lot's number stand in it.
-const LOT: usize = 16;
 
 // Receives a message, and prints the running totals that it leaves.
 fn heard(c: Centre, message: &[u8]) -> Centre
@@ -242,14 +96,22 @@ fn heard(c: Centre, message: &[u8]) -> Centre
     next
 }
 
-// Running totals are those of the open lot: a lot total that is accepted moves them, and one that is not drops them.
-fn running_case() {
-    let opened = heard(started(), &HEADER);
-    let gathered = heard(opened, &DETAIL);
-    heard(gathered, &TOTAL);
-    let mut other = TOTAL;
-    other[LOT] = 0x08;
-    heard(gathered, &other);
+// Running totals are those of the open lot, behind its header: 01's example adds to them, a lot total that is accepted moves
+// them, and one of another lot, 8, drops them.
+fn running_case(header: &[u8]) {
+    let opened = heard(started(), header);
+    let gathered = heard(
+        opened,
+        b"\x01\x14\x03\x28\x00\x81\x00\x72\x00\x00\x00\x02\x00\x51\x30\x01\x00\x00\x00\x00\x01\x00\x00\x02\x43\x41\x57\x14\x03\x00\x81\x01\x10\x28\x00\x72\x08\x00\x81\x01\x10\x00\x00\x00\x01\x50\x00\x00\x72\x01\x10\x00\x00\x12\x34\x56\x01\x00\x01\x00\x00\x00\x30\x00\x00\x00\x00",
+    );
+    heard(
+        gathered,
+        b"\x01\x14\x03\x28\x00\x81\x00\x72\x00\x00\x00\x03\x00\x51\x80\x00\x07\x00\x00\x01\x00\x00\x00\x00\x00\x01\x50\x00\x00\x00\x00\x00\x00\x30",
+    );
+    heard(
+        gathered,
+        b"\x01\x14\x03\x28\x00\x81\x00\x72\x00\x00\x00\x03\x00\x51\x80\x00\x08\x00\x00\x01\x00\x00\x00\x00\x00\x01\x50\x00\x00\x00\x00\x00\x00\x30",
+    );
 }
 
 fn main() {
@@ -258,8 +120,11 @@ fn main() {
     clock_case(84_600);
     clock_case(86_399);
     clock_case(86_400);
-    receive_case(83_699);
-    receive_case(83_700);
-    receive_case(84_600);
-    running_case();
+    // The header of lot 7 as 0081 sends it, envelope and body.
+    let header =
+        b"\x01\x14\x03\x28\x00\x81\x00\x72\x00\x00\x00\x01\x00\x51\x01\x21\x00\x00\x00\x14\x03\x28\x00\x81\x00\x72\x00\x01\x00\x07\x00";
+    receive_case(83_699, header);
+    receive_case(83_700, header);
+    receive_case(84_600, header);
+    running_case(header);
 }

@@ -69,12 +69,9 @@ unfoldable pub earning : (code : ℕ) → List Field → List Field
 earning code [] = []
 earning code (f ∷ fs) = cond (eqb (f .code) code) (f ∷ earning code fs) (earning code fs)
 
--- all of them good; and, for a reader that tests digits apart, all of a value that they take
+-- all of them good
 abbrev pub tableGood : (first code : ℕ) → List Field → List ℕ → Bool
 tableGood first code fields s = every (fieldGood first s) (earning code fields)
-
-abbrev pub tableValues : (first code : ℕ) → List Field → List ℕ → Bool
-tableValues first code fields s = every (fieldValue first s) (earning code fields)
 
 -- the numbers of all rows, in order
 abbrev pub tableNumbers : (first : ℕ) → List Field → List ℕ → List ℕ

@@ -5,3 +5,4 @@ pub mod Refusal
 pub mod Chain
 pub mod Body
 pub mod Field
+pub mod Inner

@@ -40,10 +40,6 @@ presenterCode operation partner part =
     orelse 1 when not (every (fieldsGood (packedByte operation) partner) (pieces documentBytes part))
     orelse 3 when not (every (amountsGood (packedByte operation) partner) (pieces documentBytes part))
 
--- the end of the chain, for a reader that has tested all documents at once
-abbrev pub judged : (fields amounts served : Bool) → ℕ
-judged fields amounts served = 1 when not fields orelse 3 when not amounts orelse 6 when not served
-
 -- the totals where a code accepts, else none
 abbrev pub ifAccepted : (code : ℕ) → Totals → Totals
 ifAccepted code t = cond (eqb code 0) t zeros

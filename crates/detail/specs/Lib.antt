@@ -4,3 +4,4 @@ pub mod Groups
 pub mod Codes
 pub mod Writing
 pub mod Checked
+pub mod Inner

@@ -1,6 +1,6 @@
 -- 01, 'Detail': the limits of a body and its groups.
 use Prim.Native.Nat.{ℕ, _+_, _*_}
-use Rattle.document.specs.Limits.{documentBytes, mostDocuments}
+use Rattle.document.specs.Limits.{documentBytes}
 
 -- free byte, mark, operation and count
 abbrev pub headBytes : ℕ
@@ -19,7 +19,3 @@ fillBytes = fullCount * documentBytes
 
 abbrev pub groupBytes : ℕ
 groupBytes = headBytes + fillBytes
-
--- the bytes of the most documents of a body
-abbrev pub longestPart : ℕ
-longestPart = mostDocuments * documentBytes

@@ -12,8 +12,8 @@ ghost use lib.ListN.{length};
 ghost use Rattle.packed.specs.Every.{every};
 ghost use Rattle.packed.specs.Pieces.{pieces};
 ghost use Rattle.document.specs.Limits.{documentBytes};
-ghost use Rattle.document.specs.Amounts.{Within};
-ghost use Rattle.document.specs.Found.{foundIn};
+ghost use Rattle.document.specs.Inner.Bounds.{Within};
+ghost use Rattle.document.specs.Inner.Found.{foundIn};
 ghost use Rattle.codes.specs.Body.{longestBody};
 ghost use Rattle.detail.specs.Groups.{groupGood, groups, documents};
 

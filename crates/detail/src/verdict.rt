@@ -4,7 +4,8 @@ use codes::reply::Code;
 ghost use mathlib.Core.Path.{_≡_};
 ghost use Rattle.amounts.specs.Totals.{zeros};
 ghost use Rattle.codes.specs.Reply.{codeNumber};
-ghost use Rattle.detail.specs.Codes.{judged, ifAccepted};
+ghost use Rattle.detail.specs.Inner.Verdict.{judged};
+ghost use Rattle.detail.specs.Codes.{ifAccepted};
 
 pub struct Verdict {
     pub code: Code,

@@ -11,7 +11,8 @@ ghost use Prim.Native.Nat.{ℕ, _+_, _*_, _≤_};
 ghost use lib.ListN.{length};
 ghost use lib.Seq.{sets};
 ghost use Rattle.codes.specs.Body.{longestBody};
-ghost use Rattle.detail.specs.Limits.{headBytes, fillBytes, longestPart};
+ghost use Rattle.detail.specs.Limits.{headBytes, fillBytes};
+ghost use Rattle.detail.specs.Inner.Part.{longestPart};
 ghost use Rattle.detail.specs.Writing.{writtenGroup, written};
 
 // The bytes of a full group's documents.

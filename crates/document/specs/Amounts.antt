@@ -1,5 +1,5 @@
 -- 01, 'Detail': what documents are worth, and the commission on them.
-use Prim.Native.Nat.{ℕ, _*_, _^_, _≤_}
+use Prim.Native.Nat.{ℕ}
 use mathlib.Core.List.{List, [], _∷_}
 use Rattle.codes.specs.Field.{fieldNumber}
 use Rattle.amounts.specs.declared.Totals.{Totals}
@@ -19,9 +19,3 @@ documentTotals d = totals 1 (nominal d) (commission d)
 unfoldable pub totalsOf : List (List ℕ) → Totals
 totalsOf [] = zeros
 totalsOf (d ∷ ds) = plus (documentTotals d) (totalsOf ds)
-
--- totals that n documents of any bytes cannot pass: a nominal and a commission stay below twice what digits reach
-pub record Within (n : ℕ) (t : Totals) : Type 0 where
-  pub documents : t .documents .0 ≤ n
-  pub nominal : t .nominal .0 ≤ n * (2 * 100 ^ 6)
-  pub commission : t .commission .0 ≤ n * (2 * 100 ^ 4)

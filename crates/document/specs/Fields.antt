@@ -2,7 +2,7 @@
 use Prim.Native.Nat.{ℕ}
 use mathlib.Core.Bool.{Bool}
 use mathlib.Core.List.{List, [], _∷_}
-use Rattle.codes.specs.Field.{Field, field, amount, unread, any, exactly, tableValues, tableGood}
+use Rattle.codes.specs.Field.{Field, field, amount, unread, any, exactly, tableGood}
 use Rattle.codes.specs.Reply.{codeNumber}
 use Rattle.codes.specs.declared.reply.Code.{Code}
 use Rattle.document.specs.Rules.{identification, dayAndMonth, province, truncation, keyOrReason}
@@ -47,10 +47,6 @@ documentFields operation receiving =
 -- no fault that earns 01
 unfoldable pub fieldsGood : (operation receiving : ℕ) → List ℕ → Bool
 fieldsGood operation receiving d = tableGood firstPosition (codeNumber Code.WrongField) (documentFields operation receiving) d
-
--- of the same fields the values alone, as a reader needs it that tests digits apart
-unfoldable pub valuesGood : (operation receiving : ℕ) → List ℕ → Bool
-valuesGood operation receiving d = tableValues firstPosition (codeNumber Code.WrongField) (documentFields operation receiving) d
 
 -- no fault that earns 03
 unfoldable pub amountsGood : (operation receiving : ℕ) → List ℕ → Bool

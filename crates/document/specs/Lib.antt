@@ -6,4 +6,4 @@ pub mod Fields
 pub mod Entities
 pub mod Drawee
 pub mod Amounts
-pub mod Found
+pub mod Inner

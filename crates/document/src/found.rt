@@ -13,10 +13,10 @@ use amounts::Totals;
 use packed::number::number;
 ghost use mathlib.Core.Path.{_≡_};
 ghost use lib.ListN.{length};
-ghost use Rattle.amounts.specs.Totals.{SumFits};
+ghost use Rattle.amounts.specs.Inner.Fits.{SumFits};
 ghost use Rattle.document.specs.Limits.{documentBytes};
-ghost use Rattle.document.specs.Amounts.{Within};
-ghost use Rattle.document.specs.Found.{found, nothing, join};
+ghost use Rattle.document.specs.Inner.Bounds.{Within};
+ghost use Rattle.document.specs.Inner.Found.{found, nothing, join};
 
 pub struct Found {
     pub fields: bool,

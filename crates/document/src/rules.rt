@@ -5,7 +5,7 @@ use packed::number::number2;
 ghost use mathlib.Core.Path.{_≡_};
 ghost use lib.ListN.{length};
 ghost use Rattle.document.specs.Limits.{documentBytes};
-ghost use Rattle.document.specs.Fields.{valuesGood};
+ghost use Rattle.document.specs.Inner.Values.{valuesGood};
 ghost use Rattle.document.specs.Rules.{identification, dayAndMonth, province, truncation, keyOrReason};
 
 fn identification(v: u16) -> bool

@@ -13,7 +13,7 @@ use Rattle.centre.specs.Turn.{engineOf}
 use Rattle.exchange.specs.declared.cursors.Cursors.{Cursors}
 use Rattle.exchange.specs.declared.progress.Progress.{Progress}
 use Rattle.exchange.specs.declared.round.Round.{Round}
-use Rattle.exchange.specs.Cursors.{unmoved, within, part, documentsOf, operationOf, moved, same}
+use Rattle.exchange.specs.Cursors.{unmoved, within, partAt, documentsOf, nextOperation, moved, same}
 use Rattle.exchange.specs.Fixed.{moment, office, lotParts}
 use Rattle.exchange.specs.Round.{Rounded, rounded, BothReady}
 
@@ -59,7 +59,7 @@ pastPart presentations documents before after c = cond (eqb after before) c (mov
 -- a part goes as a detail
 unfoldable pub partSent : (presentations part : List ℕ) → Standing → Standing
 partSent presentations bytes s =
-    let ends = roundMade (Call.detail opening (operationOf presentations (s .cursors)) bytes) (s .ends) in
+    let ends = roundMade (Call.detail opening (nextOperation presentations (s .cursors)) bytes) (s .ends) in
     record { ends = ends; cursors = pastPart presentations (documentsOf bytes) (counted (s .ends)) (counted ends) (s .cursors) }
 
 -- it does if there is one and the open lot has room for it
@@ -67,7 +67,7 @@ abbrev pub ifRoom : (presentations part : List ℕ) → Standing → Standing
 ifRoom presentations bytes s = cond (eqb (documentsOf bytes) 0 || passesLot (counted (s .ends) + documentsOf bytes)) s (partSent presentations bytes s)
 
 unfoldable pub detailSent : (presentations returns : List ℕ) → Standing → Standing
-detailSent presentations returns s = ifRoom presentations (part presentations returns (s .cursors)) s
+detailSent presentations returns s = ifRoom presentations (partAt presentations returns (s .cursors)) s
 
 -- numbered steps, until one moves no cursor, and at most so many
 unfoldable pub whileMoving : (most : ℕ) (step : ℕ → Standing → Standing) (number : ℕ) → Standing → Standing
@@ -82,16 +82,16 @@ unfoldable pub filled : (presentations returns : List ℕ) → Standing → Stan
 filled presentations returns s = whileMoving lotParts (nextPart presentations returns) 0 s
 
 -- a round that moves no cursor
-abbrev pub between : Call → Standing → Standing
-between call s = record { ends = roundMade call (s .ends); cursors = s .cursors }
+abbrev pub roundBetween : Call → Standing → Standing
+roundBetween call s = record { ends = roundMade call (s .ends); cursors = s .cursors }
 
 -- header, parts and total
 abbrev pub wholeLot : (number : ℕ) (presentations returns : List ℕ) → Standing → Standing
-wholeLot number presentations returns s = between (Call.lotTotal opening) (filled presentations returns (between (Call.header opening moment office number) s))
+wholeLot number presentations returns s = roundBetween (Call.lotTotal opening) (filled presentations returns (roundBetween (Call.header opening moment office number) s))
 
 -- a lot, if documents remain
 unfoldable pub lotMade : (presentations returns : List ℕ) (number : ℕ) → Standing → Standing
-lotMade presentations returns number s = cond (eqb (length (part presentations returns (s .cursors))) 0) s (wholeLot number presentations returns s)
+lotMade presentations returns number s = cond (eqb (length (partAt presentations returns (s .cursors))) 0) s (wholeLot number presentations returns s)
 
 -- the lots of a direction, numbered from 1
 unfoldable pub lotsMade : (presentations returns : List ℕ) → Standing → Standing

@@ -18,8 +18,8 @@ abbrev pub within : (presentations returns : List ℕ) → Cursors → Bool
 within presentations returns c = bothGood presentations returns (c .presentations) (c .returns)
 
 -- the next part, and how many documents it has
-abbrev pub part : (presentations returns : List ℕ) → Cursors → List ℕ
-part presentations returns c = next presentations returns (c .presentations) (c .returns)
+abbrev pub partAt : (presentations returns : List ℕ) → Cursors → List ℕ
+partAt presentations returns c = next presentations returns (c .presentations) (c .returns)
 
 abbrev pub documentsOf : List ℕ → ℕ
 documentsOf bytes = length bytes / documentBytes
@@ -28,8 +28,8 @@ documentsOf bytes = length bytes / documentBytes
 abbrev pub presenting : (presentations : List ℕ) → Cursors → Bool
 presenting presentations c = ltb (c .presentations) (count presentations)
 
-abbrev pub operationOf : (presentations : List ℕ) → Cursors → ℕ
-operationOf presentations c = cond (presenting presentations c) presentedNumber returnedNumber
+abbrev pub nextOperation : (presentations : List ℕ) → Cursors → ℕ
+nextOperation presentations c = cond (presenting presentations c) presentedNumber returnedNumber
 
 -- the cursor of its tray is moved past so many documents
 abbrev pub moved : (presentations : List ℕ) (documents : ℕ) → Cursors → Cursors

@@ -17,7 +17,7 @@ use Rattle.centre.specs.Turn.{turned}
 use Rattle.exchange.specs.declared.shown.Sums.{Sums}
 use Rattle.exchange.specs.declared.shown.Side.{Side}
 use Rattle.exchange.specs.declared.shown.Evening.{Evening}
-use Rattle.exchange.specs.Fixed.{date, near, far, messageBytes, replyBytes}
+use Rattle.exchange.specs.Fixed.{date, near, far, messageRoom, replyRoom}
 use Rattle.exchange.specs.Course.{Ends, bothDirections}
 
 -- a report in plain numbers; the close is 0 for open, 1 for in order, 2 for forced
@@ -48,7 +48,7 @@ startedEnd own partner = withEmpty (start date own partner [] .session)
 
 -- both ends at the beginning, the near one to present first, and line buffers of zeros
 unfoldable pub beginning : Ends
-beginning = record { presenter = startedEnd near far; receiver = startedEnd far near; message = replicate messageBytes 0; reply = replicate replyBytes 0 }
+beginning = record { presenter = startedEnd near far; receiver = startedEnd far near; message = replicate messageRoom 0; reply = replicate replyRoom 0 }
 
 -- after both directions the far end is the one that has presented
 abbrev pub shownOf : Ends → Evening

@@ -1,5 +1,9 @@
 -- What is fixed of an evening that this driver runs.
-use Prim.Native.Nat.{ℕ}
+use Prim.Native.Nat.{ℕ, suc, _+_, _/_}
+use Rattle.codes.specs.Body.{longestBody}
+use Rattle.document.specs.Limits.{mostDocuments}
+use Rattle.message.specs.Limits.{envelopeBytes, replyBytes}
+use Rattle.session.specs.Limits.{lotDocuments}
 
 -- 14 March 2028, and the two entities
 abbrev pub date : ℕ
@@ -18,13 +22,13 @@ moment = 21000000
 abbrev pub office : ℕ
 office = 1
 
--- the most parts of a lot
+-- the most parts of a lot: as many as fill it, and one more, since the last part of the presentations can be shorter
 abbrev pub lotParts : ℕ
-lotParts = 14
+lotParts = suc (lotDocuments / mostDocuments)
 
--- the longest message and every reply, envelopes included
-abbrev pub messageBytes : ℕ
-messageBytes = 10412
+-- room for the longest message and for every reply, envelopes included
+abbrev pub messageRoom : ℕ
+messageRoom = envelopeBytes + longestBody
 
-abbrev pub replyBytes : ℕ
-replyBytes = 16
+abbrev pub replyRoom : ℕ
+replyRoom = envelopeBytes + replyBytes

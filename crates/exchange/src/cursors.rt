@@ -4,7 +4,7 @@ use document::PRESENTED_NUMBER;
 use document::RETURNED_NUMBER;
 ghost use mathlib.Core.Path.{_≡_};
 ghost use mathlib.Core.Bool.{true};
-ghost use Rattle.exchange.specs.Cursors.{presenting, operationOf, moved, same, within};
+ghost use Rattle.exchange.specs.Cursors.{presenting, nextOperation, moved, same, within};
 
 pub struct Cursors {
     pub presentations: usize,
@@ -20,7 +20,7 @@ fn presenting(presentations: &[u8], cursors: Cursors) -> bool
 
 // The operation of the next part: 30, or 40 once the presentations are used up.
 pub fn operation(presentations: &[u8], cursors: Cursors) -> u8
-    ensures { λ r. ⌜ r ≡ operationOf (now (presentations .entry)) cursors ⌝ }
+    ensures { λ r. ⌜ r ≡ nextOperation (now (presentations .entry)) cursors ⌝ }
 {
     if presenting(presentations, cursors) {
         return PRESENTED_NUMBER;

@@ -6,6 +6,7 @@ use crate::progress::Progress;
 use crate::progress::one_more;
 use crate::round::Round;
 use centre::call::Order;
+use session::limits::MOST_LOTS;
 use session::session::Session;
 ghost use mathlib.Core.Path.{_≡_};
 ghost use mathlib.Core.Bool.{true};
@@ -14,7 +15,7 @@ ghost use Rattle.exchange.specs.Round.{BothReady};
 ghost use Rattle.exchange.specs.Course.{Safe, endsOf, standingOf, lotsMade, directionMade};
 
 // The last order number of a direction: as many lots as can be accepted.
-const LAST_NUMBER: u16 = 64;
+const LAST_NUMBER: u16 = MOST_LOTS as u16;
 
 // Sends lots, numbered from 1, until one moves no cursor: the trays are empty, or its details were refused.
 fn send_lots<'a>(

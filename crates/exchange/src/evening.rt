@@ -4,9 +4,9 @@
 use crate::direction::present;
 use crate::fixed::DATE;
 use crate::fixed::FAR;
-use crate::fixed::MESSAGE_BYTES;
+use crate::fixed::MESSAGE_ROOM;
 use crate::fixed::NEAR;
-use crate::fixed::REPLY_BYTES;
+use crate::fixed::REPLY_ROOM;
 use crate::round::Round;
 use crate::shown::Evening;
 use crate::shown::Side;
@@ -105,8 +105,8 @@ fn evening<'a>(
     requires { ⌜ within (now «far_presentations») (now «far_returns») unmoved ≡ true ⌝ }
     ensures { λ r. ⌜ r ≡ evening (now («near_presentations» .entry)) (now («near_returns» .entry)) (now («far_presentations» .entry)) (now («far_returns» .entry)) ⌝ }
 {
-    let mut message = [0u8; MESSAGE_BYTES];
-    let mut reply = [0u8; REPLY_BYTES];
+    let mut message = [0u8; MESSAGE_ROOM];
+    let mut reply = [0u8; REPLY_ROOM];
     let first = Round {
         presenter: started(NEAR, FAR),
         receiver: started(FAR, NEAR),

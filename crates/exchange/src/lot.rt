@@ -21,7 +21,7 @@ ghost use Prim.Native.Nat.{ℕ};
 ghost use Rattle.centre.specs.Turn.{callOf};
 ghost use Rattle.exchange.specs.Cursors.{documentsOf, moved, within};
 ghost use Rattle.exchange.specs.Round.{BothReady};
-ghost use Rattle.exchange.specs.Course.{Safe, standingOf, pastPart, partSent, detailSent, filled, between, wholeLot, lotMade};
+ghost use Rattle.exchange.specs.Course.{Safe, standingOf, pastPart, partSent, detailSent, filled, roundBetween, wholeLot, lotMade};
 
 // The cursors after a part: past it where the presenter counted its documents, else where they were.
 fn past_part(
@@ -121,7 +121,7 @@ fn fill<'a>(
 }
 
 // A round that moves no cursor.
-fn between(
+fn round_between(
     p: Progress,
     order: Order,
     bytes: &[u8],
@@ -129,7 +129,7 @@ fn between(
     reply: &mut [u8],
 ) -> Progress
     requires { ⌜ BothReady (p .last) ⌝ }
-    ensures outcome { λ r. ⌜ standingOf r (now (message .exit)) (now (reply .exit)) ≡ between (callOf order (now (bytes .entry))) (standingOf p (now (message .entry)) (now (reply .entry))) ⌝ }
+    ensures outcome { λ r. ⌜ standingOf r (now (message .exit)) (now (reply .exit)) ≡ roundBetween (callOf order (now (bytes .entry))) (standingOf p (now (message .entry)) (now (reply .entry))) ⌝ }
     ensures premise { λ r. ⌜ ((presentations returns : List ℕ) → Safe presentations returns p → Safe presentations returns r) ⌝ }
 {
     let ends = p.last;
@@ -154,10 +154,10 @@ fn whole_lot<'a>(
     ensures premise { λ r. ⌜ Safe (now (presentations .entry)) (now (returns .entry)) r ⌝ }
 {
     let header = Order::Header(Session::OPENING, MOMENT, OFFICE, number);
-    let opened = between(p, header, presentations, message, reply);
+    let opened = round_between(p, header, presentations, message, reply);
     let full = fill(opened, presentations, returns, message, reply);
     let total = Order::LotTotal(Session::OPENING);
-    between(full, total, presentations, message, reply)
+    round_between(full, total, presentations, message, reply)
 }
 
 // The lot, if documents remain.

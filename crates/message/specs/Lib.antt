@@ -9,3 +9,4 @@ pub mod Header
 pub mod Total
 pub mod Reply
 pub mod Line
+pub mod Inner

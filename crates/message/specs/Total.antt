@@ -1,5 +1,5 @@
 -- 01, 'Lot total' and 'Session total': what ends a lot, and what ends a direction.
-use Prim.Native.Nat.{ℕ, _+_}
+use Prim.Native.Nat.{ℕ}
 use mathlib.Core.List.{List, [], _∷_}
 use lib.ListN.{getD}
 use Rattle.amounts.specs.Totals.{totals}
@@ -34,13 +34,6 @@ lotTotal = record { bytes = lotTotalBytes; operation = lotTotalOperation; fields
 
 abbrev pub sessionTotal : Layout
 sessionTotal = record { bytes = sessionTotalBytes; operation = sessionTotalOperation; fields = sessionTotalFields }
-
--- both are this one, in widths of their own for documents, nominal and commission: what the functions that serve both are held to
-unfoldable pub totalFields : (documents nominal commission : ℕ) → List Field
-totalFields d n c = field 4 2 any ∷ field 6 d any ∷ amount (6 + d) n ∷ amount (6 + d + n) c ∷ []
-
-abbrev pub total : (operation documents nominal commission : ℕ) → Layout
-total operation d n c = record { bytes = 5 + d + (n + c); operation = operation; fields = totalFields d n c }
 
 -- the numbers of a total, in the order of the tables
 abbrev pub totalValues : Total → List ℕ

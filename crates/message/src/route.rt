@@ -7,7 +7,8 @@ ghost use mathlib.Core.Path.{_≡_};
 ghost use Prim.Native.Nat.{_+_, _≤_};
 ghost use lib.ListN.{length};
 ghost use lib.Seq.{sets};
-ghost use Rattle.message.specs.Route.{routeBytes, sameRoute, routeAt, writtenRoute};
+ghost use Rattle.message.specs.Inner.Route.{routeBytes, writtenRoute};
+ghost use Rattle.message.specs.Route.{sameRoute, routeAt};
 
 // The date is the number DDMMYY.
 pub struct Route {

@@ -19,7 +19,8 @@ ghost use lib.ListN.{length};
 ghost use lib.Seq.{sets};
 ghost use Rattle.message.specs.Limits.{lotTotalBytes, sessionTotalBytes};
 ghost use Rattle.message.specs.Layout.{readBody, writtenBody};
-ghost use Rattle.message.specs.Total.{totalFields, total, lotTotal, sessionTotal, totalValues, totalOf, totalSaid};
+ghost use Rattle.message.specs.Inner.Widths.{totalFields, total};
+ghost use Rattle.message.specs.Total.{lotTotal, sessionTotal, totalValues, totalOf, totalSaid};
 
 pub const LOT_TOTAL_BYTES: usize = 22;
 

@@ -42,7 +42,7 @@ ghost use Rattle.session.specs.Course.{Direction};
 ghost use Rattle.session.specs.Outcome.{silent};
 ghost use Rattle.session.specs.Reply.{isAwaited, isAccepted, replied, takeReply};
 ghost use Rattle.session.specs.Premise.{Sound, Carried, KeptBeside};
-ghost use Rattle.calls.specs.Arrival.{Told};
+ghost use Rattle.calls.specs.Inner.Arrival.{Told};
 ghost use Rattle.calls.specs.Said.{held, calledSaid};
 
 // What a reply call gives, and the running totals that it leaves.

@@ -1,4 +1,3 @@
--- What the answer of receiving says, what its code finds in a message, and what that code asks of the state.
+-- How the answer of receiving is said.
 pub mod Said
-pub mod Earned
-pub mod Lent
+pub mod Inner

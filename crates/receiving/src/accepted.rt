@@ -11,7 +11,7 @@ ghost use lib.ListN.{length, take};
 ghost use Rattle.session.specs.Limits.{mostLots};
 ghost use Rattle.session.specs.Course.{kept};
 ghost use Rattle.session.specs.Receiving.{numberUsed, totalsUsed};
-ghost use Rattle.receiving.specs.Earned.{endsLot};
+ghost use Rattle.receiving.specs.Inner.Earned.{endsLot};
 
 // Whether an accepted lot has the number, and whether one has the totals.
 pub struct Used {

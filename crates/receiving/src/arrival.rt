@@ -19,7 +19,7 @@ ghost use Rattle.message.specs.Limits.{envelopeBytes, replyBytes, largestSerial
 ghost use Rattle.message.specs.Route.{sameRoute};
 ghost use Rattle.message.specs.Envelope.{serialOf, envelopeGood, envelopeOf};
 ghost use Rattle.session.specs.Outcome.{noRoom};
-ghost use Rattle.calls.specs.Arrival.{Told};
+ghost use Rattle.calls.specs.Inner.Arrival.{Told};
 
 // The refusal, and whether the message is a new one or the last again.
 pub struct Arrival {

@@ -26,8 +26,8 @@ use session::parties::Parties;
 use session::session::Receiving;
 ghost use mathlib.Core.Path.{_≡_};
 ghost use Rattle.session.specs.Parties.{receivingRoute};
-ghost use Rattle.receiving.specs.Earned.{Earns};
-ghost use Rattle.receiving.specs.Lent.{Lent};
+ghost use Rattle.receiving.specs.Inner.Earned.{Earns};
+ghost use Rattle.receiving.specs.Inner.Lent.{Lent};
 
 // A message's code, and what it does. Of a refused one it counts only whether it is a lot total, which ends its lot.
 pub struct Found {

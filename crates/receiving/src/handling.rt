@@ -14,7 +14,7 @@ ghost use mathlib.Core.Path.{_≡_};
 ghost use mathlib.Core.Bool.{cond};
 ghost use Rattle.message.specs.Content.{contentOf};
 ghost use Rattle.session.specs.Receiving.{codeBy, receivingCourse, receivingAfter};
-ghost use Rattle.receiving.specs.Lent.{Lent};
+ghost use Rattle.receiving.specs.Inner.Lent.{Lent};
 
 // The direction, and the running totals beside it.
 pub struct Handled {

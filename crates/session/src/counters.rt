@@ -1,7 +1,7 @@
 // What is counted in a direction. Presenter and receiver keep the same counters.
 use amounts::Totals;
 ghost use mathlib.Core.Path.{_≡_};
-ghost use Rattle.amounts.specs.Totals.{SumFits};
+ghost use Rattle.amounts.specs.Inner.Fits.{SumFits};
 ghost use Rattle.session.specs.Running.{empty, gather, stated, documentsIn};
 
 // What a lot gathers while its details are accepted: the running totals of 01. A message states three totals; what is

@@ -8,7 +8,7 @@ use Rattle.codes.specs.Refusal.{refusalNumber}
 use Rattle.codes.proofs.Laws.Chain.{goes-on}
 use Rattle.codes.proofs.Laws.Refusal.{never-none}
 use Rattle.session.specs.declared.session.Answer.{Answer}
-use Rattle.calls.specs.Arrival.{Told}
+use Rattle.calls.specs.Inner.Arrival.{Told}
 
 pub told-refused : (r : Refusal) (refusal : ℕ) (meant found : Bool) → refusal ≡ refusalNumber r → Told refusal meant (Answer.Refused r) found
 told-refused r refusal meant found e = record { number = sym e; finding = λ (z : refusal ≡ 0). absurd (never-none r (sym e ∙ z)) }

@@ -2,15 +2,14 @@
 use mathlib.Core.Path.{refl, sym, subst}
 use mathlib.Core.Bool.{true}
 use native.Mathlib.Omega.{arith}
-use Rattle.amounts.specs.Totals.{SumFits}
-use Rattle.amounts.specs.Difference.{DifferenceFits}
+use Rattle.amounts.specs.Inner.Fits.{SumFits, DifferenceFits}
 use Rattle.session.specs.declared.counters.Lot.{Lot}
 use Rattle.session.specs.declared.counters.Counters.{Counters}
 use Rattle.session.specs.declared.effect.Effect.{Effect}
 use Rattle.session.specs.Limits.{lotDocuments}
 use Rattle.session.specs.Running.{Running, gather}
 use Rattle.session.specs.Premise.{Fits, CountersSound}
-use Rattle.calls.specs.Course.{Countable}
+use Rattle.calls.specs.Inner.Course.{Countable}
 
 -- a detail that a lot may still gather
 pub detail-fits : (more t : Running) → Fits lotDocuments (gather t more) → SumFits t more

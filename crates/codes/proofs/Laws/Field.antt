@@ -7,7 +7,8 @@ use lib.Dec.{eqb}
 use Rattle.packed.specs.Part.{part}
 use Rattle.packed.specs.Every.{every}
 use Rattle.packed.specs.Digits.{areDigits}
-use Rattle.codes.specs.Field.{Field, fieldDigits, fieldValue, earning, tableValues, tableGood}
+use Rattle.codes.specs.Field.{Field, fieldDigits, fieldValue, earning, tableGood}
+use Rattle.codes.specs.Inner.Values.{tableValues}
 use Rattle.packed.proofs.Laws.Every.{every-both}
 use Rattle.packed.proofs.Laws.Digits.{digits-split}
 

@@ -18,7 +18,8 @@ use Rattle.document.specs.Operation.{presentedNumber, returnedNumber}
 use Rattle.document.specs.Fields.{fieldsGood, amountsGood}
 use Rattle.document.specs.Drawee.{draweeServed}
 use Rattle.detail.specs.Groups.{shapeGood, oneOperation, documents}
-use Rattle.detail.specs.Codes.{receiverCode, presenterCode, sendable, judged}
+use Rattle.detail.specs.Codes.{receiverCode, presenterCode, sendable}
+use Rattle.detail.specs.Inner.Verdict.{judged}
 
 -- what is known of a part that may be sent
 pub record Sendable (operation : ℕ) (part : List ℕ) : Type 0 where

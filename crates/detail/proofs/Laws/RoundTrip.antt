@@ -25,7 +25,8 @@ use Rattle.document.specs.Fields.{fieldsGood, amountsGood}
 use Rattle.document.specs.Drawee.{draweeServed}
 use Rattle.detail.specs.Limits.{headBytes, mostGroups, fillBytes, groupBytes}
 use Rattle.detail.specs.Groups.{groups, groupGood, shapeGood, oneOperation, groupDocuments, documents}
-use Rattle.detail.specs.Codes.{receiverCode, sendable, judged}
+use Rattle.detail.specs.Codes.{receiverCode, sendable}
+use Rattle.detail.specs.Inner.Verdict.{judged}
 use Rattle.detail.specs.Writing.{writtenGroup, written, partOf, clearedGroups}
 use Rattle.detail.proofs.Laws.Groups.{Good, good}
 use Rattle.detail.proofs.Laws.Codes.{sendable-part, shaped-judged}

@@ -13,7 +13,8 @@ use Rattle.codes.specs.declared.reply.Code.{Code}
 use Rattle.codes.proofs.Laws.Field.{tableDigits, table-split, digitRuns, total, runs-join, adjoining}
 use Rattle.document.specs.Limits.{documentBytes}
 use Rattle.document.specs.Rules.{identification, dayAndMonth, province, truncation, keyOrReason}
-use Rattle.document.specs.Fields.{firstPosition, documentFields, fieldsGood, valuesGood, amountsGood}
+use Rattle.document.specs.Fields.{firstPosition, documentFields, fieldsGood, amountsGood}
+use Rattle.document.specs.Inner.Values.{valuesGood}
 
 listed : (a b c d e f g : Bool) → a && (b && (c && (d && (e && (f && (g && true)))))) ≡ a && b && c && d && e && f && g
 listed a b c d e f g = simp (and-assoc, and-true)

@@ -7,13 +7,15 @@ use native.Mathlib.Omega.{arith}
 use Rattle.packed.specs.Every.{every}
 use Rattle.packed.proofs.Laws.Every.{every-append}
 use Rattle.amounts.specs.declared.Totals.{Totals}
-use Rattle.amounts.specs.Totals.{zeros, plus, SumFits}
+use Rattle.amounts.specs.Totals.{zeros, plus}
+use Rattle.amounts.specs.Inner.Fits.{SumFits}
 use Rattle.amounts.proofs.Laws.Totals.{plus-zeros, zeros-plus, plus-assoc}
 use Rattle.document.specs.declared.found.Found.{Found}
 use Rattle.document.specs.Fields.{fieldsGood, amountsGood}
 use Rattle.document.specs.Drawee.{draweeServed}
-use Rattle.document.specs.Amounts.{Within, documentTotals, totalsOf}
-use Rattle.document.specs.Found.{found, foundIn, nothing, join}
+use Rattle.document.specs.Inner.Bounds.{Within}
+use Rattle.document.specs.Amounts.{documentTotals, totalsOf}
+use Rattle.document.specs.Inner.Found.{found, foundIn, nothing, join}
 
 join-nothing : (a : Found) → join a nothing ≡ a
 join-nothing a =

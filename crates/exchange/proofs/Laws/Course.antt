@@ -11,11 +11,11 @@ use Rattle.session.specs.Limits.{passesLot}
 use Rattle.session.specs.Engine.{Call}
 use Rattle.exchange.specs.declared.cursors.Cursors.{Cursors}
 use Rattle.exchange.specs.declared.progress.Progress.{Progress}
-use Rattle.exchange.specs.Cursors.{part, documentsOf, operationOf, same}
+use Rattle.exchange.specs.Cursors.{partAt, documentsOf, nextOperation, same}
 use Rattle.exchange.specs.Course.{Ends, Standing, roundMade, counted, pastPart, partSent, ifRoom, detailSent, whileMoving, wholeLot, lotMade, Safe, standingOf}
 
 -- a part goes
-pub part-sent : (presentations bytes : List ℕ) (s : Standing) (operation before after : ℕ) (ends : Ends) (c : Cursors) → operation ≡ operationOf presentations (s .cursors) → before ≡ counted (s .ends) → ends ≡ roundMade (Call.detail opening operation bytes) (s .ends) → after ≡ counted ends → c ≡ pastPart presentations (documentsOf bytes) before after (s .cursors) → record { ends = ends; cursors = c } ≡ partSent presentations bytes s
+pub part-sent : (presentations bytes : List ℕ) (s : Standing) (operation before after : ℕ) (ends : Ends) (c : Cursors) → operation ≡ nextOperation presentations (s .cursors) → before ≡ counted (s .ends) → ends ≡ roundMade (Call.detail opening operation bytes) (s .ends) → after ≡ counted ends → c ≡ pastPart presentations (documentsOf bytes) before after (s .cursors) → record { ends = ends; cursors = c } ≡ partSent presentations bytes s
 unfolding partSent
 part-sent presentations bytes s operation before after ends c op b e a so =
     let made = e ∙ ap (λ (o : ℕ). roundMade (Call.detail opening o bytes) (s .ends)) op in
@@ -23,7 +23,7 @@ part-sent presentations bytes s operation before after ends c op b e a so =
     λ i. record { ends = made i; cursors = past i }
 
 -- the next one, or none: `full` is what the code asked of the lot
-module _ (presentations returns bytes : List ℕ) (s : Standing) (so : bytes ≡ part presentations returns (s .cursors)) (gathered : ℕ) (full : Bool) (g : gathered ≡ counted (s .ends)) (f : full ≡ passesLot (gathered + documentsOf bytes)) where
+module _ (presentations returns bytes : List ℕ) (s : Standing) (so : bytes ≡ partAt presentations returns (s .cursors)) (gathered : ℕ) (full : Bool) (g : gathered ≡ counted (s .ends)) (f : full ≡ passesLot (gathered + documentsOf bytes)) where
   by-part : cond (eqb (documentsOf bytes) 0 || full) s (partSent presentations bytes s) ≡ detailSent presentations returns s
   unfolding detailSent
   by-part =
@@ -37,7 +37,7 @@ module _ (presentations returns bytes : List ℕ) (s : Standing) (so : bytes ≡
   room e = (rw e) ∙ by-part
 
 -- a lot, or none
-module _ (presentations returns bytes : List ℕ) (number : ℕ) (s : Standing) (so : bytes ≡ part presentations returns (s .cursors)) where
+module _ (presentations returns bytes : List ℕ) (number : ℕ) (s : Standing) (so : bytes ≡ partAt presentations returns (s .cursors)) where
   by-rest : cond (eqb (length bytes) 0) s (wholeLot number presentations returns s) ≡ lotMade presentations returns number s
   unfolding lotMade
   by-rest = ap (λ (b : List ℕ). cond (eqb (length b) 0) s (wholeLot number presentations returns s)) so

@@ -11,7 +11,7 @@ use Rattle.document.specs.Limits.{documentBytes}
 use Rattle.outgoing.specs.Outgoing.{count, readyGood, nextOf}
 use Rattle.outgoing.proofs.Laws.Outgoing.{cursor-within, each-good, next-presented, next-returned}
 use Rattle.exchange.specs.declared.cursors.Cursors.{Cursors}
-use Rattle.exchange.specs.Cursors.{within, part, documentsOf, presenting, moved}
+use Rattle.exchange.specs.Cursors.{within, partAt, documentsOf, presenting, moved}
 use Rattle.exchange.specs.Course.{pastPart}
 
 -- of one tray: its next part ends within it
@@ -35,7 +35,7 @@ module _ (presentations returns : List ℕ) (c : Cursors) where
     each = each-good presentations returns (c .presentations) (c .returns) good
 
     -- past the next part
-    pub moved-within : (bytes : List ℕ) → bytes ≡ part presentations returns c → within presentations returns (moved presentations (documentsOf bytes) c) ≡ true
+    pub moved-within : (bytes : List ℕ) → bytes ≡ partAt presentations returns c → within presentations returns (moved presentations (documentsOf bytes) c) ≡ true
     moved-within bytes so = go (presenting presentations c) refl
       where
         go : (b : Bool) → presenting presentations c ≡ b → within presentations returns (cond b (record { presentations = c .presentations + documentsOf bytes; returns = c .returns }) (record { presentations = c .presentations; returns = c .returns + documentsOf bytes })) ≡ true

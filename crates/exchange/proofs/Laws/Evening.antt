@@ -11,7 +11,7 @@ use Rattle.codes.proofs.Laws.Chain.{none-test, none-both}
 use Rattle.session.specs.Engine.{Engine}
 use Rattle.outgoing.specs.Outgoing.{bothGood, checkCode}
 use Rattle.exchange.specs.declared.shown.Side.{Side}
-use Rattle.exchange.specs.Fixed.{near, far, messageBytes, replyBytes}
+use Rattle.exchange.specs.Fixed.{near, far, messageRoom, replyRoom}
 use Rattle.exchange.specs.Course.{Ends, bothDirections}
 use Rattle.exchange.specs.Cursors.{unmoved, within}
 use Rattle.exchange.specs.Evening.{noSide, closedSide, startedEnd, beginning, shownOf, evening, traysCode, exchanged}
@@ -48,8 +48,8 @@ module _ (nearPresentations nearReturns farPresentations farReturns : List ℕ) 
   refused some n f = (λ i. record { code = code; near = n i; far = f i }) ∙ (rw (ne-eqb code 0 some)) ∙ by-code
 
 -- what the ends show after both directions
-pub shows : (nearPresentations nearReturns farPresentations farReturns : List ℕ) {first second : Engine} {last : Ends} {a b : Side} → first ≡ startedEnd near far → second ≡ startedEnd far near → last ≡ bothDirections nearPresentations nearReturns farPresentations farReturns (record { presenter = first; receiver = second; message = replicate messageBytes 0; reply = replicate replyBytes 0 }) → a ≡ closedSide (last .receiver) → b ≡ closedSide (last .presenter) → record { code = 0; near = a; far = b } ≡ evening nearPresentations nearReturns farPresentations farReturns
+pub shows : (nearPresentations nearReturns farPresentations farReturns : List ℕ) {first second : Engine} {last : Ends} {a b : Side} → first ≡ startedEnd near far → second ≡ startedEnd far near → last ≡ bothDirections nearPresentations nearReturns farPresentations farReturns (record { presenter = first; receiver = second; message = replicate messageRoom 0; reply = replicate replyRoom 0 }) → a ≡ closedSide (last .receiver) → b ≡ closedSide (last .presenter) → record { code = 0; near = a; far = b } ≡ evening nearPresentations nearReturns farPresentations farReturns
 unfolding beginning evening
 shows nearPresentations nearReturns farPresentations farReturns f s l x y =
     (λ i. record { code = 0; near = x i; far = y i })
-    ∙ ap shownOf (l ∙ (λ i. bothDirections nearPresentations nearReturns farPresentations farReturns (record { presenter = f i; receiver = s i; message = replicate messageBytes 0; reply = replicate replyBytes 0 })))
+    ∙ ap shownOf (l ∙ (λ i. bothDirections nearPresentations nearReturns farPresentations farReturns (record { presenter = f i; receiver = s i; message = replicate messageRoom 0; reply = replicate replyRoom 0 })))

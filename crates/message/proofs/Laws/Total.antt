@@ -16,7 +16,8 @@ use Rattle.amounts.specs.Totals.{totals}
 use Rattle.message.specs.declared.total.Total.{Total}
 use Rattle.message.specs.declared.total.ReadTotal.{ReadTotal}
 use Rattle.message.specs.Layout.{Layout, bodyCode, readBody, writtenBody}
-use Rattle.message.specs.Total.{lotTotal, lotTotalFields, sessionTotal, sessionTotalFields, totalFields, totalValues, totalOf, totalSaid}
+use Rattle.message.specs.Total.{lotTotal, lotTotalFields, sessionTotal, sessionTotalFields, totalValues, totalOf, totalSaid}
+use Rattle.message.specs.Inner.Widths.{totalFields}
 use Rattle.message.proofs.Laws.Reading.{told}
 use Rattle.message.proofs.Laws.Layout.{Whole, written-then-read}
 

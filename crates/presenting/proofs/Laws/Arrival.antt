@@ -5,7 +5,7 @@ use Prim.Native.Nat.{ℕ}
 use Rattle.codes.specs.declared.refusal.Refusal.{Refusal}
 use Rattle.codes.specs.Refusal.{refusalNumber}
 use Rattle.session.specs.declared.session.Answer.{Answer}
-use Rattle.calls.specs.Arrival.{Told}
+use Rattle.calls.specs.Inner.Arrival.{Told}
 use Rattle.calls.proofs.Laws.Arrival.{told-refused}
 use Rattle.presenting.specs.declared.reply.Arrival.{Arrival}
 

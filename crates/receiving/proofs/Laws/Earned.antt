@@ -27,9 +27,9 @@ use Rattle.session.specs.Course.{course, reopened, advance, ends, kept}
 use Rattle.session.specs.Receiving.{codeBy, effectBy}
 use Rattle.session.specs.Premise.{OpenSound}
 use Rattle.session.proofs.Laws.Allowed.{Allowed, received-allowed}
-use Rattle.calls.specs.Course.{Countable}
-use Rattle.receiving.specs.Earned.{endsLot, StandsFor}
-use Rattle.receiving.specs.Lent.{Lent}
+use Rattle.calls.specs.Inner.Course.{Countable}
+use Rattle.receiving.specs.Inner.Earned.{endsLot, StandsFor}
+use Rattle.receiving.specs.Inner.Lent.{Lent}
 
 -- a refused message, by whether it ends a lot
 refused-moves : (e : Effect) (k : Course) → advance e false k ≡ cond (endsLot e) (course (reopened OpenLot.None (k .counters)) empty) k

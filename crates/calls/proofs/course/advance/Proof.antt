@@ -2,7 +2,7 @@
 use mathlib.Core.Path.{sym, ap, subst, _∙_}
 use Rattle.session.specs.declared.effect.Effect.{Effect}
 use Rattle.session.specs.Course.{course, advance}
-use Rattle.calls.specs.Course.{Countable}
+use Rattle.calls.specs.Inner.Course.{Countable}
 use borrow.Author.Needs.{needs}
 use Rattle.calls.proofs.course.advance.Statement.{statement}
 use Rattle.calls.proofs.course.advance.Tie as tie

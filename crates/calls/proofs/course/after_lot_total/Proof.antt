@@ -6,7 +6,7 @@ use native.Mathlib.Omega.{arith}
 use Rattle.session.specs.declared.counters.OpenLot.{OpenLot}
 use Rattle.session.specs.declared.effect.Effect.{Effect}
 use Rattle.session.specs.Course.{course, advance}
-use Rattle.calls.specs.Course.{Countable}
+use Rattle.calls.specs.Inner.Course.{Countable}
 use Rattle.calls.proofs.Laws.Course.{lot-fits}
 use borrow.Author.Needs.{needs}
 use Rattle.calls.proofs.course.after_lot_total.Statement.{statement}

@@ -1,4 +1,4 @@
--- What the clock call says, of the centre.
+-- `clock_call`: what the clock call says, of the centre.
 use mathlib.Core.Path.{_∙_, refl}
 use mathlib.Core.List.{List}
 use Prim.Native.Nat.{ℕ}

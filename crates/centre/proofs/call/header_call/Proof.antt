@@ -1,4 +1,4 @@
--- What the send says, of the centre.
+-- `header_call`: what the send says, of the centre.
 use mathlib.Core.Path.{_∙_}
 use borrow.Author.Needs.{needs}
 use Rattle.session.specs.Engine.{Call, meaning}

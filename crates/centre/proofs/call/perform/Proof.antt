@@ -1,4 +1,4 @@
--- Each arm is its call.
+-- `perform`: each arm is its call.
 use mathlib.Core.Path.{_∙_}
 use borrow.Author.Needs.{needs}
 use Rattle.centre.specs.Turn.{engineOf}

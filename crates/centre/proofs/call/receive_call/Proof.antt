@@ -1,4 +1,4 @@
--- What receiving says, of the centre.
+-- `receive_call`: what receiving says, of the centre.
 use mathlib.Core.Path.{_∙_, refl}
 use borrow.Author.Needs.{needs}
 use Rattle.session.specs.Engine.{Call, meaning}

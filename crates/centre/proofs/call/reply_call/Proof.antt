@@ -1,4 +1,4 @@
--- What the reply call says, of the centre.
+-- `reply_call`: what the reply call says, of the centre.
 use mathlib.Core.Path.{_∙_, refl}
 use mathlib.Core.List.{List}
 use Prim.Native.Nat.{ℕ}

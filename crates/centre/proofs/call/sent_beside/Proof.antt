@@ -1,4 +1,4 @@
--- The parts of what a send says, one by one.
+-- `sent_beside`: the parts of what a send says, one by one.
 use Rattle.centre.proofs.Laws.{together}
 use borrow.Author.Needs.{needs}
 use Rattle.centre.proofs.call.sent_beside.Statement.{statement}

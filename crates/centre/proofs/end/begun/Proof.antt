@@ -1,4 +1,4 @@
--- A start begins the premise for running totals of no documents.
+-- `begun`: a start begins the premise for running totals of no documents.
 use mathlib.Core.Path.{sym, subst}
 use Rattle.session.specs.Course.{Direction}
 use Rattle.session.specs.Premise.{Carried}

@@ -1,4 +1,4 @@
--- Of the presented lot the running totals are new; what is carried in the other direction still is.
+-- `with_presented`: of the presented lot the running totals are new; what is carried in the other direction still is.
 use mathlib.Core.Path.{refl}
 use Rattle.centre.proofs.end.with_presented.Statement.{statement}
 use Rattle.centre.proofs.end.with_presented.Tie as tie

@@ -1,4 +1,4 @@
--- Of the received lot the running totals are new; what is carried in the other direction still is.
+-- `with_received`: of the received lot the running totals are new; what is carried in the other direction still is.
 use mathlib.Core.Path.{refl}
 use Rattle.centre.proofs.end.with_received.Statement.{statement}
 use Rattle.centre.proofs.end.with_received.Tie as tie

@@ -1,4 +1,4 @@
--- What is carried in each direction still is.
+-- `with_session`: what is carried in each direction still is.
 use mathlib.Core.Path.{refl}
 use Rattle.session.specs.Course.{Direction}
 use Rattle.centre.proofs.end.with_session.Statement.{statement}

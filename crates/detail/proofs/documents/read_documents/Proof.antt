@@ -11,8 +11,8 @@ use Rattle.packed.specs.Part.{part}
 use Rattle.packed.specs.Pieces.{pieces}
 use Rattle.packed.proofs.Laws.Pieces.{pieces-at, pieces-end}
 use Rattle.document.specs.Limits.{documentBytes}
-use Rattle.document.specs.Amounts.{Within}
-use Rattle.document.specs.Found.{found, foundIn, join}
+use Rattle.document.specs.Inner.Bounds.{Within}
+use Rattle.document.specs.Inner.Found.{found, foundIn, join}
 use Rattle.document.proofs.Laws.Found.{nothing-join, found-end, found-step, within-zeros, within-plus, within-more, within-fits}
 use Rattle.detail.proofs.documents.read_documents.Statement.{statement}
 use Rattle.detail.proofs.documents.read_documents.Tie as tie

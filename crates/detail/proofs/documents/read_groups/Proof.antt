@@ -14,8 +14,8 @@ use Rattle.packed.specs.Pieces.{pieces}
 use Rattle.packed.proofs.Laws.Every.{every-cons}
 use Rattle.packed.proofs.Laws.Part.{part-tail}
 use Rattle.packed.proofs.Laws.Pieces.{pieces-at, pieces-end}
-use Rattle.document.specs.Amounts.{Within}
-use Rattle.document.specs.Found.{foundIn, join}
+use Rattle.document.specs.Inner.Bounds.{Within}
+use Rattle.document.specs.Inner.Found.{foundIn, join}
 use Rattle.document.proofs.Laws.Found.{nothing-join, found-end, found-more, within-zeros, within-plus, within-more, within-fits}
 use Rattle.detail.specs.Limits.{groupBytes}
 use Rattle.detail.specs.Groups.{groupGood, groups, groupDocuments, documents}

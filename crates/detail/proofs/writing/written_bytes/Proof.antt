@@ -3,7 +3,7 @@ use mathlib.Core.Path.{sym, _∙_}
 use Prim.Native.Nat.{ℕ, _≤_}
 use native.Mathlib.Omega.{arith}
 use lib.ListN.{length}
-use Rattle.detail.specs.Limits.{longestPart}
+use Rattle.detail.specs.Inner.Part.{longestPart}
 use Rattle.detail.proofs.Laws.Writing.{written-bytes}
 use borrow.Author.Needs.{needs}
 use Rattle.detail.proofs.writing.written_bytes.Statement.{statement}

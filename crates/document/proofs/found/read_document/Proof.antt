@@ -1,4 +1,4 @@
--- `read` puts together what the tests and the readings of amounts find.
+-- `read_document` puts together what the tests and the readings of amounts find.
 use mathlib.Core.Path.{sym, _∙_}
 use mathlib.Core.Bool.{_&&_}
 use native.Mathlib.Omega.{arith}

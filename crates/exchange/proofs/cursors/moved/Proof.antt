@@ -1,4 +1,4 @@
--- By the test; a moved cursor is within its tray, so it fits.
+-- `moved`: by the test; a moved cursor is within its tray, so it fits.
 use mathlib.Core.Path.{sym, _∙_}
 use native.Mathlib.Omega.{arith}
 use Rattle.exchange.proofs.Laws.Cursors.{moved-first, moved-second}

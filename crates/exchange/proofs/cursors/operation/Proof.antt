@@ -1,4 +1,4 @@
--- By the test.
+-- `operation`: by the test.
 use mathlib.Core.Path.{sym, _∙_}
 use borrow.Author.Needs.{needs}
 use Rattle.exchange.proofs.cursors.operation.Statement.{statement}

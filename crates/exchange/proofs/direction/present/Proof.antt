@@ -1,4 +1,4 @@
--- The lots, and the session total after them.
+-- `present`: the lots, and the session total after them.
 use mathlib.Core.Path.{ap, _∙_}
 use Rattle.session.specs.Hours.{opening}
 use Rattle.session.specs.Engine.{Call}

@@ -1,4 +1,4 @@
--- Lot by lot. The invariant: what the rest makes of the standing is what the whole makes of the first; the measure is the lots left.
+-- `send_lots`: lot by lot. The invariant: what the rest makes of the standing is what the whole makes of the first; the measure is the lots left.
 use mathlib.Core.Path.{refl, sym, _∙_}
 use Prim.Native.Nat.{suc, _+_, _-_, _≤_}
 use native.Mathlib.Omega.{arith}

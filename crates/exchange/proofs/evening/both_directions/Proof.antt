@@ -1,4 +1,4 @@
--- One after the other.
+-- `both_directions`: one after the other.
 use mathlib.Core.Path.{ap, _∙_}
 use Rattle.exchange.specs.Course.{across, directionMade, bothDirections}
 use borrow.Author.Needs.{needs}

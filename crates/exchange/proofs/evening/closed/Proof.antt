@@ -1,4 +1,4 @@
--- The clock call, and the report of the session that it leaves.
+-- `closed`: the clock call, and the report of the session that it leaves.
 use mathlib.Core.Path.{ap, _∙_}
 use mathlib.Core.List.{[]}
 use Rattle.session.specs.Report.{report}

@@ -1,4 +1,4 @@
--- Both directions from the beginning, and what the two ends then show.
+-- `evening`: both directions from the beginning, and what the two ends then show.
 use Rattle.exchange.proofs.Laws.Evening.{shows}
 use borrow.Author.Needs.{needs}
 use Rattle.exchange.proofs.evening.evening.Statement.{statement}

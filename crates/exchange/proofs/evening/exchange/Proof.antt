@@ -1,4 +1,4 @@
--- By the code of the trays.
+-- `exchange`: by the code of the trays.
 use mathlib.Core.Path.{_∙_}
 use Rattle.exchange.proofs.Laws.Evening.{trays-good, ran, refused}
 use borrow.Author.Needs.{needs}

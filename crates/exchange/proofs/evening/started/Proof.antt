@@ -1,4 +1,4 @@
--- A start, with running totals of no documents.
+-- `started`: a start, with running totals of no documents.
 use mathlib.Core.Path.{ap, _∙_}
 use Rattle.session.specs.Start.{StartOutcome}
 use Rattle.session.specs.Engine.{withEmpty}

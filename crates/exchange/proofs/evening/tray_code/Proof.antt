@@ -1,4 +1,4 @@
--- The number of the answer.
+-- `tray_code`: the number of the answer.
 use mathlib.Core.Path.{ap, sym, _∙_}
 use Rattle.outgoing.specs.Outgoing.{answerNumber}
 use borrow.Author.Needs.{needs}

@@ -1,4 +1,4 @@
--- The first code that applies.
+-- `trays_code`: the first code that applies.
 use Rattle.exchange.specs.Evening.{traysCode}
 use Rattle.exchange.proofs.Laws.Evening.{far-code, near-code}
 use borrow.Author.Needs.{needs}

@@ -1,4 +1,4 @@
--- Part by part. The invariant: what the rest makes of the standing is what the whole makes of the first; the measure is the parts left.
+-- `fill`: part by part. The invariant: what the rest makes of the standing is what the whole makes of the first; the measure is the parts left.
 use mathlib.Core.Path.{refl, sym, _∙_}
 use Prim.Native.Nat.{suc, _+_, _-_, _≤_}
 use native.Mathlib.Omega.{arith}

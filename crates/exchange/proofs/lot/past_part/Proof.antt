@@ -1,4 +1,4 @@
--- By the test.
+-- `past_part`: by the test.
 use mathlib.Core.Path.{_∙_}
 use borrow.Author.Tests.{eq-eqb, ne-eqb}
 use borrow.Author.Needs.{needs}

@@ -1,4 +1,4 @@
--- By the test, over the part that the trays give.
+-- `send_lot`: by the test, over the part that the trays give.
 use mathlib.Core.Path.{_∙_}
 use Rattle.exchange.specs.Course.{standingOf}
 use Rattle.exchange.proofs.Laws.Course.{lot-none, lot-some}

@@ -1,4 +1,4 @@
--- The round and the cursors, put together.
+-- `send_part`: the round and the cursors, put together.
 use Rattle.exchange.specs.Cursors.{documentsOf}
 use Rattle.exchange.specs.Course.{standingOf}
 use Rattle.exchange.proofs.Laws.Cursors.{past-within}

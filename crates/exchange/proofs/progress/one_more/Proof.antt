@@ -1,4 +1,4 @@
--- A round at the opening.
+-- `one_more`: a round at the opening.
 use mathlib.Core.Path.{ap}
 use Rattle.exchange.specs.Course.{endsAfter, roundMade}
 use borrow.Author.Needs.{needs}

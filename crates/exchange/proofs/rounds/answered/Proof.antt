@@ -1,4 +1,4 @@
--- What receiving wrote lies within the reply buffer; the rest is put together from the two calls.
+-- `answered`: what receiving wrote lies within the reply buffer; the rest is put together from the two calls.
 use mathlib.Core.Path.{refl}
 use mathlib.Core.List.{[]}
 use native.Mathlib.Omega.{arith}

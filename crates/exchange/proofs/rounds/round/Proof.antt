@@ -1,4 +1,4 @@
--- What the presenter wrote lies within the message buffer; the rest is put together from its call and the answer.
+-- `round`: what the presenter wrote lies within the message buffer; the rest is put together from its call and the answer.
 use native.Mathlib.Omega.{arith}
 use lib.ListN.{length-take}
 use borrow.Author.Needs.{needs}

@@ -1,4 +1,4 @@
--- Part by part.
+-- `side_of`: part by part.
 use borrow.Author.Needs.{needs}
 use Rattle.exchange.proofs.shown.side_of.Statement.{statement}
 use Rattle.exchange.proofs.shown.side_of.Tie as tie

@@ -8,7 +8,7 @@ use lib.ListN.{set, length-set}
 use lib.Seq.{sets}
 use Rattle.packed.specs.Writing.{packedBytes}
 use Rattle.codes.specs.Field.{tableWritten}
-use Rattle.message.specs.Route.{writtenRoute}
+use Rattle.message.specs.Inner.Route.{writtenRoute}
 use Rattle.message.specs.Envelope.{envelopeFields}
 use Rattle.message.proofs.envelope.write_envelope.Statement.{statement}
 use Rattle.message.proofs.envelope.write_envelope.Tie as tie

@@ -6,7 +6,7 @@ use borrow.Author.Needs.{needs}
 use lib.Seq.{sets}
 use Rattle.packed.specs.Writing.{packedBytes}
 use Rattle.codes.specs.Field.{tableWritten}
-use Rattle.message.specs.Route.{writtenRoute}
+use Rattle.message.specs.Inner.Route.{writtenRoute}
 use Rattle.message.specs.Header.{headerFields}
 use Rattle.message.proofs.header.write_header.Statement.{statement}
 use Rattle.message.proofs.header.write_header.Tie as tie

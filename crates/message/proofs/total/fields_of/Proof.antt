@@ -5,7 +5,7 @@ use borrow.Author.Needs.{needs}
 use Rattle.packed.specs.Part.{part}
 use Rattle.packed.specs.Number.{number}
 use Rattle.amounts.specs.Totals.{totals}
-use Rattle.message.specs.Total.{totalFields}
+use Rattle.message.specs.Inner.Widths.{totalFields}
 use Rattle.message.proofs.Laws.Total.{nominal-at, commission-at}
 use Rattle.message.proofs.total.fields_of.Statement.{statement}
 use Rattle.message.proofs.total.fields_of.Tie as tie

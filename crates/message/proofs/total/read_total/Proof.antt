@@ -9,7 +9,8 @@ use lib.Dec.{lit<}
 use lib.ListN.{length}
 use Rattle.codes.specs.Field.{tableGood}
 use Rattle.message.specs.Layout.{Layout, shapeGood}
-use Rattle.message.specs.Total.{totalFields, total, totalValues}
+use Rattle.message.specs.Inner.Widths.{totalFields, total}
+use Rattle.message.specs.Total.{totalValues}
 use Rattle.message.proofs.Laws.Layout.{shaped, misshapen, field-wrong, amount-wrong, accepted, said-code, said-fields}
 use Rattle.message.proofs.Laws.Total.{counters-split, amounts-split}
 use Rattle.message.proofs.total.read_total.Statement.{statement}

@@ -1,6 +1,7 @@
 -- `write_lot_total`: the printed table is that of these widths.
 use borrow.Author.Needs.{needs}
-use Rattle.message.specs.Total.{totalFields, lotTotalFields}
+use Rattle.message.specs.Inner.Widths.{totalFields}
+use Rattle.message.specs.Total.{lotTotalFields}
 use Rattle.message.proofs.total.write_lot_total.Statement.{statement}
 use Rattle.message.proofs.total.write_lot_total.Tie as tie
 

@@ -1,6 +1,7 @@
 -- `write_session_total`: the printed table is that of these widths.
 use borrow.Author.Needs.{needs}
-use Rattle.message.specs.Total.{totalFields, sessionTotalFields}
+use Rattle.message.specs.Inner.Widths.{totalFields}
+use Rattle.message.specs.Total.{sessionTotalFields}
 use Rattle.message.proofs.total.write_session_total.Statement.{statement}
 use Rattle.message.proofs.total.write_session_total.Tie as tie
 

@@ -10,7 +10,7 @@ use Rattle.packed.specs.Writing.{packedBytes}
 use Rattle.packed.proofs.Laws.Writing.{packed-length, sets-behind}
 use Rattle.codes.specs.Body.{free, mark}
 use Rattle.codes.specs.Field.{tableWritten}
-use Rattle.message.specs.Total.{totalFields}
+use Rattle.message.specs.Inner.Widths.{totalFields}
 use Rattle.message.proofs.total.write_total.Statement.{statement}
 use Rattle.message.proofs.total.write_total.Tie as tie
 

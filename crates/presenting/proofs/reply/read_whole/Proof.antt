@@ -19,7 +19,7 @@ use Rattle.message.specs.Envelope.{serialOf, envelopeOf, envelopeGood, envelope
 use Rattle.message.specs.Reply.{replyGood}
 use Rattle.message.proofs.Laws.Envelope.{read-told, wrong-told, enough}
 use Rattle.session.specs.Reply.{isAwaited, isAccepted}
-use Rattle.calls.specs.Arrival.{Told}
+use Rattle.calls.specs.Inner.Arrival.{Told}
 use Rattle.calls.proofs.Laws.Arrival.{told-behind}
 use Rattle.presenting.proofs.Laws.Arrival.{refused-so}
 use borrow.Author.Needs.{needs}

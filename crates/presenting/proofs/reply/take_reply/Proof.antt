@@ -16,7 +16,7 @@ use Rattle.session.specs.Outcome.{answerNumber, timeRefusal, silent}
 use Rattle.session.specs.Reply.{isAwaited, isAccepted, replyRefusal, replied, takeReply}
 use Rattle.session.specs.Engine.{Call, meaning}
 use Rattle.session.proofs.Laws.EveryCall.{kept-beside}
-use Rattle.calls.specs.Arrival.{Told}
+use Rattle.calls.specs.Inner.Arrival.{Told}
 use Rattle.calls.specs.Said.{held, calledSaid}
 use Rattle.calls.proofs.Laws.Said.{said-done, said-refused, so-kept-beside}
 use borrow.Author.Needs.{needs}

@@ -3,7 +3,7 @@ use mathlib.Core.Path.{_≡_, ap, sym, _∙_}
 use mathlib.Core.Bool.{true}
 use Rattle.session.specs.declared.effect.Effect.{Effect}
 use Rattle.session.specs.Course.{kept}
-use Rattle.receiving.specs.Earned.{endsLot}
+use Rattle.receiving.specs.Inner.Earned.{endsLot}
 use borrow.Author.Needs.{needs}
 use Rattle.receiving.proofs.accepted.kept.Statement.{statement}
 use Rattle.receiving.proofs.accepted.kept.Tie as tie

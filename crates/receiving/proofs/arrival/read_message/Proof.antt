@@ -13,7 +13,7 @@ use Rattle.message.specs.Route.{sameRoute}
 use Rattle.message.specs.Envelope.{envelopeGood, envelopeSaid}
 use Rattle.message.proofs.Laws.Envelope.{read-told, wrong-told}
 use Rattle.session.specs.Outcome.{noRoom}
-use Rattle.calls.specs.Arrival.{Told}
+use Rattle.calls.specs.Inner.Arrival.{Told}
 use Rattle.calls.proofs.Laws.Arrival.{told-refused, told-behind}
 use borrow.Author.Needs.{needs}
 use Rattle.receiving.proofs.arrival.read_message.Statement.{statement}

@@ -2,7 +2,7 @@
 use mathlib.Core.Path.{refl, sym, subst}
 use Rattle.message.specs.declared.content.Content.{Content}
 use Rattle.session.specs.Receiving.{codeBy, effectBy}
-use Rattle.receiving.specs.Earned.{Earns}
+use Rattle.receiving.specs.Inner.Earned.{Earns}
 use borrow.Author.Needs.{needs}
 use Rattle.receiving.proofs.earned.earned.Statement.{statement}
 use Rattle.receiving.proofs.earned.earned.Tie as tie

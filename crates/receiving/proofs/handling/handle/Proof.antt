@@ -12,8 +12,8 @@ use Rattle.message.specs.Reply.{replyOperation}
 use Rattle.session.specs.declared.counters.Course.{Course}
 use Rattle.session.specs.Course.{course, advance, ends, kept}
 use Rattle.session.specs.Receiving.{codeBy, effectBy, receivingAfter}
-use Rattle.calls.specs.Course.{Countable}
-use Rattle.receiving.specs.Earned.{Earns}
+use Rattle.calls.specs.Inner.Course.{Countable}
+use Rattle.receiving.specs.Inner.Earned.{Earns}
 use Rattle.receiving.proofs.Laws.Earned.{alike, countable, free-place}
 use borrow.Author.Needs.{needs}
 use Rattle.receiving.proofs.handling.handle.Statement.{statement}

@@ -21,7 +21,7 @@ use Rattle.session.specs.Receiving.{codeBy, receivingCourse, receivingAfter, wi
 use Rattle.session.specs.Engine.{Call, meaning}
 use Rattle.session.proofs.Laws.EveryCall.{kept-beside}
 use Rattle.session.proofs.Laws.Refusals.{ReceiveTold}
-use Rattle.calls.specs.Arrival.{Told}
+use Rattle.calls.specs.Inner.Arrival.{Told}
 use Rattle.calls.specs.Said.{held}
 use Rattle.calls.proofs.Laws.Said.{said-refused, so-kept-beside}
 use Rattle.receiving.specs.declared.receive.ReceiveOutcome.{ReceiveOutcome}

@@ -1,4 +1,4 @@
--- What the code that moves counters asks: counters and running totals within their limits, and where the message is accepted one that may be.
+-- What the code that moves counters asks: counters and running totals within their limits, and an accepted message one that may be accepted.
 use mathlib.Core.Path.{_≡_}
 use mathlib.Core.Bool.{Bool, true}
 use Rattle.session.specs.declared.counters.Counters.{Counters}

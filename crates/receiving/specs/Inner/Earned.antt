@@ -14,6 +14,7 @@ use Rattle.session.specs.Running.{Running}
 use Rattle.session.specs.Receiving.{codeBy, effectBy}
 use Rattle.receiving.specs.declared.earned.Found.{Found}
 
+-- whether it ends a lot
 abbrev pub endsLot : Effect → Bool
 endsLot (Effect.LotTotal lot) = true
 endsLot Effect.Nothing = false

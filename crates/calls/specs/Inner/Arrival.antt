@@ -1,5 +1,5 @@
--- What is told of a message or a reply that arrives: the number that refuses it, and where none does one finding more: of a message whether it is
--- new, of a reply whether it accepts.
+-- What the code tells of a message or a reply that arrives: the number that refuses it, and where none does one finding more, of a message
+-- whether it is new, of a reply whether it accepts.
 use Prim.Native.Nat.{ℕ}
 use mathlib.Core.Path.{_≡_}
 use mathlib.Core.Bool.{Bool}

@@ -1,4 +1,4 @@
--- What a reading of documents finds: the tests of 01, 03 and 06, and the totals.
+-- What one pass over documents finds at once: the tests of 01, 03 and 06, and the totals.
 use Prim.Native.Nat.{ℕ}
 use mathlib.Core.Bool.{true, _&&_}
 use mathlib.Core.List.{List}
