@@ -1,14 +1,9 @@
 -- What the answer of a call says: the paper's number, and what the call leaves.
 use Prim.Native.Nat.{ℕ}
 use mathlib.Core.List.{List}
-use Rattle.session.specs.declared.session.Session.{Session}
 use Rattle.session.specs.Running.{Running}
-use Rattle.session.specs.Outcome.{Held, Outcome, answerNumber}
+use Rattle.session.specs.Outcome.{held, Outcome, answerNumber}
 use Rattle.calls.specs.declared.called.Called.{Called}
-
--- what a call is lent
-abbrev pub held : Session → Running → (line : List ℕ) → Held
-held s t line = record { session = s; running = t; line = line }
 
 -- of a call that writes nothing, beside the running totals and the line buffer that it leaves
 abbrev pub calledSaid : Called → Running → (line : List ℕ) → Outcome

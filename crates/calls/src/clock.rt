@@ -13,7 +13,8 @@ ghost use Rattle.session.specs.Running.{Running};
 ghost use Rattle.session.specs.Hours.{atClose};
 ghost use Rattle.session.specs.Clock.{ticked, clock};
 ghost use Rattle.session.specs.Premise.{Sound, Kept};
-ghost use Rattle.calls.specs.Said.{held, calledSaid};
+ghost use Rattle.session.specs.Outcome.{held};
+ghost use Rattle.calls.specs.Said.{calledSaid};
 
 // The close after a call at this time: at the hour in order where both directions have ended, else forced; before it as it
 // was.

@@ -2,7 +2,7 @@
 use crate::sequence::lot_sequence;
 use codes::chain::or_else;
 use codes::chain::when;
-use codes::reply::Code;
+use codes::code::Code;
 use session::counters::OpenLot;
 use session::counters::Running;
 use session::counters::documents_in;
@@ -10,7 +10,7 @@ use session::limits::passes_lot;
 ghost use mathlib.Core.Path.{_≡_};
 ghost use Prim.Native.Nat.{_+_};
 ghost use Rattle.codes.specs.Chain.{_when_, _orelse_};
-ghost use Rattle.codes.specs.Reply.{codeNumber};
+ghost use Rattle.codes.specs.Code.{codeNumber};
 ghost use Rattle.session.specs.Limits.{passesLot};
 ghost use Rattle.session.specs.Running.{documentsIn};
 ghost use Rattle.session.specs.Sequence.{lotSequence};

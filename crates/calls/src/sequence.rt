@@ -2,13 +2,13 @@
 // is the one code of them all, a lot's own messages need not ask for the end.
 use codes::chain::or_else;
 use codes::chain::when;
-use codes::reply::Code;
+use codes::code::Code;
 use session::counters::OpenLot;
 use session::counters::Running;
 use session::counters::documents_in;
 ghost use mathlib.Core.Path.{_≡_};
-ghost use Rattle.codes.specs.Reply.{codeNumber};
-ghost use Rattle.session.specs.Sequence.{isOpen, isThis, headerSequence, lotSequence, lotTotalSequence, sessionTotalSequence};
+ghost use Rattle.codes.specs.Code.{codeNumber};
+ghost use Rattle.session.specs.Sequence.{isOpen, isOpenLot, headerSequence, lotSequence, lotTotalSequence, sessionTotalSequence};
 
 // Whether a lot is open.
 fn is_open(lot: OpenLot) -> bool
@@ -21,8 +21,8 @@ fn is_open(lot: OpenLot) -> bool
 }
 
 // Whether the lot of this number is open.
-fn is_this(number: u16, lot: OpenLot) -> bool
-    ensures { λ r. ⌜ r ≡ isThis number lot ⌝ }
+fn is_open_lot(number: u16, lot: OpenLot) -> bool
+    ensures { λ r. ⌜ r ≡ isOpenLot number lot ⌝ }
 {
     match lot {
         OpenLot::None => false,
@@ -51,7 +51,7 @@ pub fn lot_total_sequence(ended: bool, number: u16, lot: OpenLot, running: Runni
     ensures { λ c. ⌜ codeNumber c ≡ lotTotalSequence ended number lot running ⌝ }
 {
     or_else(
-        when(Code::WrongSequence, !is_this(number, lot)),
+        when(Code::WrongSequence, !is_open_lot(number, lot)),
         when(Code::WrongSequence, documents_in(running) == 0),
     )
 }

@@ -7,7 +7,8 @@ use session::hours::within_hours;
 use session::session::Answer;
 use session::session::Close;
 ghost use mathlib.Core.Path.{_≡_};
-ghost use Rattle.session.specs.Outcome.{answerNumber, isClosed, clockRefusal, timeRefusal};
+ghost use Rattle.session.specs.Outcome.{answerNumber};
+ghost use Rattle.session.specs.Time.{isClosed, clockRefusal, timeRefusal};
 
 // Whether the session was closed, in whatever way.
 fn is_closed(close: Close) -> bool

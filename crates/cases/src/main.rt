@@ -9,7 +9,7 @@ use centre::end::begun;
 use lent::example::receive_with_local;
 use session::session::Close;
 use session::session::Session;
-ghost use Rattle.session.specs.Claim.{Ready};
+ghost use Rattle.session.specs.Engine.{Ready};
 ghost use Rattle.centre.specs.Turn.{engineOf};
 
 fn print_text(words: &[u8]) {

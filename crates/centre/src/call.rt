@@ -18,12 +18,11 @@ use receiving::receive::receive;
 ghost use mathlib.Core.Path.{_≡_};
 ghost use mathlib.Core.List.{List};
 ghost use Prim.Native.Nat.{ℕ};
-ghost use Rattle.session.specs.Engine.{Call};
-ghost use Rattle.session.specs.Claim.{Ready};
-ghost use Rattle.session.specs.Course.{Direction};
+ghost use Rattle.session.specs.Engine.{Call, Ready, performed, performedBy};
+ghost use Rattle.session.specs.Parties.{Direction};
 ghost use Rattle.session.specs.Premise.{Kept, KeptBeside};
 ghost use Rattle.presenting.specs.Said.{sendSaid};
-ghost use Rattle.centre.specs.Turn.{engineOf, turnOf, turned, callOf, turnedBy};
+ghost use Rattle.centre.specs.Turn.{engineOf, turnOf, callOf};
 
 // A call by its kind and its numbers. The documents of a detail, the message that is received and the reply that is taken
 // stand in a slice beside it.
@@ -41,7 +40,7 @@ pub enum Order {
 fn sent(c: Centre, outcome: SendOutcome) -> Turn
     requires { ⌜ Ready (engineOf c) ⌝ }
     requires { ⌜ Kept (c .session) (outcome .session) ⌝ }
-    ensures outcome { λ r. ⌜ ((line : List ℕ) → turnOf r line ≡ turnedBy Direction.presenting (sendSaid outcome (c .presenting) line) (engineOf c)) ⌝ }
+    ensures outcome { λ r. ⌜ ((line : List ℕ) → turnOf r line ≡ performedBy Direction.presenting (sendSaid outcome (c .presenting) line) (engineOf c)) ⌝ }
     ensures premise { λ r. ⌜ Ready (engineOf (r .centre)) ⌝ }
 {
     let answer = outcome.answer;
@@ -57,7 +56,7 @@ fn sent(c: Centre, outcome: SendOutcome) -> Turn
 fn sent_beside(c: Centre, outcome: SendOutcome) -> Turn
     requires { ⌜ Ready (engineOf c) ⌝ }
     requires { ⌜ KeptBeside Direction.presenting (c .session) (outcome .session) (c .presenting) ⌝ }
-    ensures outcome { λ r. ⌜ ((line : List ℕ) → turnOf r line ≡ turnedBy Direction.presenting (sendSaid outcome (c .presenting) line) (engineOf c)) ⌝ }
+    ensures outcome { λ r. ⌜ ((line : List ℕ) → turnOf r line ≡ performedBy Direction.presenting (sendSaid outcome (c .presenting) line) (engineOf c)) ⌝ }
     ensures premise { λ r. ⌜ Ready (engineOf (r .centre)) ⌝ }
 {
     let answer = outcome.answer;
@@ -79,7 +78,7 @@ pub fn header_call(
     line: &mut [u8],
 ) -> Turn
     requires { ⌜ Ready (engineOf c) ⌝ }
-    ensures outcome { λ r. ⌜ turnOf r (now (line .exit)) ≡ turned (Call.header time moment office number) (now (line .entry)) (engineOf c) ⌝ }
+    ensures outcome { λ r. ⌜ turnOf r (now (line .exit)) ≡ performed (Call.header time moment office number) (now (line .entry)) (engineOf c) ⌝ }
     ensures premise { λ r. ⌜ Ready (engineOf (r .centre)) ⌝ }
 {
     let session = c.session;
@@ -88,7 +87,7 @@ pub fn header_call(
 
 pub fn detail_call(c: Centre, time: u32, operation: u8, part: &[u8], line: &mut [u8]) -> Turn
     requires { ⌜ Ready (engineOf c) ⌝ }
-    ensures outcome { λ r. ⌜ turnOf r (now (line .exit)) ≡ turned (Call.detail time operation (now (part .entry))) (now (line .entry)) (engineOf c) ⌝ }
+    ensures outcome { λ r. ⌜ turnOf r (now (line .exit)) ≡ performed (Call.detail time operation (now (part .entry))) (now (line .entry)) (engineOf c) ⌝ }
     ensures premise { λ r. ⌜ Ready (engineOf (r .centre)) ⌝ }
 {
     let session = c.session;
@@ -101,7 +100,7 @@ pub fn detail_call(c: Centre, time: u32, operation: u8, part: &[u8], line: &mut 
 
 pub fn lot_total_call(c: Centre, time: u32, line: &mut [u8]) -> Turn
     requires { ⌜ Ready (engineOf c) ⌝ }
-    ensures outcome { λ r. ⌜ turnOf r (now (line .exit)) ≡ turned (Call.lotTotal time) (now (line .entry)) (engineOf c) ⌝ }
+    ensures outcome { λ r. ⌜ turnOf r (now (line .exit)) ≡ performed (Call.lotTotal time) (now (line .entry)) (engineOf c) ⌝ }
     ensures premise { λ r. ⌜ Ready (engineOf (r .centre)) ⌝ }
 {
     let session = c.session;
@@ -111,7 +110,7 @@ pub fn lot_total_call(c: Centre, time: u32, line: &mut [u8]) -> Turn
 
 pub fn session_total_call(c: Centre, time: u32, line: &mut [u8]) -> Turn
     requires { ⌜ Ready (engineOf c) ⌝ }
-    ensures outcome { λ r. ⌜ turnOf r (now (line .exit)) ≡ turned (Call.sessionTotal time) (now (line .entry)) (engineOf c) ⌝ }
+    ensures outcome { λ r. ⌜ turnOf r (now (line .exit)) ≡ performed (Call.sessionTotal time) (now (line .entry)) (engineOf c) ⌝ }
     ensures premise { λ r. ⌜ Ready (engineOf (r .centre)) ⌝ }
 {
     let session = c.session;
@@ -120,7 +119,7 @@ pub fn session_total_call(c: Centre, time: u32, line: &mut [u8]) -> Turn
 
 pub fn receive_call(c: Centre, time: u32, message: &[u8], line: &mut [u8]) -> Turn
     requires { ⌜ Ready (engineOf c) ⌝ }
-    ensures outcome { λ r. ⌜ turnOf r (now (line .exit)) ≡ turned (Call.receive time (now (message .entry))) (now (line .entry)) (engineOf c) ⌝ }
+    ensures outcome { λ r. ⌜ turnOf r (now (line .exit)) ≡ performed (Call.receive time (now (message .entry))) (now (line .entry)) (engineOf c) ⌝ }
     ensures premise { λ r. ⌜ Ready (engineOf (r .centre)) ⌝ }
 {
     let session = c.session;
@@ -139,7 +138,7 @@ pub fn receive_call(c: Centre, time: u32, message: &[u8], line: &mut [u8]) -> Tu
 
 pub fn reply_call(c: Centre, time: u32, reply: &[u8]) -> Turn
     requires { ⌜ Ready (engineOf c) ⌝ }
-    ensures outcome { λ r. ⌜ ((line : List ℕ) → turnOf r line ≡ turned (Call.reply time (now (reply .entry))) line (engineOf c)) ⌝ }
+    ensures outcome { λ r. ⌜ ((line : List ℕ) → turnOf r line ≡ performed (Call.reply time (now (reply .entry))) line (engineOf c)) ⌝ }
     ensures premise { λ r. ⌜ Ready (engineOf (r .centre)) ⌝ }
 {
     let session = c.session;
@@ -158,7 +157,7 @@ pub fn reply_call(c: Centre, time: u32, reply: &[u8]) -> Turn
 
 pub fn clock_call(c: Centre, time: u32) -> Turn
     requires { ⌜ Ready (engineOf c) ⌝ }
-    ensures outcome { λ r. ⌜ ((line : List ℕ) → turnOf r line ≡ turned (Call.clock time) line (engineOf c)) ⌝ }
+    ensures outcome { λ r. ⌜ ((line : List ℕ) → turnOf r line ≡ performed (Call.clock time) line (engineOf c)) ⌝ }
     ensures premise { λ r. ⌜ Ready (engineOf (r .centre)) ⌝ }
 {
     let session = c.session;
@@ -175,7 +174,7 @@ pub fn clock_call(c: Centre, time: u32) -> Turn
 // Any of them.
 pub fn perform(c: Centre, order: Order, bytes: &[u8], line: &mut [u8]) -> Turn
     requires { ⌜ Ready (engineOf c) ⌝ }
-    ensures outcome { λ r. ⌜ turnOf r (now (line .exit)) ≡ turned (callOf order (now (bytes .entry))) (now (line .entry)) (engineOf c) ⌝ }
+    ensures outcome { λ r. ⌜ turnOf r (now (line .exit)) ≡ performed (callOf order (now (bytes .entry))) (now (line .entry)) (engineOf c) ⌝ }
     ensures premise { λ r. ⌜ Ready (engineOf (r .centre)) ⌝ }
 {
     match order {

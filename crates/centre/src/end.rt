@@ -3,10 +3,9 @@ use session::counters::Running;
 use session::counters::empty;
 use session::session::Session;
 ghost use mathlib.Core.Path.{_≡_};
-ghost use Rattle.session.specs.Engine.{withEmpty};
-ghost use Rattle.session.specs.Claim.{Ready};
-ghost use Rattle.session.specs.Course.{Direction};
-ghost use Rattle.session.specs.Premise.{Begun, Kept, KeptBeside};
+ghost use Rattle.session.specs.Engine.{withEmpty, Ready};
+ghost use Rattle.session.specs.Parties.{Direction};
+ghost use Rattle.session.specs.Premise.{Kept, KeptBeside};
 ghost use Rattle.centre.specs.Turn.{engineOf};
 
 // A session, and the running totals of the lots that are open in it, presented and received.
@@ -18,7 +17,7 @@ pub struct Centre {
 
 // A centre whose session has just been started.
 pub fn begun(session: Session) -> Centre
-    requires { ⌜ Begun session ⌝ }
+    requires { ⌜ Ready (withEmpty session) ⌝ }
     ensures outcome { λ r. ⌜ engineOf r ≡ withEmpty session ⌝ }
     ensures premise { λ r. ⌜ Ready (engineOf r) ⌝ }
 {

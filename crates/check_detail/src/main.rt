@@ -1,7 +1,17 @@
-// The check program (01, 'The check program'): takes the bytes of a detail's body from standard input, as entity 0072 would
-// receive them that represents nobody, and prints the code in two digits and the three totals.
+// The check program (01, 'The check program'): takes the bytes of a detail's body from standard input, and prints the code
+// in two digits and the three totals.
 use detail::checked::Checked;
 use detail::checked::line_check_detail;
+ghost use mathlib.Core.Path.{_≡_};
+ghost use Rattle.detail.specs.Checked.{programChecked};
+
+// The check of a body, for entity 0072 with nobody represented.
+fn checked(body: &[u8]) -> Checked
+    ensures { λ r. ⌜ r ≡ programChecked (now (body .entry)) ⌝ }
+{
+    let nobody = [0u16; 1];
+    line_check_detail(body, 72, &nobody[..0])
+}
 
 fn print(c: Checked) {
     if c.code < 10 {
@@ -21,6 +31,5 @@ fn print(c: Checked) {
 fn main() {
     let mut input = io::large_buffer();
     let n = io::read_full(0, &mut input);
-    let nobody = [0u16; 1];
-    print(line_check_detail(&input[..n], 72, &nobody[..0]));
+    print(checked(&input[..n]));
 }

@@ -4,7 +4,7 @@ use mathlib.Core.List.{List, _∷_}
 use lib.ListN.{drop}
 use Rattle.packed.specs.Part.{byteAt}
 
--- byte 1, as it is written
+-- byte 1 is free: unread, written 00
 abbrev pub free : ℕ
 free = 0x00
 
@@ -12,7 +12,7 @@ free = 0x00
 abbrev pub mark : ℕ
 mark = 0x51
 
--- byte 3, of a body and of a group; 0 where there is none
+-- byte 3, which alone says what a body is; 0, which is no operation, where there is none
 abbrev pub operationOf : List ℕ → ℕ
 operationOf body = byteAt 3 body
 
@@ -20,6 +20,6 @@ operationOf body = byteAt 3 body
 abbrev pub cleared : List ℕ → List ℕ
 cleared body = free ∷ drop 1 body
 
--- the most bytes of a body
+-- 'Envelope': the most bytes of a body
 abbrev pub longestBody : ℕ
 longestBody = 10400

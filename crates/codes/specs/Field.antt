@@ -8,8 +8,6 @@ use Rattle.packed.specs.Every.{every}
 use Rattle.packed.specs.Digits.{areDigits}
 use Rattle.packed.specs.Number.{number}
 use Rattle.packed.specs.Writing.{packedBytes}
-use Rattle.codes.specs.declared.reply.Code.{Code}
-use Rattle.codes.specs.Reply.{codeNumber}
 
 -- a row of a table
 pub record Field : Type 0 where
@@ -18,14 +16,15 @@ pub record Field : Type 0 where
   pub code : ℕ  -- what a fault in it earns
   pub rule : ℕ → Bool  -- the values that it takes
 
--- a field with no stated range
+-- 'A field with no stated range takes any digits'
 abbrev pub any : ℕ → Bool
 any v = true
 
--- a field with a range, and one with a single value
+-- a field with a range
 abbrev pub between : (least most v : ℕ) → Bool
 between least most v = leb least v && leb v most
 
+-- a field with one value
 abbrev pub exactly : (wanted v : ℕ) → Bool
 exactly wanted v = eqb v wanted
 
@@ -35,32 +34,33 @@ row c p w rule = record { position = p; width = w; code = c; rule = rule }
 
 -- a field with a rule, whose fault is 01
 abbrev pub field : (position width : ℕ) → (ℕ → Bool) → Field
-field p w rule = row (codeNumber Code.WrongField) p w rule
+field p w rule = row 1 p w rule
 
--- a nominal or a commission, whose fault is 03
+-- a nominal or a commission: a non-digit in it is 03, and any value is good
 abbrev pub amount : (position width : ℕ) → Field
-amount p w = row (codeNumber Code.WrongAmount) p w any
+amount p w = row 3 p w any
 
--- bytes that nobody reads, and any of which are accepted
+-- bytes that nobody reads: the key
 abbrev pub unread : (position width : ℕ) → Field
-unread p w = row (codeNumber Code.Accepted) p w any
+unread p w = row 0 p w any
 
 -- the bytes at a printed position, in a layout whose first byte has the position `first`
-abbrev pub printed : (first position width : ℕ) → List ℕ → List ℕ
-printed first position width s = part (position - first) width s
+abbrev pub bytesAt : (first position width : ℕ) → List ℕ → List ℕ
+bytesAt first position width s = part (position - first) width s
 
 -- the number that it holds
 abbrev pub fieldNumber : (first : ℕ) → List ℕ → Field → ℕ
-fieldNumber first s f = number (printed first (f .position) (f .width) s)
+fieldNumber first s f = number (bytesAt first (f .position) (f .width) s)
 
 -- digits throughout
 abbrev pub fieldDigits : (first : ℕ) → List ℕ → Field → Bool
-fieldDigits first s f = areDigits (printed first (f .position) (f .width) s)
+fieldDigits first s f = areDigits (bytesAt first (f .position) (f .width) s)
 
 -- a value that the field takes
 abbrev pub fieldValue : (first : ℕ) → List ℕ → Field → Bool
 fieldValue first s f = f .rule (fieldNumber first s f)
 
+-- both
 abbrev pub fieldGood : (first : ℕ) → List ℕ → Field → Bool
 fieldGood first s f = fieldDigits first s f && fieldValue first s f
 

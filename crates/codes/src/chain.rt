@@ -1,10 +1,10 @@
 // A chain of codes, read from the left: the first that applies is the code of a message.
-use crate::reply::Code;
-use crate::reply::code_number;
+use crate::code::Code;
+use crate::code::code_number;
 ghost use mathlib.Core.Path.{_≡_};
 ghost use lib.Dec.{eqb};
 ghost use Rattle.codes.specs.Chain.{_when_, _orelse_};
-ghost use Rattle.codes.specs.Reply.{codeNumber};
+ghost use Rattle.codes.specs.Code.{codeNumber};
 
 // Whether a message of this code is accepted.
 pub fn is_accepted(c: Code) -> bool

@@ -5,5 +5,5 @@
 
 pub mod body;
 pub mod chain;
+pub mod code;
 pub mod refusal;
-pub mod reply;

@@ -1,25 +1,24 @@
 -- 01, 'Order, first that applies': the codes of a detail that its bytes decide, each over the whole message.
-use Prim.Native.Nat.{ℕ, _/_, _%_}
+use Prim.Native.Nat.{ℕ}
 use mathlib.Core.Bool.{Bool, not, _&&_, _||_, cond}
 use mathlib.Core.List.{List}
 use lib.Dec.{eqb}
-use lib.ListN.{length}
 use Rattle.packed.specs.Every.{every}
-use Rattle.packed.specs.Pieces.{pieces}
 use Rattle.packed.specs.Writing.{packedByte}
 use Rattle.amounts.specs.declared.Totals.{Totals}
-use Rattle.amounts.specs.Totals.{zeros}
 use Rattle.codes.specs.Chain.{_when_, _orelse_}
 use Rattle.codes.specs.Field.{between}
 use Rattle.codes.specs.Body.{operationOf}
-use Rattle.document.specs.Limits.{documentBytes, mostDocuments}
+use Rattle.document.specs.Limits.{mostDetailDocuments}
 use Rattle.document.specs.Operation.{presentedNumber, returnedNumber}
 use Rattle.document.specs.Fields.{fieldsGood, amountsGood}
 use Rattle.document.specs.Drawee.{draweeServed}
 use Rattle.document.specs.Amounts.{totalsOf}
 use Rattle.detail.specs.Groups.{shapeGood, oneOperation, documents}
+use Rattle.document.specs.Part.{isWhole, countIn, documentsOf}
+use Rattle.amounts.specs.Totals.{zeros}
 
--- the receiver's, at the entity own with some represented
+-- the receiver's, at the entity own with some represented: 01 for shape, 09, 01 for fields, 03, 06
 unfoldable pub receiverCode : (own : ℕ) (represented body : List ℕ) → ℕ
 receiverCode own represented body =
     1 when not (shapeGood body)
@@ -28,21 +27,18 @@ receiverCode own represented body =
     orelse 3 when not (every (amountsGood (operationOf body) own) (documents body))
     orelse 6 when not (every (draweeServed (operationOf body) own represented) (documents body))
 
--- 01, 'Trays', what a detail may be sent from: the operation as a plain number, and documents that are whole and neither none nor too many
+-- 'Trays': what a detail may be sent from, an operation, 30 or 40, and a part of 1 to 200 whole documents
 unfoldable pub sendable : (operation : ℕ) (part : List ℕ) → Bool
 sendable operation part =
-    (eqb operation presentedNumber || eqb operation returnedNumber) && eqb (length part % documentBytes) 0 && between 1 mostDocuments (length part / documentBytes)
+    (eqb operation presentedNumber || eqb operation returnedNumber) && isWhole part && between 1 mostDetailDocuments (countIn part)
 
--- the presenter's, for a part that is to go to the entity partner: the same tests without 06, over the operation's byte
+-- the presenter's, for a part that is to go to the entity partner; a presenter never applies 06 to itself
 unfoldable pub presenterCode : (operation partner : ℕ) (part : List ℕ) → ℕ
 presenterCode operation partner part =
     1 when not (sendable operation part)
-    orelse 1 when not (every (fieldsGood (packedByte operation) partner) (pieces documentBytes part))
-    orelse 3 when not (every (amountsGood (packedByte operation) partner) (pieces documentBytes part))
+    orelse 1 when not (every (fieldsGood (packedByte operation) partner) (documentsOf part))
+    orelse 3 when not (every (amountsGood (packedByte operation) partner) (documentsOf part))
 
--- the totals where a code accepts, else none
-abbrev pub ifAccepted : (code : ℕ) → Totals → Totals
-ifAccepted code t = cond (eqb code 0) t zeros
-
+-- 'The check program': the totals, 0 0 0 where a code refuses the documents
 abbrev pub acceptedTotals : (code : ℕ) → List (List ℕ) → Totals
-acceptedTotals code ds = ifAccepted code (totalsOf ds)
+acceptedTotals code ds = cond (eqb code 0) (totalsOf ds) zeros

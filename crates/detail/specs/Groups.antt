@@ -12,11 +12,14 @@ use Rattle.codes.specs.Body.{mark, operationOf}
 use Rattle.document.specs.Limits.{documentBytes}
 use Rattle.document.specs.Operation.{isOperation}
 use Rattle.detail.specs.Limits.{headBytes, fullCount, mostGroups, groupBytes}
+use Rattle.document.specs.Part.{documentsOf}
 
--- each group but the last is full, so the groups of a body are its pieces of that width; the law `full-but-last` says it of the counts
+-- 'Each count is 4, the last may be 1 to 4': the pieces of a full group's length, the last with what is left; the law `full-but-last` says it of
+-- the counts
 unfoldable pub groups : List ℕ → List (List ℕ)
 groups body = pieces groupBytes body
 
+-- byte 4 of a group
 abbrev pub countOf : List ℕ → ℕ
 countOf g = byteAt 4 g
 
@@ -29,13 +32,14 @@ groupGood g =
 unfoldable pub shapeGood : List ℕ → Bool
 shapeGood body = between 1 mostGroups (length (groups body)) && every groupGood (groups body)
 
--- no group has another operation than the first
+-- 09 otherwise: no later group has another operation than the first
 unfoldable pub oneOperation : List ℕ → Bool
 oneOperation body = every (λ (g : List ℕ). eqb (operationOf g) (operationOf body)) (groups body)
 
--- the documents of a group, and those of a body in order
+-- the documents of a group
 abbrev pub groupDocuments : List ℕ → List (List ℕ)
-groupDocuments g = pieces documentBytes (drop headBytes g)
+groupDocuments g = documentsOf (drop headBytes g)
 
+-- and those of a body, in order
 unfoldable pub documents : List ℕ → List (List ℕ)
 documents body = flatMap groupDocuments (groups body)

@@ -3,5 +3,6 @@ pub mod Limits
 pub mod Groups
 pub mod Codes
 pub mod Writing
+pub mod RoundTrip
 pub mod Checked
 pub mod Inner

@@ -6,16 +6,18 @@ use Rattle.document.specs.Limits.{documentBytes}
 abbrev pub headBytes : ℕ
 headBytes = 4
 
--- the documents of a full group, and the groups of a body, at most
+-- the documents of a full group
 abbrev pub fullCount : ℕ
 fullCount = 4
 
+-- the most groups of a body
 abbrev pub mostGroups : ℕ
 mostGroups = 50
 
--- the bytes of a full group's documents, and with the head of the whole group
+-- the bytes of a full group without its head
 abbrev pub fillBytes : ℕ
 fillBytes = fullCount * documentBytes
 
+-- and with its head
 abbrev pub groupBytes : ℕ
 groupBytes = headBytes + fillBytes

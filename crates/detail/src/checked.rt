@@ -1,8 +1,8 @@
 // The detail check for C: bytes and numbers in, numbers out. include/line.h says how it is called.
 use crate::reading::read_detail;
+use codes::code::code_number;
 use codes::refusal::Refusal;
 use codes::refusal::refusal_number;
-use codes::reply::code_number;
 use document::entities::entities_good;
 ghost use mathlib.Core.Path.{_≡_};
 ghost use Rattle.detail.specs.Checked.{checked};

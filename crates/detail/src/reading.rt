@@ -7,15 +7,15 @@ use crate::verdict::judge;
 use crate::verdict::refused;
 use codes::body::LONGEST_BODY;
 use codes::body::operation_of;
-use codes::reply::Code;
+use codes::code::Code;
 use document::DOCUMENT_BYTES;
-use document::MOST_DOCUMENTS;
+use document::MOST_DETAIL_DOCUMENTS;
 use document::PRESENTED_NUMBER;
 use document::RETURNED_NUMBER;
 use packed::writing::packed_byte;
 ghost use mathlib.Core.Path.{_≡_};
 ghost use Rattle.packed.specs.Pieces.{pieces};
-ghost use Rattle.codes.specs.Reply.{codeNumber};
+ghost use Rattle.codes.specs.Code.{codeNumber};
 ghost use Rattle.document.specs.Limits.{documentBytes};
 ghost use Rattle.detail.specs.Groups.{documents};
 ghost use Rattle.detail.specs.Codes.{receiverCode, presenterCode, sendable, acceptedTotals};
@@ -47,7 +47,7 @@ pub fn sendable(operation: u8, part: &[u8]) -> bool
     let documents = part.len() / DOCUMENT_BYTES;
     ((operation == PRESENTED_NUMBER) | (operation == RETURNED_NUMBER))
         & (part.len() % DOCUMENT_BYTES == 0)
-        & ((1 <= documents) & (documents <= MOST_DOCUMENTS))
+        & ((1 <= documents) & (documents <= MOST_DETAIL_DOCUMENTS))
 }
 
 // A part that is to be sent, with the operation's plain number. What was found of drawees is left aside.

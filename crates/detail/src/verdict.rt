@@ -1,11 +1,10 @@
 // What is decided on a detail: a code, and the totals where the code accepts.
 use amounts::Totals;
-use codes::reply::Code;
+use codes::code::Code;
 ghost use mathlib.Core.Path.{_≡_};
 ghost use Rattle.amounts.specs.Totals.{zeros};
-ghost use Rattle.codes.specs.Reply.{codeNumber};
-ghost use Rattle.detail.specs.Inner.Verdict.{judged};
-ghost use Rattle.detail.specs.Codes.{ifAccepted};
+ghost use Rattle.codes.specs.Code.{codeNumber};
+ghost use Rattle.detail.specs.Inner.Verdict.{judged, ifAccepted};
 
 pub struct Verdict {
     pub code: Code,

@@ -3,7 +3,7 @@ use crate::groups::FULL_COUNT;
 use crate::groups::HEAD_BYTES;
 use codes::body::MARK;
 use document::DOCUMENT_BYTES;
-use document::MOST_DOCUMENTS;
+use document::MOST_DETAIL_DOCUMENTS;
 use packed::pieces::piece_at;
 use packed::writing::copy;
 ghost use mathlib.Core.Path.{_≡_};
@@ -13,18 +13,18 @@ ghost use lib.Seq.{sets};
 ghost use Rattle.codes.specs.Body.{longestBody};
 ghost use Rattle.detail.specs.Limits.{headBytes, fillBytes};
 ghost use Rattle.detail.specs.Inner.Part.{longestPart};
-ghost use Rattle.detail.specs.Writing.{writtenGroup, written};
+ghost use Rattle.detail.specs.Writing.{writtenGroup, writtenDetail};
 
 // The bytes of a full group's documents.
 const FILL_BYTES: usize = FULL_COUNT * DOCUMENT_BYTES;
 
 // The bytes of the most documents of a detail.
-pub const LONGEST_PART: usize = MOST_DOCUMENTS * DOCUMENT_BYTES;
+pub const LONGEST_PART: usize = MOST_DETAIL_DOCUMENTS * DOCUMENT_BYTES;
 
 // How long a body written from a part is: the part, and a head for each group that it begins. A part that is too long for
 // any detail is never written, and 0 stands for its length.
 pub fn written_bytes(part: &[u8]) -> usize
-    ensures length { λ r. ⌜ (length (now (part .entry)) ≤ longestPart → (operation : ℕ) → r ≡ length (written operation (now (part .entry)))) ⌝ }
+    ensures length { λ r. ⌜ (length (now (part .entry)) ≤ longestPart → (operation : ℕ) → r ≡ length (writtenDetail operation (now (part .entry)))) ⌝ }
     ensures bound { λ r. ⌜ r ≤ longestBody ⌝ }
 {
     if LONGEST_PART < part.len() {
@@ -49,9 +49,9 @@ fn write_group(out: &mut [u8], to: usize, operation_byte: u8, documents: &[u8])
 // Writes a body from the operation byte and the part at the start of `out`, and answers its length; every other byte keeps
 // its value.
 pub fn write_detail(out: &mut [u8], operation_byte: u8, part: &[u8]) -> usize
-    requires { ⌜ length (written «operation_byte» (now part)) ≤ length (now out) ⌝ }
-    ensures length { λ r. ⌜ r ≡ length (written «operation_byte» (now (part .entry))) ⌝ }
-    ensures bytes { λ _. ⌜ now (out .exit) ≡ sets (now (out .entry)) 0 (written «operation_byte» (now (part .entry))) ⌝ }
+    requires { ⌜ length (writtenDetail «operation_byte» (now part)) ≤ length (now out) ⌝ }
+    ensures length { λ r. ⌜ r ≡ length (writtenDetail «operation_byte» (now (part .entry))) ⌝ }
+    ensures bytes { λ _. ⌜ now (out .exit) ≡ sets (now (out .entry)) 0 (writtenDetail «operation_byte» (now (part .entry))) ⌝ }
 {
     let mut to: usize = 0;
     let mut at: usize = 0;

@@ -6,16 +6,19 @@ use Rattle.amounts.specs.declared.Totals.{Totals}
 use Rattle.amounts.specs.Totals.{totals, zeros, plus}
 use Rattle.document.specs.Fields.{firstPosition, nominalField, commissionField}
 
+-- positions 30-35
 unfoldable pub nominal : List ℕ → ℕ
 nominal d = fieldNumber firstPosition d nominalField
 
+-- positions 48-51
 unfoldable pub commission : List ℕ → ℕ
 commission d = fieldNumber firstPosition d commissionField
 
--- the totals of one document, and of some
+-- the totals of one document
 abbrev pub documentTotals : List ℕ → Totals
 documentTotals d = totals 1 (nominal d) (commission d)
 
+-- and of some
 unfoldable pub totalsOf : List (List ℕ) → Totals
 totalsOf [] = zeros
 totalsOf (d ∷ ds) = plus (documentTotals d) (totalsOf ds)

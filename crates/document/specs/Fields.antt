@@ -3,15 +3,13 @@ use Prim.Native.Nat.{ℕ}
 use mathlib.Core.Bool.{Bool}
 use mathlib.Core.List.{List, [], _∷_}
 use Rattle.codes.specs.Field.{Field, field, amount, unread, any, exactly, tableGood}
-use Rattle.codes.specs.Reply.{codeNumber}
-use Rattle.codes.specs.declared.reply.Code.{Code}
 use Rattle.document.specs.Rules.{identification, dayAndMonth, province, truncation, keyOrReason}
 
 -- the printed position of a document's first byte
 abbrev pub firstPosition : ℕ
 firstPosition = 5
 
--- the fields that other definitions read
+-- the fields that other definitions read: 06 the drawee, the totals the two amounts
 abbrev pub draweeField : Field
 draweeField = field 36 2 any
 
@@ -46,8 +44,8 @@ documentFields operation receiving =
 
 -- no fault that earns 01
 unfoldable pub fieldsGood : (operation receiving : ℕ) → List ℕ → Bool
-fieldsGood operation receiving d = tableGood firstPosition (codeNumber Code.WrongField) (documentFields operation receiving) d
+fieldsGood operation receiving d = tableGood firstPosition 1 (documentFields operation receiving) d
 
 -- no fault that earns 03
 unfoldable pub amountsGood : (operation receiving : ℕ) → List ℕ → Bool
-amountsGood operation receiving d = tableGood firstPosition (codeNumber Code.WrongAmount) (documentFields operation receiving) d
+amountsGood operation receiving d = tableGood firstPosition 3 (documentFields operation receiving) d

@@ -1,4 +1,4 @@
--- What functions inside the crate are held to, and no definition outside this folder uses.
+-- What functions below the calls are held to: no sentence of 01, and used by no definition outside such folders.
 pub mod Values
 pub mod Bounds
 pub mod Found

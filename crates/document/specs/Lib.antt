@@ -1,5 +1,6 @@
 -- The meaning of one document (01, 'Detail').
 pub mod Limits
+pub mod Part
 pub mod Operation
 pub mod Rules
 pub mod Fields

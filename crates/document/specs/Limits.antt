@@ -1,13 +1,13 @@
--- 01's limits on documents, their amounts, and entities.
+-- 01, 'Detail', 'Trays' and 'Centres and directions': the limits of documents and entities.
 use Prim.Native.Nat.{ℕ}
 
 -- the bytes of a document
 abbrev pub documentBytes : ℕ
 documentBytes = 51
 
--- the most documents of a detail
-abbrev pub mostDocuments : ℕ
-mostDocuments = 200
+-- the most documents of a detail: 50 groups of 4
+abbrev pub mostDetailDocuments : ℕ
+mostDetailDocuments = 200
 
 -- the largest entity code
 abbrev pub largestEntity : ℕ
@@ -17,9 +17,10 @@ largestEntity = 9999
 abbrev pub mostRepresented : ℕ
 mostRepresented = 8
 
--- the largest nominal and the largest commission of a document, by their widths
+-- the largest nominal that the digits of a document say
 abbrev pub largestNominal : ℕ
 largestNominal = 999999999999
 
+-- of a commission
 abbrev pub largestCommission : ℕ
 largestCommission = 99999999

@@ -7,6 +7,7 @@ use lib.Dec.{eqb}
 abbrev pub presented : ℕ
 presented = 0x30
 
+-- as a caller says it
 abbrev pub presentedNumber : ℕ
 presentedNumber = 30
 
@@ -14,6 +15,7 @@ presentedNumber = 30
 abbrev pub returned : ℕ
 returned = 0x40
 
+-- as a caller says it
 abbrev pub returnedNumber : ℕ
 returnedNumber = 40
 

@@ -31,6 +31,6 @@ truncation v = between 1 2 v
 abbrev pub reason : ℕ → Bool
 reason v = between 1 49 v || between 51 99 v
 
--- which of the two stands there is told by the operation; a tariff key may be any
+-- positions 46-47: a return's reason, else a tariff key of any digits
 abbrev pub keyOrReason : (operation v : ℕ) → Bool
 keyOrReason operation v = cond (eqb operation returned) (reason v) (any v)

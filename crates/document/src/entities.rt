@@ -1,6 +1,7 @@
 // Entities, and the limits on those that a centre stands for.
 ghost use mathlib.Core.Path.{_≡_};
-ghost use Rattle.document.specs.Entities.{entitiesGood, member};
+ghost use Rattle.packed.specs.Every.{member};
+ghost use Rattle.document.specs.Entities.{entitiesGood};
 
 // The largest entity code.
 pub const LARGEST_ENTITY: u16 = 9999;

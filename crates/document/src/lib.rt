@@ -20,7 +20,7 @@ pub const RETURNED_NUMBER: u8 = 40;
 // The bytes of a document, and the most documents of a detail.
 pub const DOCUMENT_BYTES: usize = 51;
 
-pub const MOST_DOCUMENTS: usize = 200;
+pub const MOST_DETAIL_DOCUMENTS: usize = 200;
 
 // Where the fields stand that more than one test reads, and how wide the amounts are.
 pub const NOMINAL: usize = 25;

@@ -1,4 +1,4 @@
--- How the driver takes a direction to its end, round by round, all at the opening.
+-- The course that this driver takes, round by round, every call at the opening; 01 leaves it to the caller.
 use Prim.Native.Nat.{ℕ, zero, suc, _+_}
 use mathlib.Core.Path.{_≡_}
 use mathlib.Core.Bool.{true, _||_, cond}
@@ -13,7 +13,8 @@ use Rattle.centre.specs.Turn.{engineOf}
 use Rattle.exchange.specs.declared.cursors.Cursors.{Cursors}
 use Rattle.exchange.specs.declared.progress.Progress.{Progress}
 use Rattle.exchange.specs.declared.round.Round.{Round}
-use Rattle.exchange.specs.Cursors.{unmoved, within, partAt, documentsOf, nextOperation, moved, same}
+use Rattle.exchange.specs.Cursors.{unmoved, within, partAt, nextOperation, moved, same}
+use Rattle.document.specs.Part.{countIn}
 use Rattle.exchange.specs.Fixed.{moment, office, lotParts}
 use Rattle.exchange.specs.Round.{Rounded, rounded, BothReady}
 
@@ -49,8 +50,8 @@ unfoldable pub roundMade : Call → Ends → Ends
 roundMade call e = endsAfter (rounded call opening (e .message) (e .reply) (e .presenter) (e .receiver))
 
 -- the documents that the presenter has counted in its open lot
-abbrev pub counted : Ends → ℕ
-counted e = documentsIn (e .presenter .presenting)
+abbrev pub inOpenLot : Ends → ℕ
+inOpenLot e = documentsIn (e .presenter .presenting)
 
 -- the cursors go past a part where the count has changed
 abbrev pub pastPart : (presentations : List ℕ) (documents before after : ℕ) → Cursors → Cursors
@@ -60,11 +61,11 @@ pastPart presentations documents before after c = cond (eqb after before) c (mov
 unfoldable pub partSent : (presentations part : List ℕ) → Standing → Standing
 partSent presentations bytes s =
     let ends = roundMade (Call.detail opening (nextOperation presentations (s .cursors)) bytes) (s .ends) in
-    record { ends = ends; cursors = pastPart presentations (documentsOf bytes) (counted (s .ends)) (counted ends) (s .cursors) }
+    record { ends = ends; cursors = pastPart presentations (countIn bytes) (inOpenLot (s .ends)) (inOpenLot ends) (s .cursors) }
 
 -- it does if there is one and the open lot has room for it
 abbrev pub ifRoom : (presentations part : List ℕ) → Standing → Standing
-ifRoom presentations bytes s = cond (eqb (documentsOf bytes) 0 || passesLot (counted (s .ends) + documentsOf bytes)) s (partSent presentations bytes s)
+ifRoom presentations bytes s = cond (eqb (countIn bytes) 0 || passesLot (inOpenLot (s .ends) + countIn bytes)) s (partSent presentations bytes s)
 
 unfoldable pub detailSent : (presentations returns : List ℕ) → Standing → Standing
 detailSent presentations returns s = ifRoom presentations (partAt presentations returns (s .cursors)) s

@@ -1,12 +1,10 @@
 -- The cursors of an end's two trays (01, 'Trays': the caller moves them).
-use Prim.Native.Nat.{ℕ, _+_, _/_}
+use Prim.Native.Nat.{ℕ, _+_}
 use mathlib.Core.Bool.{Bool, _&&_, cond}
 use mathlib.Core.List.{List}
-use lib.Dec.{eqb, ltb}
-use lib.ListN.{length}
-use Rattle.document.specs.Limits.{documentBytes}
+use lib.Dec.{eqb}
 use Rattle.document.specs.Operation.{presentedNumber, returnedNumber}
-use Rattle.outgoing.specs.Outgoing.{count, bothGood, next}
+use Rattle.outgoing.specs.Outgoing.{bothGood, remain, next}
 use Rattle.exchange.specs.declared.cursors.Cursors.{Cursors}
 
 -- nothing is sent yet
@@ -17,16 +15,13 @@ unmoved = record { presentations = 0; returns = 0 }
 abbrev pub within : (presentations returns : List ℕ) → Cursors → Bool
 within presentations returns c = bothGood presentations returns (c .presentations) (c .returns)
 
--- the next part, and how many documents it has
+-- the next part
 abbrev pub partAt : (presentations returns : List ℕ) → Cursors → List ℕ
 partAt presentations returns c = next presentations returns (c .presentations) (c .returns)
 
-abbrev pub documentsOf : List ℕ → ℕ
-documentsOf bytes = length bytes / documentBytes
-
 -- it is one of the presentations
 abbrev pub presenting : (presentations : List ℕ) → Cursors → Bool
-presenting presentations c = ltb (c .presentations) (count presentations)
+presenting presentations c = remain presentations (c .presentations)
 
 abbrev pub nextOperation : (presentations : List ℕ) → Cursors → ℕ
 nextOperation presentations c = cond (presenting presentations c) presentedNumber returnedNumber

@@ -12,12 +12,12 @@ use Rattle.session.specs.declared.session.Close.{Close}
 use Rattle.session.specs.Hours.{close}
 use Rattle.session.specs.Start.{start}
 use Rattle.session.specs.Report.{report}
-use Rattle.session.specs.Engine.{Call, Engine, withEmpty}
-use Rattle.centre.specs.Turn.{turned}
+use Rattle.session.specs.Engine.{Call, Engine, withEmpty, performed}
 use Rattle.exchange.specs.declared.shown.Sums.{Sums}
 use Rattle.exchange.specs.declared.shown.Side.{Side}
 use Rattle.exchange.specs.declared.shown.Evening.{Evening}
-use Rattle.exchange.specs.Fixed.{date, near, far, messageRoom, replyRoom}
+use Rattle.message.specs.Limits.{messageRoom, replyRoom}
+use Rattle.exchange.specs.Fixed.{date, near, far}
 use Rattle.exchange.specs.Course.{Ends, bothDirections}
 
 -- a report in plain numbers; the close is 0 for open, 1 for in order, 2 for forced
@@ -40,7 +40,7 @@ noSide = record { presented = noSums; received = noSums; close = 0 }
 
 -- the report of an end after its clock call at the close, which uses no line buffer
 unfoldable pub closedSide : Engine → Side
-closedSide e = sideOf (report (turned (Call.clock close) [] e .engine .session))
+closedSide e = sideOf (report (performed (Call.clock close) [] e .engine .session))
 
 -- an end just started, with nobody represented
 abbrev pub startedEnd : (own partner : ℕ) → Engine

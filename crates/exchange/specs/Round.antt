@@ -4,10 +4,8 @@ use Prim.Native.Nat.{ℕ}
 use mathlib.Core.Bool.{cond}
 use mathlib.Core.List.{List, []}
 use lib.Dec.{eqb}
-use lib.ListN.{take}
-use Rattle.session.specs.Engine.{Call, Engine}
-use Rattle.session.specs.Claim.{Ready}
-use Rattle.centre.specs.Turn.{Turned, turned, engineOf}
+use Rattle.session.specs.Engine.{Call, Engine, Ready, Performed, performed, saidBy}
+use Rattle.centre.specs.Turn.{engineOf}
 use Rattle.exchange.specs.declared.round.Round.{Round}
 
 -- what became of a message on the line: both engines, the numbers of receiving and reply, and the reply buffer
@@ -24,36 +22,32 @@ pub record Rounded : Type 0 where
   pub message : List ℕ
   pub answer : Answered
 
--- the bytes that a call wrote, the first of its line buffer
-abbrev pub bytesOf : Turned → List ℕ
-bytesOf t = take (t .written) (t .line)
-
 -- the receiver has heard a message; where it refused, no reply call is made: that number is 0, and the presenter stays
-abbrev pub replyTo : (time : ℕ) (heard : Turned) (presenter : Engine) → Answered
+abbrev pub replyTo : (time : ℕ) (heard : Performed) (presenter : Engine) → Answered
 replyTo time heard presenter =
-    let told = turned (Call.reply time (bytesOf heard)) [] presenter in
+    let told = performed (Call.reply time (saidBy heard .bytes)) [] presenter in
     cond (eqb (heard .number) 0)
     (record { presenter = told .engine; receiver = heard .engine; received = heard .number; replied = told .number; reply = heard .line })
     (record { presenter = presenter; receiver = heard .engine; received = heard .number; replied = 0; reply = heard .line })
 
 -- some bytes reach the receiver, and its reply goes back
 unfoldable pub answered : (time : ℕ) (message reply : List ℕ) (presenter receiver : Engine) → Answered
-answered time message reply presenter receiver = replyTo time (turned (Call.receive time message) reply receiver) presenter
+answered time message reply presenter receiver = replyTo time (performed (Call.receive time message) reply receiver) presenter
 
 -- the presenter has made its call; where it was refused, nothing reaches the receiver: both numbers are 0, and all stays
-abbrev pub answerTo : (time : ℕ) (reply : List ℕ) (turn : Turned) (receiver : Engine) → Rounded
+abbrev pub answerTo : (time : ℕ) (reply : List ℕ) (turn : Performed) (receiver : Engine) → Rounded
 answerTo time reply turn receiver =
     record {
       sent = turn .number;
       message = turn .line;
       answer =
           cond (eqb (turn .number) 0)
-          (answered time (bytesOf turn) reply (turn .engine) receiver)
+          (answered time (saidBy turn .bytes) reply (turn .engine) receiver)
           (record { presenter = turn .engine; receiver = receiver; received = 0; replied = 0; reply = reply });
     }
 
 unfoldable pub rounded : (call : Call) (time : ℕ) (message reply : List ℕ) (presenter receiver : Engine) → Rounded
-rounded call time message reply presenter receiver = answerTo time reply (turned call message presenter) receiver
+rounded call time message reply presenter receiver = answerTo time reply (performed call message presenter) receiver
 
 -- what the code gives, beside the buffers that it leaves
 abbrev pub answerOf : Round → (reply : List ℕ) → Answered

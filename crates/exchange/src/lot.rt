@@ -19,7 +19,8 @@ ghost use mathlib.Core.Bool.{true};
 ghost use mathlib.Core.List.{List};
 ghost use Prim.Native.Nat.{ℕ};
 ghost use Rattle.centre.specs.Turn.{callOf};
-ghost use Rattle.exchange.specs.Cursors.{documentsOf, moved, within};
+ghost use Rattle.exchange.specs.Cursors.{moved, within};
+ghost use Rattle.document.specs.Part.{countIn};
 ghost use Rattle.exchange.specs.Round.{BothReady};
 ghost use Rattle.exchange.specs.Course.{Safe, standingOf, pastPart, partSent, detailSent, filled, roundBetween, wholeLot, lotMade};
 
@@ -51,7 +52,7 @@ fn send_part<'a>(
     reply: &mut [u8],
 ) -> Progress
     requires { ⌜ Safe (now presentations) (now returns) p ⌝ }
-    requires { ⌜ within (now presentations) (now returns) (moved (now presentations) (documentsOf (now part)) (p .cursors)) ≡ true ⌝ }
+    requires { ⌜ within (now presentations) (now returns) (moved (now presentations) (countIn (now part)) (p .cursors)) ≡ true ⌝ }
     ensures outcome { λ r. ⌜ standingOf r (now (message .exit)) (now (reply .exit)) ≡ partSent (now (presentations .entry)) (now (part .entry)) (standingOf p (now (message .entry)) (now (reply .entry))) ⌝ }
     ensures premise { λ r. ⌜ Safe (now (presentations .entry)) (now (returns .entry)) r ⌝ }
 {

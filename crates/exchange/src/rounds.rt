@@ -8,7 +8,7 @@ use centre::end::Centre;
 ghost use mathlib.Core.Path.{_≡_};
 ghost use Rattle.centre.specs.Turn.{engineOf, callOf};
 ghost use Rattle.exchange.specs.Round.{BothReady, answerOf, roundOf, answered, rounded};
-ghost use Rattle.session.specs.Claim.{Ready};
+ghost use Rattle.session.specs.Engine.{Ready};
 
 // The second half: some bytes reach the receiver, and what it writes goes back to the presenter, both at one time. Nothing
 // was sent here, so that number is 0.

@@ -52,7 +52,7 @@ use Rattle.session.proofs.session.Session as S
 use Rattle.session.proofs.session.Session.Laws as S′
 use Rattle.session.specs.Receiving.{receive}
 use Rattle.session.specs.Premise.{KeptBeside}
-use Rattle.calls.specs.Said.{held}
+use Rattle.session.specs.Outcome.{held}
 use Rattle.receiving.specs.Said.{receivedSaid}
 use Rattle.receiving.proofs.receive.Received as D
 use Rattle.receiving.proofs.receive.Received.Laws as D′
@@ -91,7 +91,7 @@ pub use denote.Triple.Table.{cited}
 pub use denote.Triple.Walked.{says, walkOf, ends-at}
 pub use Rattle.session.specs.declared.session.Session.{Session}
 pub use Rattle.session.specs.Running.{Running}
-pub use Rattle.session.specs.Course.{Direction}
+pub use Rattle.session.specs.Parties.{Direction}
 pub use Rattle.session.specs.Premise.{Sound, Carried}
 pub use Rattle.receiving.specs.declared.receive.Received.{Received}
 

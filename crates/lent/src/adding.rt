@@ -3,7 +3,7 @@ use calls::course::advance;
 use session::counters::Running;
 use session::session::Session;
 ghost use mathlib.Core.Path.{_≡_};
-ghost use Rattle.session.specs.Course.{Direction};
+ghost use Rattle.session.specs.Parties.{Direction};
 ghost use Rattle.session.specs.Reply.{presentingCourse};
 ghost use Rattle.session.specs.Premise.{Sound, Carried};
 

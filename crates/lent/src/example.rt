@@ -5,10 +5,10 @@ use receiving::receive::ReceiveOutcome;
 use session::counters::Running;
 use session::session::Session;
 ghost use mathlib.Core.Path.{_≡_};
-ghost use Rattle.session.specs.Course.{Direction};
+ghost use Rattle.session.specs.Parties.{Direction};
 ghost use Rattle.session.specs.Receiving.{receive};
 ghost use Rattle.session.specs.Premise.{Sound, Carried, KeptBeside};
-ghost use Rattle.calls.specs.Said.{held};
+ghost use Rattle.session.specs.Outcome.{held};
 ghost use Rattle.receiving.specs.Said.{receivedSaid};
 
 // Takes a message, with running totals that come and go by value. It promises what receiving by value promises.

@@ -3,10 +3,10 @@ use receiving::receive::Received;
 use session::counters::Running;
 use session::session::Session;
 ghost use mathlib.Core.Path.{_≡_};
-ghost use Rattle.session.specs.Course.{Direction};
+ghost use Rattle.session.specs.Parties.{Direction};
 ghost use Rattle.session.specs.Receiving.{receive};
 ghost use Rattle.session.specs.Premise.{Sound, Carried, KeptBeside};
-ghost use Rattle.calls.specs.Said.{held};
+ghost use Rattle.session.specs.Outcome.{held};
 ghost use Rattle.receiving.specs.Said.{receivedSaid};
 
 // Takes a message of any bytes and writes the reply to it.

@@ -5,10 +5,11 @@ use session::session::Session;
 ghost use mathlib.Core.Path.{_≡_};
 ghost use mathlib.Core.List.{List};
 ghost use Prim.Native.Nat.{ℕ};
-ghost use Rattle.session.specs.Course.{Direction};
+ghost use Rattle.session.specs.Parties.{Direction};
 ghost use Rattle.session.specs.Reply.{takeReply};
 ghost use Rattle.session.specs.Premise.{Sound, Carried, KeptBeside};
-ghost use Rattle.calls.specs.Said.{held, calledSaid};
+ghost use Rattle.session.specs.Outcome.{held};
+ghost use Rattle.calls.specs.Said.{calledSaid};
 
 // Takes a reply of any bytes.
 pub fn take_reply(session: Session, running: &mut Running, time: u32, reply: &[u8]) -> Called

@@ -10,7 +10,7 @@ use Rattle.packed.specs.Number.{byteValue, number}
 use Rattle.packed.specs.Writing.{packedByte, packedBytes}
 use Rattle.codes.specs.Chain.{_when_, _orelse_}
 use Rattle.codes.specs.Numbered.{numbered}
-use Rattle.codes.specs.Reply.{codes, codeByte, readCode, knownCode}
+use Rattle.codes.specs.Code.{codes, codeByte, readCode, knownCode}
 use Rattle.codes.specs.Field.{earning, tableWritten}
 use Rattle.amounts.specs.Totals.{totals}
 use Rattle.message.specs.declared.route.Route.{Route}

@@ -25,5 +25,6 @@ byOperation o =
     (cond (eqb o lotTotalOperation) Content.LotTotal
     (cond (eqb o sessionTotalOperation) Content.SessionTotal Content.Unknown)))
 
+-- 'Byte 3 alone says what a body is'
 abbrev pub contentOf : List ℕ → Content
 contentOf body = byOperation (operationOf body)

@@ -4,12 +4,12 @@ use mathlib.Core.Bool.{Bool, _&&_}
 use mathlib.Core.List.{List, [], _∷_, _++_}
 use lib.Dec.{leb, ltb}
 use Rattle.codes.specs.Field.{Field, field, any, between, exactly, fieldNumber}
-use Rattle.codes.specs.Reply.{codeNumber}
-use Rattle.codes.specs.declared.reply.Code.{Code}
+use Rattle.codes.specs.Code.{codeNumber}
+use Rattle.codes.specs.declared.code.Code.{Code}
 use Rattle.message.specs.declared.route.Route.{Route}
 use Rattle.message.specs.declared.header.Header.{Header}
 use Rattle.message.specs.declared.header.ReadHeader.{ReadHeader}
-use Rattle.message.specs.Limits.{firstPosition, headerBytes, largestNumber}
+use Rattle.message.specs.Limits.{firstPosition, headerBytes, largestOrderNumber}
 use Rattle.message.specs.Reading.{Reading, reading}
 use Rattle.message.specs.Route.{routeValues}
 use Rattle.message.specs.Layout.{Layout}
@@ -21,7 +21,7 @@ timeOfDay v = ltb (v / 1000000) 24 && ltb (v / 10000 % 100) 60 && ltb (v / 100 %
 
 -- 0001 to 9999
 abbrev pub orderNumber : ℕ → Bool
-orderNumber v = between 1 largestNumber v
+orderNumber v = between 1 largestOrderNumber v
 
 -- the fields that are neither the session's nor fixed
 abbrev pub timeField : Field
@@ -45,6 +45,7 @@ headerFields route =
     ∷ field 19 1 (exactly 0)
     ∷ []
 
+-- 19 bytes, operation 01
 abbrev pub header : Route → Layout
 header route = record { bytes = headerBytes; operation = headerOperation; fields = headerFields route }
 
@@ -63,4 +64,4 @@ headerSaid route ReadHeader.Wrong = reading (codeNumber Code.WrongField) []
 
 -- what a presenter may put into a header; the rest is the session's
 unfoldable pub sendable : (time centre number : ℕ) → Bool
-sendable time centre number = timeOfDay time && leb centre largestNumber && orderNumber number
+sendable time centre number = timeOfDay time && leb centre largestOrderNumber && orderNumber number

@@ -8,11 +8,10 @@ use Rattle.packed.specs.Part.{byteAt}
 use Rattle.codes.specs.Body.{free, mark, operationOf}
 use Rattle.codes.specs.Chain.{_when_, _orelse_}
 use Rattle.codes.specs.Field.{Field, tableGood, tableNumbers, tableWritten}
-use Rattle.codes.specs.Reply.{codeNumber}
-use Rattle.codes.specs.declared.reply.Code.{Code}
 use Rattle.message.specs.Limits.{firstPosition}
 use Rattle.message.specs.Reading.{Reading, reading}
 
+-- its length, the operation at byte 3, and the fields
 pub record Layout : Type 0 where
   pub bytes : ℕ
   pub operation : ℕ
@@ -26,8 +25,8 @@ shapeGood bytes operation body = eqb (length body) bytes && eqb (byteAt 2 body) 
 unfoldable pub bodyCode : Layout → List ℕ → ℕ
 bodyCode layout body =
     1 when not (shapeGood (layout .bytes) (layout .operation) body)
-    orelse 1 when not (tableGood firstPosition (codeNumber Code.WrongField) (layout .fields) body)
-    orelse 3 when not (tableGood firstPosition (codeNumber Code.WrongAmount) (layout .fields) body)
+    orelse 1 when not (tableGood firstPosition 1 (layout .fields) body)
+    orelse 3 when not (tableGood firstPosition 3 (layout .fields) body)
 
 -- the code, and where it accepts the numbers of the fields
 abbrev pub readBody : Layout → List ℕ → Reading

@@ -9,4 +9,5 @@ pub mod Header
 pub mod Total
 pub mod Reply
 pub mod Line
+pub mod RoundTrip
 pub mod Inner

@@ -1,5 +1,6 @@
 -- 01, 'Layouts': lengths in bytes, and the largest numbers that more than one definition names.
-use Prim.Native.Nat.{ℕ}
+use Prim.Native.Nat.{ℕ, _+_}
+use Rattle.codes.specs.Body.{longestBody}
 
 -- the position of a first byte
 abbrev pub firstPosition : ℕ
@@ -21,9 +22,17 @@ sessionTotalBytes = 25
 abbrev pub replyBytes : ℕ
 replyBytes = 4
 
--- of four bytes, and of two
+-- the longest message and every reply, with their envelopes
+abbrev pub messageRoom : ℕ
+messageRoom = envelopeBytes + longestBody
+
+abbrev pub replyRoom : ℕ
+replyRoom = envelopeBytes + replyBytes
+
+-- 'Envelope': the last serial
 abbrev pub largestSerial : ℕ
 largestSerial = 99999999
 
-abbrev pub largestNumber : ℕ
-largestNumber = 9999
+-- 'Header': the last order number
+abbrev pub largestOrderNumber : ℕ
+largestOrderNumber = 9999

@@ -4,7 +4,6 @@ use mathlib.Core.List.{List, _++_}
 use Rattle.message.specs.declared.route.Route.{Route}
 use Rattle.message.specs.declared.envelope.Kind.{Kind}
 use Rattle.message.specs.declared.envelope.Envelope.{Envelope}
-use Rattle.message.specs.declared.content.Content.{Content}
 use Rattle.message.specs.declared.header.Header.{Header}
 use Rattle.message.specs.declared.total.Total.{Total}
 use Rattle.message.specs.declared.reply.Reply.{Reply}
@@ -20,12 +19,13 @@ pub data Body : Type 0 where
   lotEnding : Total → Body
   sessionEnding : Total → Body
 
--- its layout in a direction of this route, and its numbers
+-- its layout, in a direction of this route
 abbrev pub layoutOf : Route → Body → Layout
 layoutOf route (Body.opening h) = header route
 layoutOf route (Body.lotEnding t) = lotTotal
 layoutOf route (Body.sessionEnding t) = sessionTotal
 
+-- and its numbers
 abbrev pub valuesOf : Route → Body → List ℕ
 valuesOf route (Body.opening h) = headerValues route h
 valuesOf route (Body.lotEnding t) = totalValues t
@@ -35,16 +35,10 @@ valuesOf route (Body.sessionEnding t) = totalValues t
 unfoldable pub bodyBytes : Route → Body → List ℕ
 bodyBytes route x = writtenBody (layoutOf route x) (valuesOf route x)
 
--- what it is
-abbrev pub bodyContent : Body → Content
-bodyContent (Body.opening h) = Content.Header
-bodyContent (Body.lotEnding t) = Content.LotTotal
-bodyContent (Body.sessionEnding t) = Content.SessionTotal
+-- 12 bytes, and the body from byte 13 on
+abbrev pub wholeMessage : Envelope → (body : List ℕ) → List ℕ
+wholeMessage e body = writtenEnvelope Kind.Message e ++ body
 
--- an envelope, and a body after it
-abbrev pub message : Envelope → (body : List ℕ) → List ℕ
-message e body = writtenEnvelope Kind.Message e ++ body
-
--- a reply has the date, the entities and the serial of its message
+-- 'A reply keeps its message's date, entities and serial'
 abbrev pub wholeReply : Envelope → Reply → List ℕ
 wholeReply e r = writtenEnvelope Kind.Reply e ++ writtenReplyBody r

@@ -9,7 +9,7 @@ use Rattle.packed.specs.Number.{byteValue}
 use Rattle.packed.specs.Writing.{packedByte}
 use Rattle.codes.specs.Body.{free, mark, operationOf}
 use Rattle.codes.specs.Chain.{_when_}
-use Rattle.codes.specs.Reply.{codeNumber, codeByte, knownCode}
+use Rattle.codes.specs.Code.{codeNumber, codeByte, knownCode}
 use Rattle.codes.specs.Refusal.{refusalNumber}
 use Rattle.codes.specs.declared.refusal.Refusal.{Refusal}
 use Rattle.message.specs.declared.content.Content.{Content}
@@ -25,10 +25,11 @@ operationNumber Operation.Other = 86
 operationNumber Operation.LotTotal = 87
 operationNumber Operation.SessionTotal = 97
 
+-- as a byte
 unfoldable pub operationByte : Operation → ℕ
 operationByte o = packedByte (operationNumber o)
 
--- the operation of the reply to a body, by what the body is
+-- the operation of a reply: 87 to a lot total, 97 to a session total, 86 to all else
 abbrev pub replyOperation : Content → Operation
 replyOperation Content.Header = Operation.Other
 replyOperation Content.Detail = Operation.Other
@@ -36,10 +37,11 @@ replyOperation Content.LotTotal = Operation.LotTotal
 replyOperation Content.SessionTotal = Operation.SessionTotal
 replyOperation Content.Unknown = Operation.Other
 
+-- one of the three
 abbrev pub knownOperation : ℕ → Bool
 knownOperation b = eqb b (operationByte Operation.Other) || eqb b (operationByte Operation.LotTotal) || eqb b (operationByte Operation.SessionTotal)
 
--- no other length can follow a good envelope of a reply
+-- 22 otherwise: the mark, a known operation, a known code; another length is 21 before
 unfoldable pub replyGood : List ℕ → Bool
 replyGood body =
     eqb (length body) replyBytes && eqb (byteAt 2 body) mark && knownOperation (operationOf body) && knownCode (byteAt 4 body)

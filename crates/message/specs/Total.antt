@@ -4,7 +4,7 @@ use mathlib.Core.List.{List, [], _∷_}
 use lib.ListN.{getD}
 use Rattle.amounts.specs.Totals.{totals}
 use Rattle.codes.specs.Field.{Field, field, amount, any, tableNumbers}
-use Rattle.codes.specs.Reply.{codeNumber}
+use Rattle.codes.specs.Code.{codeNumber}
 use Rattle.message.specs.declared.total.Total.{Total}
 use Rattle.message.specs.declared.total.ReadTotal.{ReadTotal}
 use Rattle.message.specs.Limits.{firstPosition, lotTotalBytes, sessionTotalBytes}
@@ -29,9 +29,11 @@ sessionTotalFields =
     ∷ amount 19 7  -- commission
     ∷ []
 
+-- 22 bytes, operation 80
 abbrev pub lotTotal : Layout
 lotTotal = record { bytes = lotTotalBytes; operation = lotTotalOperation; fields = lotTotalFields }
 
+-- 25 bytes, operation 90
 abbrev pub sessionTotal : Layout
 sessionTotal = record { bytes = sessionTotalBytes; operation = sessionTotalOperation; fields = sessionTotalFields }
 
@@ -39,7 +41,7 @@ sessionTotal = record { bytes = sessionTotalBytes; operation = sessionTotalOpera
 abbrev pub totalValues : Total → List ℕ
 totalValues t = t .number ∷ t .stated .documents .0 ∷ t .stated .nominal .0 ∷ t .stated .commission .0 ∷ []
 
--- and a total of the numbers that a body holds by such a table
+-- and a total of the numbers that a body holds by such a table, row after row
 abbrev pub totalOf : List Field → List ℕ → Total
 totalOf fields body = let v = getD (tableNumbers firstPosition fields body) in record { number = v 0 0; stated = totals (v 1 0) (v 2 0) (v 3 0) }
 

@@ -16,6 +16,11 @@ ghost use Rattle.message.specs.Envelope.{kindByte, lengthGood, envelopeO
 
 pub const ENVELOPE_BYTES: usize = 12;
 
+// The longest message and every reply, with their envelopes.
+pub const MESSAGE_ROOM: usize = ENVELOPE_BYTES + LONGEST_BODY;
+
+pub const REPLY_ROOM: usize = ENVELOPE_BYTES + REPLY_BYTES;
+
 pub const LARGEST_SERIAL: u32 = 99_999_999;
 
 // Where route and serial stand.
@@ -57,8 +62,8 @@ fn length_good(kind: Kind, n: usize) -> bool
     ensures { λ r. ⌜ r ≡ lengthGood kind n ⌝ }
 {
     match kind {
-        Kind::Message => (ENVELOPE_BYTES + 1 <= n) & (n <= ENVELOPE_BYTES + LONGEST_BODY),
-        Kind::Reply => n == ENVELOPE_BYTES + REPLY_BYTES,
+        Kind::Message => (ENVELOPE_BYTES + 1 <= n) & (n <= MESSAGE_ROOM),
+        Kind::Reply => n == REPLY_ROOM,
     }
 }
 

@@ -16,8 +16,8 @@ ghost use mathlib.Core.Path.{_≡_};
 ghost use Prim.Native.Nat.{_≤_};
 ghost use lib.ListN.{length};
 ghost use lib.Seq.{sets};
-ghost use Rattle.codes.specs.declared.reply.Code.{Code};
-ghost use Rattle.codes.specs.Reply.{codeNumber};
+ghost use Rattle.codes.specs.declared.code.Code.{Code};
+ghost use Rattle.codes.specs.Code.{codeNumber};
 ghost use Rattle.codes.specs.Field.{tableGood};
 ghost use Rattle.message.specs.Limits.{firstPosition, headerBytes};
 ghost use Rattle.message.specs.Layout.{readBody, writtenBody};
@@ -38,7 +38,7 @@ const ZERO: usize = 18;
 const DIGITS: usize = HEADER_BYTES - FIELDS;
 
 // The largest order number, and the largest centre.
-pub const LARGEST_NUMBER: u16 = 9999;
+pub const LARGEST_ORDER_NUMBER: u16 = 9999;
 
 // What a header says beside its route. The time is hhmmsscc.
 pub struct Header {
@@ -62,14 +62,14 @@ fn time_of_day(v: u32) -> bool
 fn order_number(v: u16) -> bool
     ensures { λ r. ⌜ r ≡ orderNumber v ⌝ }
 {
-    (1 <= v) & (v <= LARGEST_NUMBER)
+    (1 <= v) & (v <= LARGEST_ORDER_NUMBER)
 }
 
 // Whether a presenter may write a header of these.
 pub fn sendable(time: u32, centre: u16, number: u16) -> bool
     ensures { λ r. ⌜ r ≡ sendable time centre number ⌝ }
 {
-    time_of_day(time) & (centre <= LARGEST_NUMBER) & order_number(number)
+    time_of_day(time) & (centre <= LARGEST_ORDER_NUMBER) & order_number(number)
 }
 
 // The three numbers, whatever their digits.

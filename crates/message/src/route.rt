@@ -7,8 +7,8 @@ ghost use mathlib.Core.Path.{_≡_};
 ghost use Prim.Native.Nat.{_+_, _≤_};
 ghost use lib.ListN.{length};
 ghost use lib.Seq.{sets};
-ghost use Rattle.message.specs.Inner.Route.{routeBytes, writtenRoute};
-ghost use Rattle.message.specs.Route.{sameRoute, routeAt};
+ghost use Rattle.message.specs.Inner.Route.{routeBytes, writtenRoute, routeAt};
+ghost use Rattle.message.specs.Route.{sameRoute};
 
 // The date is the number DDMMYY.
 pub struct Route {

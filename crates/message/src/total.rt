@@ -8,7 +8,7 @@ use amounts::Commission;
 use amounts::Documents;
 use amounts::Nominal;
 use amounts::Totals;
-use codes::reply::Code;
+use codes::code::Code;
 use packed::digits::are_digits;
 use packed::number::number;
 use packed::number::number2;

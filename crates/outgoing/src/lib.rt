@@ -2,11 +2,11 @@
 // that counts how many of them are sent; moving it is the caller's part. What the words mean stands in specs/.
 use codes::refusal::Refusal;
 use document::DOCUMENT_BYTES;
-use document::MOST_DOCUMENTS;
+use document::MOST_DETAIL_DOCUMENTS;
 use packed::pieces::piece_at;
 ghost use mathlib.Core.Path.{_≡_};
 ghost use mathlib.Core.Bool.{true};
-ghost use Rattle.outgoing.specs.Outgoing.{readyGood, bothGood, nextOf, next, checkCode, answerNumber};
+ghost use Rattle.outgoing.specs.Outgoing.{readyGood, bothGood, nextOf, next, checkCode, checkNumber};
 
 // What the check beside the next documents answers.
 pub enum Answer {
@@ -40,7 +40,7 @@ fn next_of<'a>(ready: &'a [u8], cursor: usize) -> &'a [u8]
     ensures { λ r. ⌜ now r ≡ nextOf (now (ready .entry)) cursor ⌝ }
 {
     let at = cursor * DOCUMENT_BYTES;
-    piece_at(ready, at, MOST_DOCUMENTS * DOCUMENT_BYTES)
+    piece_at(ready, at, MOST_DETAIL_DOCUMENTS * DOCUMENT_BYTES)
 }
 
 // The documents of the next detail: presentations while any remain, then returns, never both; nothing when all are sent,
@@ -69,7 +69,7 @@ pub fn check(
     presentations_sent: usize,
     returns_sent: usize,
 ) -> Answer
-    ensures { λ r. ⌜ answerNumber r ≡ checkCode (now (presentations .entry)) (now (returns .entry)) «presentations_sent» «returns_sent» ⌝ }
+    ensures { λ r. ⌜ checkNumber r ≡ checkCode (now (presentations .entry)) (now (returns .entry)) «presentations_sent» «returns_sent» ⌝ }
 {
     if both_good(presentations, returns, presentations_sent, returns_sent) {
         return Answer::Ready;

@@ -2,10 +2,9 @@
 use Prim.Native.Nat.{ℕ}
 use mathlib.Core.List.{List}
 use Rattle.codes.specs.Refusal.{refusalNumber}
-use Rattle.codes.specs.Reply.{codeNumber}
+use Rattle.codes.specs.Code.{codeNumber}
 use Rattle.session.specs.Running.{Running}
-use Rattle.session.specs.Outcome.{Outcome}
-use Rattle.calls.specs.Said.{held}
+use Rattle.session.specs.Outcome.{Outcome, held}
 use Rattle.presenting.specs.declared.answer.SendAnswer.{SendAnswer}
 use Rattle.presenting.specs.declared.answer.SendOutcome.{SendOutcome}
 

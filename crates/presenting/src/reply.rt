@@ -35,15 +35,13 @@ ghost use Rattle.packed.specs.Part.{byteAt};
 ghost use Rattle.packed.specs.Number.{byteValue};
 ghost use Rattle.codes.specs.Chain.{_when_, _orelse_};
 ghost use Rattle.codes.specs.Body.{operationOf};
-ghost use Rattle.message.specs.Route.{sameRoute};
-ghost use Rattle.message.specs.Envelope.{serialOf, envelopeGood, envelopeOf, bodyOf};
 ghost use Rattle.message.specs.Reply.{operationByte, replyGood};
-ghost use Rattle.session.specs.Course.{Direction};
-ghost use Rattle.session.specs.Outcome.{silent};
-ghost use Rattle.session.specs.Reply.{isAwaited, isAccepted, replied, takeReply};
+ghost use Rattle.session.specs.Parties.{Direction};
+ghost use Rattle.session.specs.Outcome.{silent, held};
+ghost use Rattle.session.specs.Reply.{isAwaited, isAccepted, replyOrder, replied, takeReply};
 ghost use Rattle.session.specs.Premise.{Sound, Carried, KeptBeside};
 ghost use Rattle.calls.specs.Inner.Arrival.{Told};
-ghost use Rattle.calls.specs.Said.{held, calledSaid};
+ghost use Rattle.calls.specs.Said.{calledSaid};
 
 // What a reply call gives, and the running totals that it leaves.
 pub struct ReplyOutcome {
@@ -95,7 +93,7 @@ fn read_body(body: &[u8], serial: u32, p: Presenting) -> Arrival
 
 // A whole reply, at any time.
 fn read_whole(reply: &[u8], route: Route, p: Presenting) -> Arrival
-    ensures { λ r. ⌜ Told (21 when not (envelopeGood Kind.Reply (now (reply .entry))) orelse 33 when not (sameRoute (envelopeOf (now (reply .entry)) .route) route) orelse 22 when not (replyGood (bodyOf (now (reply .entry)))) orelse 35 when not (isAwaited (serialOf (now (reply .entry))) (operationOf (bodyOf (now (reply .entry)))) p)) (isAccepted (now (reply .entry))) (r .answer) (r .accepted) ⌝ }
+    ensures { λ r. ⌜ Told (replyOrder (now (reply .entry)) route p) (isAccepted (now (reply .entry))) (r .answer) (r .accepted) ⌝ }
 {
     match read_envelope(reply, Kind::Reply) {
         ReadEnvelope::Read(e) => {

@@ -30,10 +30,10 @@ use session::effect::Effect;
 use session::session::Session;
 ghost use mathlib.Core.Path.{_≡_};
 ghost use Rattle.session.specs.Running.{Running};
-ghost use Rattle.session.specs.Course.{Direction};
+ghost use Rattle.session.specs.Parties.{Direction};
 ghost use Rattle.session.specs.Sending.{openNumber, sendHeader, sendDetail, sendLotTotal, sendSessionTotal};
 ghost use Rattle.session.specs.Premise.{Sound, Carried, Kept, KeptBeside};
-ghost use Rattle.calls.specs.Said.{held};
+ghost use Rattle.session.specs.Outcome.{held};
 ghost use Rattle.presenting.specs.Said.{sendSaid};
 
 // Sends the header of a lot. The moment is hhmmsscc, what the header says of its time; no running totals are asked for.

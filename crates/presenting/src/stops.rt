@@ -3,7 +3,7 @@ use calls::details::detail_code;
 use calls::sequence::header_sequence;
 use codes::chain::or_else;
 use codes::chain::when;
-use codes::reply::Code;
+use codes::code::Code;
 use detail::reading::read_part;
 use message::header::sendable;
 use session::counters::Running;
@@ -11,7 +11,7 @@ use session::hours::presenter_late;
 use session::limits::lots_used;
 use session::session::Presenting;
 ghost use mathlib.Core.Path.{_≡_};
-ghost use Rattle.codes.specs.Reply.{codeNumber};
+ghost use Rattle.codes.specs.Code.{codeNumber};
 ghost use Rattle.session.specs.Sending.{partAdds, headerStop, detailStop};
 
 // The first of 01, 07, 10 and 11 that a header of these earns.

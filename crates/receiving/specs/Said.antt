@@ -2,8 +2,7 @@
 use Prim.Native.Nat.{ℕ}
 use mathlib.Core.List.{List}
 use Rattle.session.specs.Running.{Running}
-use Rattle.session.specs.Outcome.{Outcome, answerNumber}
-use Rattle.calls.specs.Said.{held}
+use Rattle.session.specs.Outcome.{Outcome, answerNumber, held}
 use Rattle.receiving.specs.declared.receive.Received.{Received}
 
 abbrev pub receivedSaid : Received → Running → (line : List ℕ) → Outcome

@@ -6,7 +6,7 @@ use calls::sequence::lot_total_sequence;
 use calls::sequence::session_total_sequence;
 use codes::chain::or_else;
 use codes::chain::when;
-use codes::reply::Code;
+use codes::code::Code;
 use detail::reading::read_detail;
 use message::content::Content;
 use message::header::ReadHeader;

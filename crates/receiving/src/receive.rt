@@ -8,22 +8,21 @@ use calls::answer::or_refused;
 use calls::time::time_refusal;
 use message::envelope::ENVELOPE_BYTES;
 use message::envelope::Envelope;
+use message::envelope::REPLY_ROOM;
 use message::line::write_reply;
-use message::reply::REPLY_BYTES;
 use session::counters::Running;
 use session::session::Answer;
 use session::session::Session;
 ghost use mathlib.Core.Path.{_≡_};
-ghost use Prim.Native.Nat.{_+_, _≤_};
+ghost use Prim.Native.Nat.{_≤_};
 ghost use lib.ListN.{length};
 ghost use lib.Seq.{sets};
-ghost use Rattle.message.specs.Limits.{envelopeBytes, replyBytes};
+ghost use Rattle.message.specs.Limits.{replyRoom};
 ghost use Rattle.message.specs.Line.{wholeReply};
-ghost use Rattle.session.specs.Parties.{receivingRoute};
-ghost use Rattle.session.specs.Course.{Direction};
-ghost use Rattle.session.specs.Receiving.{withReceiving, receive};
+ghost use Rattle.session.specs.Parties.{receivingRoute, Direction};
+ghost use Rattle.session.specs.Receiving.{receive};
 ghost use Rattle.session.specs.Premise.{Sound, Carried, KeptBeside};
-ghost use Rattle.calls.specs.Said.{held};
+ghost use Rattle.session.specs.Outcome.{held, seenAt, withReceiving};
 ghost use Rattle.receiving.specs.Said.{receivedSaid};
 
 // What receiving gives. A message that earns a code is not refused: its reply, which carries the code, is the first
@@ -42,8 +41,8 @@ pub struct ReceiveOutcome {
 
 // Writes the reply that is kept after a message, new or again, and gives what the call leaves.
 fn replying(session: Session, time: u32, after: Handled, line: &mut [u8]) -> ReceiveOutcome
-    requires { ⌜ envelopeBytes + replyBytes ≤ length (now line) ⌝ }
-    ensures result { λ r. ⌜ r ≡ record { running = after .running; received = record { answer = Answer.Done; written = envelopeBytes + replyBytes; session = withReceiving time (after .receiving) session } } ⌝ }
+    requires { ⌜ replyRoom ≤ length (now line) ⌝ }
+    ensures result { λ r. ⌜ r ≡ record { running = after .running; received = record { answer = Answer.Done; written = replyRoom; session = seenAt time (withReceiving (after .receiving) session) } } ⌝ }
     ensures line { λ _. ⌜ now (line .exit) ≡ sets (now (line .entry)) 0 (wholeReply (record { route = receivingRoute (session .parties); serial = after .receiving .serial }) (after .receiving .reply)) ⌝ }
 {
     let parties = session.parties;
@@ -61,7 +60,7 @@ fn replying(session: Session, time: u32, after: Handled, line: &mut [u8]) -> Rec
         running: running,
         received: Received {
             answer: Answer::Done,
-            written: ENVELOPE_BYTES + REPLY_BYTES,
+            written: REPLY_ROOM,
             session: Session {
                 parties: parties,
                 presenting: presenting,

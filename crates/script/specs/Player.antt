@@ -4,9 +4,8 @@ use mathlib.Core.Bool.{Bool, true, cond}
 use mathlib.Core.List.{List}
 use lib.Dec.{eqb}
 use Rattle.session.specs.Start as Start
-use Rattle.session.specs.Engine.{Call, Engine, withEmpty}
-use Rattle.session.specs.Claim.{Ready}
-use Rattle.centre.specs.Turn.{engineOf, turned}
+use Rattle.session.specs.Engine.{Call, Engine, withEmpty, Ready, performed}
+use Rattle.centre.specs.Turn.{engineOf}
 use Rattle.script.specs.declared.player.Seat.{Seat}
 use Rattle.script.specs.declared.player.Player.{Player}
 use Rattle.script.specs.declared.reading.Reading.{Reading}
@@ -29,7 +28,7 @@ endsOf p = record { near = seatOf (p .near); far = seatOf (p .far) }
 
 -- a call at an end; one without a session stays as it is
 unfoldable pub called : Call → (line : List ℕ) → Seated → Seated
-called call line s = cond (s .started) (record { started = true; engine = turned call line (s .engine) .engine }) s
+called call line s = cond (s .started) (record { started = true; engine = performed call line (s .engine) .engine }) s
 
 -- a start at an end; a refused one leaves what was there
 unfoldable pub begunAt : (date own partner : ℕ) (represented : List ℕ) → Seated → Seated

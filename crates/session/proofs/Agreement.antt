@@ -17,18 +17,17 @@ use Rattle.session.specs.declared.effect.Effect.{Effect}
 use Rattle.session.specs.declared.parties.Parties.{Parties}
 use Rattle.session.specs.declared.report.Awaited.{Awaited}
 use Rattle.session.specs.declared.session.Close.{Close}
-use Rattle.session.specs.Parties.{partiesGood, partiesOf, nobody, presentingRoute, receivingRoute}
+use Rattle.session.specs.Parties.{partiesGood, partiesOf, nobody, presentingRoute, receivingRoute, Direction}
 use Rattle.session.specs.Running.{empty}
-use Rattle.session.specs.Course.{Direction}
 use Rattle.session.specs.Sequence.{isOpen}
 use Rattle.session.specs.Start.{fresh, started, start}
 use Rattle.session.specs.Report.{tally, awaited, report}
 use Rattle.session.specs.Premise.{PendingSound}
 use Rattle.session.specs.Ledger.{LedgerLot, Ledger, Entry, blank, enter, moved, lotSum, lotsSum, tallied}
-use Rattle.session.specs.Engine.{Call, Engine, perform, withEmpty}
-use Rattle.session.specs.Ends.{End, other, Event, World, Step, replaced, act, run, Brought, Possible, engines, begun, Begins}
-use Rattle.session.specs.Entering.{namedLot, namedBy, toBeNamed, Confirming, Counting, presents, receives, confirmingAt, countingAt}
-use Rattle.session.specs.Claim.{oneMore, confirmed, counted, reportAt, presentedTally, receivedTally, Level, Ahead, JustReplied, Ready, Agreement, BothEndsTogether}
+use Rattle.session.specs.Engine.{Call, Engine, performed, saidBy, withEmpty, Ready}
+use Rattle.session.specs.Ends.{End, other, Event, World, Step, replaced, act, run, Brought, Possible, engines, begun, StartsAccepted}
+use Rattle.session.specs.Entering.{namedLot, awaitedBy, toBeNamed, PresenterLedger, ReceiverLedger, presenterEnters, receiverEnters, presenterLedgerAt, receiverLedgerAt}
+use Rattle.session.specs.Claim.{oneMore, confirmed, counted, reportAt, presentedTally, receivedTally, Level, Ahead, JustReplied, Agreement, BothEndsTogether}
 use Rattle.session.proofs.Laws.Parties.{Told, told}
 use Rattle.session.proofs.Laws.Ledger.{openOf, lotOf, lots-last, one-longer}
 use Rattle.session.proofs.Laws.Line.{accepts}
@@ -39,15 +38,15 @@ use Rattle.session.proofs.Laws.Sound.{fresh-sound, fresh-carried}
 use Rattle.session.proofs.Laws.EveryCall.{ready-kept, parties-kept}
 
 -- an engine as the presenting end of a direction, and as the receiving end
-abbrev presentsWith : Engine → Confirming → PresentingEnd
+abbrev presentsWith : Engine → PresenterLedger → PresentingEnd
 presentsWith e b = presentingEnd (e .session .presenting) (e .presenting) b
 
-abbrev receivesWith : Engine → Counting → ReceivingEnd
+abbrev receivesWith : Engine → ReceiverLedger → ReceivingEnd
 receivesWith e b = receivingEnd (e .session .receiving) (e .receiving) b
 
 -- the direction in which an end presents is joined
 abbrev pub JoinedAt : World → End → Type 0
-JoinedAt w p = Joined (presentingRoute (w .engine p .session .parties)) (presentsWith (w .engine p) (confirmingAt p (w .trace))) (receivesWith (w .engine (other p)) (countingAt (other p) (w .trace))) (w .trace)
+JoinedAt w p = Joined (presentingRoute (w .engine p .session .parties)) (presentsWith (w .engine p) (presenterLedgerAt p (w .trace))) (receivesWith (w .engine (other p)) (receiverLedgerAt (other p) (w .trace))) (w .trace)
 
 -- both directions joined, and both ends ready
 pub record Whole (w : World) : Type 0 where
@@ -57,19 +56,19 @@ pub record Whole (w : World) : Type 0 where
   pub joined : (p : End) → JoinedAt w p
 
 -- a direction seen from a call at its presenting end, and from one at its receiving end
-module _ (x : End) (call : Call) (line : List ℕ) (e f : Engine) (bp : Confirming) (br : Counting) (trace : List Event) (ready : Ready e) (different : e .session .parties .own ≡ e .session .parties .partner → ⊥) (brought : Brought call trace) where
+module _ (x : End) (call : Call) (line : List ℕ) (e f : Engine) (bp : PresenterLedger) (br : ReceiverLedger) (trace : List Event) (ready : Ready e) (different : e .session .parties .own ≡ e .session .parties .partner → ⊥) (brought : Brought call trace) where
   abbrev d : Engine
-  d = perform call line e .engine
+  d = performed call line e .engine
 
   abbrev event : Event
-  event = record { at = x; call = call; said = perform call line e .said }
+  event = record { at = x; call = call; said = saidBy (performed call line e) }
 
-  at-presenter : Joined (presentingRoute (e .session .parties)) (presentsWith e bp) (receivesWith f br) trace → Joined (presentingRoute (d .session .parties)) (presentsWith d (cond (eqb (event .said .number) 0) (presents call bp) bp)) (receivesWith f br) (event ∷ trace)
-  at-presenter j = subst (λ (p : Parties). Joined (presentingRoute p) (presentsWith d (cond (eqb (event .said .number) 0) (presents call bp) bp)) (receivesWith f br) (event ∷ trace)) (sym (parties-kept call line e)) (presenter-step x e ready different (receivesWith f br) bp trace j call line brought)
+  at-presenter : Joined (presentingRoute (e .session .parties)) (presentsWith e bp) (receivesWith f br) trace → Joined (presentingRoute (d .session .parties)) (presentsWith d (cond (eqb (event .said .number) 0) (presenterEnters call bp) bp)) (receivesWith f br) (event ∷ trace)
+  at-presenter j = subst (λ (p : Parties). Joined (presentingRoute p) (presentsWith d (cond (eqb (event .said .number) 0) (presenterEnters call bp) bp)) (receivesWith f br) (event ∷ trace)) (sym (parties-kept call line e)) (presenter-step x e ready different (receivesWith f br) bp trace j call line brought)
 
-  at-receiver : presentingRoute (f .session .parties) ≡ receivingRoute (e .session .parties) → Joined (presentingRoute (f .session .parties)) (presentsWith f bp) (receivesWith e br) trace → Joined (presentingRoute (f .session .parties)) (presentsWith f bp) (receivesWith d (cond (eqb (event .said .number) 0) (receives call (event .said .bytes) br) br)) (event ∷ trace)
+  at-receiver : presentingRoute (f .session .parties) ≡ receivingRoute (e .session .parties) → Joined (presentingRoute (f .session .parties)) (presentsWith f bp) (receivesWith e br) trace → Joined (presentingRoute (f .session .parties)) (presentsWith f bp) (receivesWith d (cond (eqb (event .said .number) 0) (receiverEnters call (event .said .bytes) br) br)) (event ∷ trace)
   at-receiver way j =
-      subst (λ (route : Route). Joined route (presentsWith f bp) (receivesWith d (cond (eqb (event .said .number) 0) (receives call (event .said .bytes) br) br)) (event ∷ trace)) (sym way)
+      subst (λ (route : Route). Joined route (presentsWith f bp) (receivesWith d (cond (eqb (event .said .number) 0) (receiverEnters call (event .said .bytes) br) br)) (event ∷ trace)) (sym way)
       (receiver-step x e ready different (presentsWith f bp) br trace (subst (λ (route : Route). Joined route (presentsWith f bp) (receivesWith e br) trace) way j) call line brought)
 
 -- what holds of the engine after a call, and of the other end, holds of both
@@ -82,13 +81,13 @@ both-ends Q End.far e engine here there End.far = here
 -- every call keeps both directions
 module _ (w : World) (all : Whole w) (call : Call) (line : List ℕ) (brought : Brought call (w .trace)) where
   abbrev after : End → End → Engine
-  after x = replaced x (perform call line (w .engine x) .engine) (w .engine)
+  after x = replaced x (performed call line (w .engine x) .engine) (w .engine)
 
   parties-same : (x y : End) → after x y .session .parties ≡ w .engine y .session .parties
   parties-same x = both-ends (λ (y : End) (e : Engine). e .session .parties ≡ w .engine y .session .parties) x _ (w .engine) (parties-kept call line (w .engine x)) refl
 
   stay-joined : (x p : End) → JoinedAt (act (record { at = x; call = call; line = line }) w) p
-  unfolding act confirmingAt countingAt
+  unfolding act presenterLedgerAt receiverLedgerAt
   stay-joined End.near End.near = at-presenter End.near call line _ (w .engine End.far) _ _ (w .trace) (all .ready End.near) (all .different End.near) brought (all .joined End.near)
   stay-joined End.far End.far = at-presenter End.far call line _ (w .engine End.near) _ _ (w .trace) (all .ready End.far) (all .different End.far) brought (all .joined End.far)
   stay-joined End.near End.far = at-receiver End.near call line _ (w .engine End.far) _ _ (w .trace) (all .ready End.near) (all .different End.near) brought (all .ways End.far) (all .joined End.far)
@@ -142,8 +141,8 @@ two-ends : (Q : End → Engine → Type 0) (a b : Engine) → Q End.near a → Q
 two-ends Q a b here there End.near = here
 two-ends Q a b here there End.far = there
 
-begun-whole : (date one two : ℕ) (represented : End → List ℕ) → Begins date one two represented → Whole (begun date one two represented)
-unfolding begun fresh confirmingAt countingAt
+begun-whole : (date one two : ℕ) (represented : End → List ℕ) → StartsAccepted date one two represented → Whole (begun date one two represented)
+unfolding begun fresh presenterLedgerAt receiverLedgerAt
 begun-whole date one two represented begins =
     let near = just-started date one two (represented End.near) (begins .near) in
     let far = just-started date two one (represented End.far) (begins .far) in
@@ -170,8 +169,8 @@ begun-whole date one two represented begins =
         }
 
 -- after a reply call that was not refused nothing waits
-none-after : (p : End) (time : ℕ) (bytes said : List ℕ) (earlier : List Event) → confirmingAt p (record { at = p; call = Call.reply time bytes; said = record { number = 0; bytes = said } } ∷ earlier) .waiting ≡ none
-unfolding confirmingAt
+none-after : (p : End) (time : ℕ) (bytes said : List ℕ) (earlier : List Event) → presenterLedgerAt p (record { at = p; call = Call.reply time bytes; said = record { number = 0; bytes = said } } ∷ earlier) .waiting ≡ none
+unfolding presenterLedgerAt
 none-after End.near time bytes said earlier = refl
 none-after End.far time bytes said earlier = refl
 
@@ -183,11 +182,11 @@ module _ (w : World) (all : Whole w) (p : End) where
   abbrev f : Engine
   f = w .engine (other p)
 
-  abbrev bp : Confirming
-  bp = confirmingAt p (w .trace)
+  abbrev bp : PresenterLedger
+  bp = presenterLedgerAt p (w .trace)
 
-  abbrev br : Counting
-  br = countingAt (other p) (w .trace)
+  abbrev br : ReceiverLedger
+  br = receiverLedgerAt (other p) (w .trace)
 
   presented : presentedTally w p ≡ tallied (confirmed w p)
   unfolding report
@@ -208,7 +207,7 @@ module _ (w : World) (all : Whole w) (p : End) where
       lot none h = absurd (false≢true (ap isOpen h))
       lot (some l) h = refl
 
-      go : (waiting : Option Entry) → PendingSound (waitingEffect waiting (bp .ledger)) (e .session .presenting .counters) → awaited (waitingEffect waiting (bp .ledger)) ≡ namedBy waiting (bp .ledger .current)
+      go : (waiting : Option Entry) → PendingSound (waitingEffect waiting (bp .ledger)) (e .session .presenting .counters) → awaited (waitingEffect waiting (bp .ledger)) ≡ awaitedBy waiting (bp .ledger .current)
       go none s = refl
       go (some (Entry.header number)) s = refl
       go (some (Entry.detail ds)) s = refl
@@ -242,7 +241,7 @@ module _ (w : World) (all : Whole w) (p : End) where
 
       ended : (current : Option LedgerLot) → bp .waiting ≡ some Entry.lotTotal → bp .ledger .current ≡ current → counted w p ≡ moved (confirmed w p) current → Level w p ⊎ Ahead w p
       ended none w c h = inl (level h)
-      ended (some l) w c h = inr (ahead l c (λ i. namedBy (w i) (c i)) h)
+      ended (some l) w c h = inr (ahead l c (λ i. awaitedBy (w i) (c i)) h)
 
       entered : (d : Entry) (accepted : Bool) → bp .waiting ≡ some d → br .ledger ≡ enter d accepted (bp .ledger) → Level w p ⊎ Ahead w p
       entered (Entry.header number) true w h = inl (level (lots-of h))
@@ -260,10 +259,10 @@ module _ (w : World) (all : Whole w) (p : End) where
       go (Link.taken d w s b) = entered d (accepts (f .session .receiving .reply .code)) w b
 
   settled : JustReplied w p → (reportAt w p .awaited ≡ Awaited.Neither) × Level w p
-  settled just = (named ∙ ap (λ (o : Option Entry). namedBy o (bp .ledger .current)) waits, go (all .joined p .link))
+  settled just = (named ∙ ap (λ (o : Option Entry). awaitedBy o (bp .ledger .current)) waits, go (all .joined p .link))
     where
       waits : bp .waiting ≡ none
-      waits = ap (λ (trace : List Event). confirmingAt p trace .waiting) (just .latest) ∙ none-after p (just .time) (just .bytes) (just .said) (just .earlier)
+      waits = ap (λ (trace : List Event). presenterLedgerAt p trace .waiting) (just .latest) ∙ none-after p (just .time) (just .bytes) (just .said) (just .earlier)
 
       go : Link (e .session .presenting) (f .session .receiving) (bp .waiting) (bp .ledger) (br .ledger) → Level w p
       go (Link.idle h s b) = level (ap (λ (l : Ledger). l .lots) (sym b))
@@ -284,7 +283,7 @@ module _ (w : World) (all : Whole w) (p : End) where
       }
 
 -- both directions stay joined through any list of calls
-pub whole-after : (date nearEntity farEntity : ℕ) (represented : End → List ℕ) → Begins date nearEntity farEntity represented → (steps : List Step) → Possible steps (begun date nearEntity farEntity represented) → Whole (run steps (begun date nearEntity farEntity represented))
+pub whole-after : (date nearEntity farEntity : ℕ) (represented : End → List ℕ) → StartsAccepted date nearEntity farEntity represented → (steps : List Step) → Possible steps (begun date nearEntity farEntity represented) → Whole (run steps (begun date nearEntity farEntity represented))
 whole-after date nearEntity farEntity represented begins steps possible = run-keeps steps (begun date nearEntity farEntity represented) (begun-whole date nearEntity farEntity represented begins) possible
 
 pub agreement : BothEndsTogether

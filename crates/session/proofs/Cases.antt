@@ -6,23 +6,26 @@ use Prim.Native.Nat.{ℕ, _-_}
 use lib.ListN.{set, drop, replicate}
 use Rattle.packed.specs.Part.{byteAt}
 use Rattle.packed.specs.Number.{byteValue}
+use Rattle.amounts.specs.declared.Totals.{Totals}
 use Rattle.amounts.specs.Totals.{totals, zeros}
-use Rattle.codes.specs.declared.reply.Code.{Code}
+use Rattle.codes.specs.declared.code.Code.{Code}
 use Rattle.document.specs.Operation.{presentedNumber}
 use Rattle.detail.specs.Limits.{headBytes}
-use Rattle.detail.specs.Codes.{receiverCode}
+use Rattle.detail.specs.declared.checked.Checked.{Checked}
+use Rattle.detail.specs.Checked.{fourNumbers, programChecked}
 use Rattle.session.specs.declared.counters.Counters.{Counters}
 use Rattle.session.specs.Running.{documentsIn}
 use Rattle.session.specs.Start.{start}
+use Rattle.session.specs.Outcome.{seenAt, withPresenting, withReceiving}
 use Rattle.session.specs.Sending.{openNumber}
-use Rattle.session.specs.Engine.{Call, Engine, Done, perform, withEmpty}
+use Rattle.session.specs.Engine.{Call, Engine, Performed, performed, saidBy, withEmpty}
 use Rattle.session.specs.Ends.{End}
 use Rattle.session.proofs.Examples.{computing, buffer, moment, Sent, messageFrom, replyTo, sending, receiving, replied}
 
--- what a case asks: the code of a detail; the number of a call; its number and the reply that it writes; all that it says and leaves; its number
+-- what a case asks: what the check program shows of a body; the number of a call; its number and the reply that it writes; all that it says and leaves; its number
 -- with a line buffer of so many bytes
 data Asked : Type 0 where
-  code : (body : List ℕ) → Asked
+  checked : (body : List ℕ) → Asked
   number : Engine → Call → Asked
   reply : Engine → Call → Asked
   everything : Engine → Call → Asked
@@ -30,21 +33,26 @@ data Asked : Type 0 where
 
 -- and what it gets; beside a reply stand the open lot, 0 for none, and its documents
 data Answer : Type 0 where
+  checked : Checked → Answer
   number : ℕ → Answer
   reply : (number operation code lot documents : ℕ) → Answer
-  everything : Done → Answer
+  everything : Performed → Answer
 
-abbrev replied-by : Done → Answer
+abbrev replied-by : Performed → Answer
 replied-by d =
-    Answer.reply (d .said .number) (byteValue (byteAt 15 (d .said .bytes))) (byteValue (byteAt 16 (d .said .bytes)))
+    Answer.reply (d .number) (byteValue (byteAt 15 (saidBy d .bytes))) (byteValue (byteAt 16 (saidBy d .bytes)))
     (openNumber (d .engine .session .receiving .counters .current)) (documentsIn (d .engine .receiving))
 
 abbrev answer : Asked → Answer
-answer (Asked.code body) = Answer.number (receiverCode 72 [] body)
-answer (Asked.number e call) = Answer.number (perform call buffer e .said .number)
-answer (Asked.reply e call) = replied-by (perform call buffer e)
-answer (Asked.everything e call) = Answer.everything (perform call buffer e)
-answer (Asked.inRoom bytes e call) = Answer.number (perform call (replicate bytes 0) e .said .number)
+answer (Asked.checked body) = Answer.checked (programChecked body)
+answer (Asked.number e call) = Answer.number (performed call buffer e .number)
+answer (Asked.reply e call) = replied-by (performed call buffer e)
+answer (Asked.everything e call) = Answer.everything (performed call buffer e)
+answer (Asked.inRoom bytes e call) = Answer.number (performed call (replicate bytes 0) e .number)
+
+-- the printed line: code, documents, nominal, commission
+abbrev shows : ℕ → Totals → Answer
+shows code t = Answer.checked (fourNumbers code t)
 
 -- a case beside the paper's answer
 record Case : Type 0 where
@@ -97,7 +105,7 @@ arriving time serial x = receiving time End.near serial x
 -- what an engine is after some calls
 abbrev after : List Call → Engine → Engine
 after [] e = e
-after (call ∷ calls) e = after calls (perform call buffer e .engine)
+after (call ∷ calls) e = after calls (performed call buffer e .engine)
 
 -- lot 7 is open, at the presenter and at the receiver
 abbrev openPresenter : Engine
@@ -118,35 +126,31 @@ abbrev total : (lot : ℕ) → Sent
 total n = Sent.lotTotal n (totals 1 15000 30)
 
 -- after serial 5: lot 7 was accepted, and lot 8 has the same document
-abbrev fifth : Done
-fifth = perform (arriving 80000 5 detail) buffer (after (arriving 80000 2 detail ∷ arriving 80000 3 (total 7) ∷ arriving 80000 4 (Sent.header 8) ∷ []) openReceiver)
+abbrev fifth : Performed
+fifth = performed (arriving 80000 5 detail) buffer (after (arriving 80000 2 detail ∷ arriving 80000 3 (total 7) ∷ arriving 80000 4 (Sent.header 8) ∷ []) openReceiver)
 
 abbrev five : Engine
 five = fifth .engine
 
 -- what the fifth message got, but for a later time that was seen
-abbrev fifth-again : (time : ℕ) → Done
+abbrev fifth-again : (time : ℕ) → Performed
 fifth-again time =
-    let s = five .session in
     record {
-      said = fifth .said;
-      engine =
-          record {
-            session = record { parties = s .parties; presenting = s .presenting; receiving = s .receiving; seen = time; close = s .close };
-            presenting = five .presenting;
-            receiving = five .receiving;
-          };
+      number = fifth .number;
+      written = fifth .written;
+      line = fifth .line;
+      engine = record { session = seenAt time (five .session); presenting = five .presenting; receiving = five .receiving };
     }
 
 starred-cases :
     -- beside a reply: number of the call, operation, code, open lot or 0, its documents
     let cases : List Case =
     -- the printed body, and as it is changed
-    Asked.code printed is Answer.number 0
-    ∷ Asked.code (with-byte 35 0x0A printed) is Answer.number 3
-    ∷ Asked.code (with-byte 36 0x00 (with-byte 37 0x73 printed)) is Answer.number 6
-    ∷ Asked.code (with-byte 35 0x0A (with-byte 22 0x53 printed)) is Answer.number 1
-    ∷ Asked.code [] is Answer.number 1
+    Asked.checked printed is shows 0 (totals 1 15000 30)
+    ∷ Asked.checked (with-byte 35 0x0A printed) is shows 3 zeros
+    ∷ Asked.checked (with-byte 36 0x00 (with-byte 37 0x73 printed)) is shows 6 zeros
+    ∷ Asked.checked (with-byte 35 0x0A (with-byte 22 0x53 printed)) is shows 1 zeros
+    ∷ Asked.checked [] is shows 1 zeros
     -- a header at 83,699 and at 83,700: sent, then received
     ∷ Asked.number presenter (sending 83699 (Sent.header 7)) is Answer.number 0
     ∷ Asked.number presenter (sending 83700 (Sent.header 7)) is Answer.number 10
@@ -175,32 +179,28 @@ starred-cases :
 unfolding computing
 starred-cases = refl
 
--- a session of which so many lots were accepted both ways, and one that has used so many serials
+-- an engine of which so many lots were accepted both ways, and one that has used so many serials
+abbrev manyLots : (lots : ℕ) → Counters → Counters
+manyLots n c = record { current = c .current; lots = n; gathered = c .gathered }
+
 abbrev withLots : (lots : ℕ) → Engine → Engine
 withLots n e =
     let s = e .session in
     let p = s .presenting in
     let r = s .receiving in
-    let many : Counters → Counters = λ (c : Counters). record { current = c .current; lots = n; gathered = c .gathered } in
     record {
       session =
-          record {
-            parties = s .parties;
-            presenting = record { serial = p .serial; pending = p .pending; counters = many (p .counters); ended = p .ended };
-            receiving = record { serial = r .serial; reply = r .reply; counters = many (r .counters); ended = r .ended; lots = r .lots };
-            seen = s .seen;
-            close = s .close;
-          };
+          withPresenting (record { serial = p .serial; pending = p .pending; counters = manyLots n (p .counters); ended = p .ended })
+          (withReceiving (record { serial = r .serial; reply = r .reply; counters = manyLots n (r .counters); ended = r .ended; lots = r .lots }) s);
       presenting = e .presenting;
       receiving = e .receiving;
     }
 
 abbrev withSerial : (serial : ℕ) → Engine → Engine
 withSerial n e =
-    let s = e .session in
-    let p = s .presenting in
+    let p = e .session .presenting in
     record {
-      session = record { parties = s .parties; presenting = record { serial = n; pending = p .pending; counters = p .counters; ended = p .ended }; receiving = s .receiving; seen = s .seen; close = s .close };
+      session = withPresenting (record { serial = n; pending = p .pending; counters = p .counters; ended = p .ended }) (e .session);
       presenting = e .presenting;
       receiving = e .receiving;
     }

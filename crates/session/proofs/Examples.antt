@@ -3,52 +3,53 @@
 use Prim.Native.Nat.{ℕ}
 use mathlib.Core.List.{List, flatMap}
 use lib.ListN.{replicate}
-use Rattle.packed.specs.Every.{every, anyOf}
+use Rattle.packed.specs.Every.{every, anyOf, member}
 use Rattle.packed.specs.Digits.{isDigits}
 use Rattle.packed.specs.Number.{byteValue, number}
 use Rattle.packed.specs.Pieces.{cut}
 use Rattle.packed.specs.Writing.{packedByte, packedBytes}
 use Rattle.amounts.specs.declared.Totals.{Totals}
-use Rattle.codes.specs.declared.reply.Code.{Code}
+use Rattle.codes.specs.declared.code.Code.{Code}
 use Rattle.codes.specs.Chain.{_when_, _orelse_}
 use Rattle.codes.specs.Field.{earning, tableWritten}
 use Rattle.codes.specs.Numbered.{numbered}
-use Rattle.codes.specs.Reply.{codes, codeByte, codeOf, readCode, knownCode}
+use Rattle.codes.specs.Code.{codes, codeByte, codeNumbered, readCode, knownCode}
 use Rattle.document.specs.Amounts.{nominal, commission, totalsOf}
 use Rattle.document.specs.Drawee.{drawee, draweeServed}
-use Rattle.document.specs.Entities.{member}
 use Rattle.document.specs.Fields.{documentFields, fieldsGood, amountsGood}
 use Rattle.document.specs.Rules.{monthDays}
 use Rattle.detail.specs.Codes as DetailCodes
 use Rattle.detail.specs.Groups as Groups
-use Rattle.detail.specs.Writing.{written}
+use Rattle.detail.specs.Checked.{checkedCode, checked}
+use Rattle.detail.specs.Writing.{writtenDetail}
 use Rattle.message.specs.declared.envelope.Envelope.{Envelope}
 use Rattle.message.specs.declared.route.Route.{Route}
 use Rattle.message.specs.Content.{byOperation, contentOf}
 use Rattle.message.specs.Envelope.{envelopeFields, envelopeGood}
 use Rattle.message.specs.Header.{headerFields, sendable}
 use Rattle.message.specs.Layout.{shapeGood, bodyCode}
-use Rattle.message.specs.Line.{Body, bodyBytes, message, wholeReply}
+use Rattle.message.specs.Line.{Body, bodyBytes, wholeMessage, wholeReply}
 use Rattle.message.specs.Reply.{operationByte, replyOperation, replyGood}
 use Rattle.message.specs.Total.{lotTotalFields, sessionTotalFields}
 use Rattle.session.specs.Parties.{realDate, partiesGood, padded}
 use Rattle.session.specs.Start.{fresh, start}
 use Rattle.session.specs.Course.{advance, kept}
 use Rattle.session.specs.Sequence.{headerSequence, lotSequence, lotTotalSequence, sessionTotalSequence}
-use Rattle.session.specs.Outcome.{decided, clockRefusal, timeRefusal}
+use Rattle.session.specs.Outcome.{decided}
+use Rattle.session.specs.Time.{clockRefusal, timeRefusal}
 use Rattle.session.specs.Sending.{sendRefusal, send, headerStop, detailStop, lotTotalStop, sessionTotalStop, sendHeader, sendDetail, sendLotTotal, sendSessionTotal}
-use Rattle.session.specs.Receiving.{headerCode, detailCode, lotTotalCode, sessionTotalCode, codeBy, effectBy, receivingAfter, receiveRefusal, receive}
+use Rattle.session.specs.Receiving.{headerCode, detailCode, lotTotalCode, sessionTotalCode, receivedCode, receivedEffect, receivingAfter, receiveRefusal, receive}
 use Rattle.session.specs.Reply.{isAwaited, replyRefusal, takeReply}
 use Rattle.session.specs.Clock.{clock}
 use Rattle.session.specs.Report.{report}
-use Rattle.session.specs.Ledger.{enter, entryBy, sum, lotsSum}
-use Rattle.session.specs.Engine.{Call, meaning, perform}
+use Rattle.session.specs.Ledger.{enter, receivedEntry, sum, lotsSum}
+use Rattle.session.specs.Engine.{Call, meaning, performed}
 use Rattle.session.specs.Ends.{End, act, run, begun}
-use Rattle.session.specs.Entering.{confirmingAt, countingAt}
+use Rattle.session.specs.Entering.{presenterLedgerAt, receiverLedgerAt}
 
 -- whoever unfolds this unfolds them all
 unfoldable pub computing : Unit {0}
-unfolding flatMap every anyOf isDigits byteValue number cut packedByte packedBytes _when_ _orelse_ earning tableWritten numbered codes codeByte codeOf readCode knownCode nominal commission totalsOf drawee draweeServed member documentFields fieldsGood amountsGood monthDays DetailCodes.receiverCode DetailCodes.sendable DetailCodes.presenterCode Groups.groups Groups.groupGood Groups.shapeGood Groups.oneOperation Groups.documents written byOperation envelopeFields envelopeGood headerFields sendable shapeGood bodyCode bodyBytes operationByte replyGood lotTotalFields sessionTotalFields realDate partiesGood padded fresh start advance kept headerSequence lotSequence lotTotalSequence sessionTotalSequence decided clockRefusal timeRefusal sendRefusal send headerStop detailStop lotTotalStop sessionTotalStop sendHeader sendDetail sendLotTotal sendSessionTotal headerCode detailCode lotTotalCode sessionTotalCode codeBy effectBy receivingAfter receiveRefusal receive isAwaited replyRefusal takeReply clock report enter entryBy sum lotsSum meaning perform act run confirmingAt countingAt begun
+unfolding checked checkedCode flatMap every anyOf isDigits byteValue number cut packedByte packedBytes _when_ _orelse_ earning tableWritten numbered codes codeByte codeNumbered readCode knownCode nominal commission totalsOf drawee draweeServed member documentFields fieldsGood amountsGood monthDays DetailCodes.receiverCode DetailCodes.sendable DetailCodes.presenterCode Groups.groups Groups.groupGood Groups.shapeGood Groups.oneOperation Groups.documents writtenDetail byOperation envelopeFields envelopeGood headerFields sendable shapeGood bodyCode bodyBytes operationByte replyGood lotTotalFields sessionTotalFields realDate partiesGood padded fresh start advance kept headerSequence lotSequence lotTotalSequence sessionTotalSequence decided clockRefusal timeRefusal sendRefusal send headerStop detailStop lotTotalStop sessionTotalStop sendHeader sendDetail sendLotTotal sendSessionTotal headerCode detailCode lotTotalCode sessionTotalCode receivedCode receivedEffect receivingAfter receiveRefusal receive isAwaited replyRefusal takeReply clock report enter receivedEntry sum lotsSum meaning performed act run presenterLedgerAt receiverLedgerAt begun
 computing = tt
 
 -- the route on which an end presents
@@ -69,7 +70,7 @@ moment = 21000000
 
 abbrev pub bodyFrom : End → Sent → List ℕ
 bodyFrom p (Sent.header number) = bodyBytes (way p) (Body.opening (record { time = moment; centre = 1; number = number }))
-bodyFrom p (Sent.detail operation part) = written (packedByte operation) part
+bodyFrom p (Sent.detail operation part) = writtenDetail (packedByte operation) part
 bodyFrom p (Sent.lotTotal number stated) = bodyBytes (way p) (Body.lotEnding (record { number = number; stated = stated }))
 bodyFrom p (Sent.sessionTotal lots stated) = bodyBytes (way p) (Body.sessionEnding (record { number = lots; stated = stated }))
 
@@ -78,7 +79,7 @@ abbrev pub envelopeFrom : End → (serial : ℕ) → Envelope
 envelopeFrom p serial = record { route = way p; serial = serial }
 
 abbrev pub messageFrom : End → (serial : ℕ) → Sent → List ℕ
-messageFrom p serial x = message (envelopeFrom p serial) (bodyFrom p x)
+messageFrom p serial x = wholeMessage (envelopeFrom p serial) (bodyFrom p x)
 
 abbrev pub replyTo : End → (serial : ℕ) → Sent → Code → List ℕ
 replyTo p serial x code = wholeReply (envelopeFrom p serial) (record { operation = replyOperation (contentOf (bodyFrom p x)); code = code })

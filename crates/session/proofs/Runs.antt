@@ -13,7 +13,7 @@ use Rattle.packed.specs.Part.{byteAt}
 use Rattle.packed.proofs.Laws.Told.{both}
 use Rattle.amounts.specs.declared.Totals.{Totals}
 use Rattle.amounts.specs.Totals.{totals, zeros}
-use Rattle.codes.specs.declared.reply.Code.{Code}
+use Rattle.codes.specs.declared.code.Code.{Code}
 use Rattle.codes.specs.Field.{tableWritten}
 use Rattle.document.specs.Fields.{documentFields}
 use Rattle.document.specs.Operation.{presented, returned}
@@ -26,7 +26,7 @@ use Rattle.session.specs.Hours.{close}
 use Rattle.session.specs.Reply.{replyCode}
 use Rattle.session.specs.Ledger.{LedgerLot, ofOperation}
 use Rattle.session.specs.Engine.{Call}
-use Rattle.session.specs.Ends.{End, other, Event, World, Step, act, run, Written, Brought, Possible, begun}
+use Rattle.session.specs.Ends.{End, other, Event, World, Step, act, run, WrittenBefore, Brought, Possible, begun}
 use Rattle.session.specs.Claim.{confirmed, counted, reportAt, presentedTally, receivedTally}
 use Rattle.session.proofs.Examples.{computing, buffer, Sent, messageFrom, replyTo, sending, receiving, replied}
 
@@ -68,7 +68,7 @@ either : (a b : Bool) → a || b ≡ true → (a ≡ true) ⊎ (b ≡ true)
 either true b e = inl refl
 either false b e = inr e
 
-written : (bytes : List ℕ) (trace : List Event) → isWritten bytes trace ≡ true → Written bytes trace
+written : (bytes : List ℕ) (trace : List Event) → isWritten bytes trace ≡ true → WrittenBefore bytes trace
 written bytes [] e = absurd (false≢true e)
 written bytes (x ∷ earlier) e =
     let here = eqb (x .said .number) 0 in

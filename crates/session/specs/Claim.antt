@@ -5,34 +5,34 @@ use mathlib.Core.Path.{_≡_}
 use mathlib.Core.List.{List, [], _∷_, _++_}
 use mathlib.Core.Logic.{_⊎_}
 use mathlib.Core.Option.{some}
-use Rattle.session.specs.Course.{Direction}
 use Rattle.session.specs.declared.counters.Lot.{Lot}
 use Rattle.session.specs.declared.report.Tally.{Tally}
 use Rattle.session.specs.declared.report.Awaited.{Awaited}
 use Rattle.session.specs.declared.report.Report.{Report}
 use Rattle.session.specs.Report.{report}
 use Rattle.session.specs.Running.{gather}
-use Rattle.session.specs.Premise.{Sound, Carried}
 use Rattle.session.specs.Ledger.{LedgerLot, lotSum, tallied, numbers, Distinct}
-use Rattle.session.specs.Engine.{Call, Engine}
-use Rattle.session.specs.Ends.{End, other, Event, World, Step, run, Possible, begun, Begins}
-use Rattle.session.specs.Entering.{toBeNamed, confirmingAt, countingAt}
+use Rattle.session.specs.Engine.{Call, Ready}
+use Rattle.session.specs.Ends.{End, other, Event, World, Step, run, Possible, begun, StartsAccepted}
+use Rattle.session.specs.Entering.{toBeNamed, presenterLedgerAt, receiverLedgerAt}
 
--- of a direction in which the end p presents: counted lots are the receiver's list, confirmed ones the presenter's
+-- of a direction in which the end p presents: confirmed lots are the presenter's list
 abbrev pub confirmed : World → End → List LedgerLot
-confirmed w p = confirmingAt p (w .trace) .ledger .lots
+confirmed w p = presenterLedgerAt p (w .trace) .ledger .lots
 
+-- counted ones the receiver's
 abbrev pub counted : World → End → List LedgerLot
-counted w p = countingAt (other p) (w .trace) .ledger .lots
+counted w p = receiverLedgerAt (other p) (w .trace) .ledger .lots
 
 -- the report at an end
 abbrev pub reportAt : World → End → Report
 reportAt w x = report (w .engine x .session)
 
--- the two ends' totals of the direction
+-- the direction's totals in the presenter's report
 abbrev pub presentedTally : World → End → Tally
 presentedTally w p = reportAt w p .presented
 
+-- and in the receiver's
 abbrev pub receivedTally : World → End → Tally
 receivedTally w p = reportAt w (other p) .received
 
@@ -48,7 +48,7 @@ pub record Level (w : World) (p : End) : Type 0 where
 -- the presenter's report names its open lot, and the receiver has counted the confirmed ones and then that one, document by document
 pub record Ahead (w : World) (p : End) : Type 0 where
   pub lot : LedgerLot
-  pub unconfirmed : confirmingAt p (w .trace) .ledger .current ≡ some lot
+  pub unconfirmed : presenterLedgerAt p (w .trace) .ledger .current ≡ some lot
   pub named : reportAt w p .awaited ≡ Awaited.LotTotal (lotSum lot)
   pub lots : counted w p ≡ confirmed w p ++ lot ∷ []
   pub totals : receivedTally w p ≡ oneMore (lotSum lot) (presentedTally w p)
@@ -61,12 +61,6 @@ pub record JustReplied (w : World) (p : End) : Type 0 where
   pub earlier : List Event
   pub latest : w .trace ≡ record { at = p; call = Call.reply time bytes; said = record { number = 0; bytes = said } } ∷ earlier
 
--- the premise of every contract, at one end
-pub record Ready (e : Engine) : Type 0 where
-  pub sound : Sound (e .session)
-  pub presenting : Carried Direction.presenting (e .session) (e .presenting)
-  pub receiving : Carried Direction.receiving (e .session) (e .receiving)
-
 -- the claim about one direction, in which the end p presents
 pub record Agreement (w : World) (p : End) : Type 0 where
   -- the clause on the lots: counted are the confirmed ones; or the report names an unconfirmed one, and counted are the confirmed and then it
@@ -77,9 +71,9 @@ pub record Agreement (w : World) (p : End) : Type 0 where
   -- on a report's totals: they are counts and sums over its end's list
   pub presented : presentedTally w p ≡ tallied (confirmed w p)
   pub received : receivedTally w p ≡ tallied (counted w p)
-  -- on what a report names: the open lot, with number, counts and sums, from the send of its total that was not refused until the reply call for
+  -- on what a report names: the open lot, with number, counts and sums (or a session total), from the send of its total that was not refused until the reply call for
   -- it that was not, and at no other time
-  pub named : reportAt w p .awaited ≡ toBeNamed (confirmingAt p (w .trace))
+  pub named : reportAt w p .awaited ≡ toBeNamed (presenterLedgerAt p (w .trace))
   -- the last sentence: right after that reply call, and after one for any other message, nothing is named and the ends are level
   pub settled : JustReplied w p → (reportAt w p .awaited ≡ Awaited.Neither) × Level w p
   -- beside the demand: the premise of every call holds at both ends, so the theorem is about the engine that runs
@@ -88,4 +82,4 @@ pub record Agreement (w : World) (p : End) : Type 0 where
 -- one claim about a whole list of calls: whatever the date, the pair and the represented entities of two starts that were not refused, after any
 -- calls at either end, with any arguments, over a line that brings what was written and nothing else, both directions agree
 abbrev pub BothEndsTogether : Type 0
-BothEndsTogether = (date nearEntity farEntity : ℕ) (represented : End → List ℕ) → Begins date nearEntity farEntity represented → (steps : List Step) → Possible steps (begun date nearEntity farEntity represented) → (p : End) → Agreement (run steps (begun date nearEntity farEntity represented)) p
+BothEndsTogether = (date nearEntity farEntity : ℕ) (represented : End → List ℕ) → StartsAccepted date nearEntity farEntity represented → (steps : List Step) → Possible steps (begun date nearEntity farEntity represented) → (p : End) → Agreement (run steps (begun date nearEntity farEntity represented)) p

@@ -10,15 +10,6 @@ use Rattle.session.specs.declared.counters.Course.{Course}
 use Rattle.session.specs.declared.effect.Effect.{Effect}
 use Rattle.session.specs.Running.{Running, empty, gather}
 
--- the two directions of a centre
-pub data Direction : Type 0 where
-  presenting : Direction
-  receiving : Direction
-
-abbrev pub opposite : Direction → Direction
-opposite Direction.presenting = Direction.receiving
-opposite Direction.receiving = Direction.presenting
-
 -- counters, and the running totals beside them
 abbrev pub course : Counters → Running → Course
 course c t = record { counters = c; running = t }
@@ -31,6 +22,7 @@ reopened lot c = record { current = lot; lots = c .lots; gathered = c .gathered 
 abbrev pub oneMoreLot : Lot → Counters → Counters
 oneMoreLot l c = record { current = OpenLot.None; lots = suc (c .lots); gathered = gather (c .gathered) (l .gathered) }
 
+-- what a message does to its direction, by whether its reply is 00
 unfoldable pub advance : Effect → (accepted : Bool) → Course → Course
 -- a header opens its lot
 advance (Effect.Header number) true k = record { counters = reopened (OpenLot.Numbered number) (k .counters); running = empty }

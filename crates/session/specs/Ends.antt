@@ -4,12 +4,14 @@ use mathlib.Core.Path.{_≡_}
 use mathlib.Core.List.{List, [], _∷_}
 use mathlib.Core.Logic.{_⊎_}
 use Rattle.session.specs.Start.{start}
-use Rattle.session.specs.Engine.{Call, Engine, Said, perform, withEmpty}
+use Rattle.session.specs.Engine.{Call, Engine, Said, saidBy, performed, withEmpty}
 
+-- the two ends of the line
 pub data End : Type 0 where
   near : End
   far : End
 
+-- the other one
 abbrev pub other : End → End
 other End.near = End.far
 other End.far = End.near
@@ -41,22 +43,23 @@ pub record Step : Type 0 where
 -- one call, on what the last one at its end left
 unfoldable pub act : Step → World → World
 act s w =
-    let d = perform (s .call) (s .line) (w .engine (s .at)) in
-    record { engine = replaced (s .at) (d .engine) (w .engine); trace = record { at = s .at; call = s .call; said = d .said } ∷ w .trace }
+    let d = performed (s .call) (s .line) (w .engine (s .at)) in
+    record { engine = replaced (s .at) (d .engine) (w .engine); trace = record { at = s .at; call = s .call; said = saidBy d } ∷ w .trace }
 
+-- a list of calls, in order
 unfoldable pub run : List Step → World → World
 run [] w = w
 run (s ∷ steps) w = run steps (act s w)
 
 -- some bytes are what an unrefused call at either end wrote
-abbrev pub Written : (bytes : List ℕ) → List Event → Type 0
-Written bytes [] = ⊥
-Written bytes (e ∷ earlier) = ((e .said .number ≡ 0) × (e .said .bytes ≡ bytes)) ⊎ Written bytes earlier
+abbrev pub WrittenBefore : (bytes : List ℕ) → List Event → Type 0
+WrittenBefore bytes [] = ⊥
+WrittenBefore bytes (e ∷ earlier) = ((e .said .number ≡ 0) × (e .said .bytes ≡ bytes)) ⊎ WrittenBefore bytes earlier
 
 -- the line brings such bytes alone; all other arguments are free
 abbrev pub Brought : Call → List Event → Type 0
-Brought (Call.receive time bytes) trace = Written bytes trace
-Brought (Call.reply time bytes) trace = Written bytes trace
+Brought (Call.receive time bytes) trace = WrittenBefore bytes trace
+Brought (Call.reply time bytes) trace = WrittenBefore bytes trace
 Brought (Call.header time moment centre number) trace = Unit {0}
 Brought (Call.detail time operation part) trace = Unit {0}
 Brought (Call.lotTotal time) trace = Unit {0}
@@ -64,6 +67,7 @@ Brought (Call.sessionTotal time) trace = Unit {0}
 Brought (Call.clock time) trace = Unit {0}
 Brought Call.report trace = Unit {0}
 
+-- every call of a list is handed such bytes
 unfoldable pub Possible : List Step → World → Type 0
 Possible [] w = Unit {0}
 Possible (s ∷ steps) w = Brought (s .call) (w .trace) × Possible steps (act s w)
@@ -82,6 +86,6 @@ begun date nearEntity farEntity represented =
     }
 
 -- neither start was refused
-pub record Begins (date nearEntity farEntity : ℕ) (represented : End → List ℕ) : Type 0 where
+pub record StartsAccepted (date nearEntity farEntity : ℕ) (represented : End → List ℕ) : Type 0 where
   pub near : start date nearEntity farEntity (represented End.near) .number ≡ 0
   pub far : start date farEntity nearEntity (represented End.far) .number ≡ 0

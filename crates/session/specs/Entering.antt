@@ -5,7 +5,7 @@ use mathlib.Core.Bool.{Bool, true, false, _&&_, cond}
 use mathlib.Core.List.{List, [], _∷_}
 use mathlib.Core.Option.{Option, none, some}
 use lib.Dec.{eqb}
-use Rattle.document.specs.Entities.{member}
+use Rattle.packed.specs.Every.{member}
 use Rattle.message.specs.Envelope.{serialOf, bodyOf}
 use Rattle.session.specs.declared.report.Awaited.{Awaited}
 use Rattle.session.specs.Reply.{isAccepted}
@@ -14,80 +14,89 @@ use Rattle.session.specs.Engine.{Call}
 use Rattle.session.specs.Ends.{End, Event}
 
 -- at the presenter: the ledger, and the message whose reply is still to come
-pub record Confirming : Type 0 where
+pub record PresenterLedger : Type 0 where
   pub ledger : Ledger
   pub waiting : Option Entry
 
--- an unrefused send waits; the unrefused reply call enters it, with the code read
-abbrev pub waitingFor : Entry → Confirming → Confirming
+-- an unrefused send waits
+abbrev pub waitingFor : Entry → PresenterLedger → PresenterLedger
 waitingFor e b = record { ledger = b .ledger; waiting = some e }
 
+-- what waits is entered, with the code read
 abbrev pub enterWaiting : (accepted : Bool) → Option Entry → Ledger → Ledger
 enterWaiting accepted none b = b
 enterWaiting accepted (some e) b = enter e accepted b
 
-abbrev pub answeredWith : (accepted : Bool) → Confirming → Confirming
+-- and waits no longer
+abbrev pub answeredWith : (accepted : Bool) → PresenterLedger → PresenterLedger
 answeredWith accepted b = record { ledger = enterWaiting accepted (b .waiting) (b .ledger); waiting = none }
 
-abbrev pub presents : Call → Confirming → Confirming
-presents (Call.header time moment centre number) b = waitingFor (Entry.header number) b
-presents (Call.detail time operation part) b = waitingFor (partEntry operation part) b
-presents (Call.lotTotal time) b = waitingFor Entry.lotTotal b
-presents (Call.sessionTotal time) b = waitingFor Entry.sessionTotal b
-presents (Call.reply time bytes) b = answeredWith (isAccepted bytes) b
-presents (Call.receive time bytes) b = b
-presents (Call.clock time) b = b
-presents Call.report b = b
+-- what an unrefused call does to the presenter's ledger
+abbrev pub presenterEnters : Call → PresenterLedger → PresenterLedger
+presenterEnters (Call.header time moment centre number) b = waitingFor (Entry.header number) b
+presenterEnters (Call.detail time operation part) b = waitingFor (partEntry operation part) b
+presenterEnters (Call.lotTotal time) b = waitingFor Entry.lotTotal b
+presenterEnters (Call.sessionTotal time) b = waitingFor Entry.sessionTotal b
+presenterEnters (Call.reply time bytes) b = answeredWith (isAccepted bytes) b
+presenterEnters (Call.receive time bytes) b = b
+presenterEnters (Call.clock time) b = b
+presenterEnters Call.report b = b
 
 -- at the receiver: the ledger, and the serials that were received
-pub record Counting : Type 0 where
+pub record ReceiverLedger : Type 0 where
   pub ledger : Ledger
   pub serials : List ℕ
 
 -- a message is entered when its serial is first received, with the code replied
-abbrev pub received : (serial : ℕ) → Entry → (accepted : Bool) → Counting → Counting
-received serial e accepted b = cond (member serial (b .serials)) b (record { ledger = enter e accepted (b .ledger); serials = serial ∷ b .serials })
+abbrev pub firstReceived : (serial : ℕ) → Entry → (accepted : Bool) → ReceiverLedger → ReceiverLedger
+firstReceived serial e accepted b = cond (member serial (b .serials)) b (record { ledger = enter e accepted (b .ledger); serials = serial ∷ b .serials })
 
-abbrev pub receives : Call → (written : List ℕ) → Counting → Counting
-receives (Call.receive time bytes) written b = received (serialOf bytes) (bodyEntry (bodyOf bytes)) (isAccepted written) b
-receives (Call.header time moment centre number) written b = b
-receives (Call.detail time operation part) written b = b
-receives (Call.lotTotal time) written b = b
-receives (Call.sessionTotal time) written b = b
-receives (Call.reply time bytes) written b = b
-receives (Call.clock time) written b = b
-receives Call.report written b = b
+-- what an unrefused call, and what it wrote, do to the receiver's ledger
+abbrev pub receiverEnters : Call → (written : List ℕ) → ReceiverLedger → ReceiverLedger
+receiverEnters (Call.receive time bytes) written b = firstReceived (serialOf bytes) (bodyEntry (bodyOf bytes)) (isAccepted written) b
+receiverEnters (Call.header time moment centre number) written b = b
+receiverEnters (Call.detail time operation part) written b = b
+receiverEnters (Call.lotTotal time) written b = b
+receiverEnters (Call.sessionTotal time) written b = b
+receiverEnters (Call.reply time bytes) written b = b
+receiverEnters (Call.clock time) written b = b
+receiverEnters Call.report written b = b
 
--- a call enters the ledgers of its own end alone, and none if it was refused
+-- whether two ends are one
 abbrev pub sameEnd : End → End → Bool
 sameEnd End.near End.near = true
 sameEnd End.far End.far = true
 sameEnd End.near End.far = false
 sameEnd End.far End.near = false
 
-abbrev pub enters : End → Event → Bool
-enters x e = sameEnd (e .at) x && eqb (e .said .number) 0
+-- a call enters the ledgers of its own end alone, and none if it was refused
+abbrev pub isEntered : End → Event → Bool
+isEntered x e = sameEnd (e .at) x && eqb (e .said .number) 0
 
-unfoldable pub confirmingAt : End → List Event → Confirming
-confirmingAt x [] = record { ledger = blank; waiting = none }
-confirmingAt x (e ∷ earlier) = cond (enters x e) (presents (e .call) (confirmingAt x earlier)) (confirmingAt x earlier)
+-- the presenter's ledger at an end, over all calls
+unfoldable pub presenterLedgerAt : End → List Event → PresenterLedger
+presenterLedgerAt x [] = record { ledger = blank; waiting = none }
+presenterLedgerAt x (e ∷ earlier) = cond (isEntered x e) (presenterEnters (e .call) (presenterLedgerAt x earlier)) (presenterLedgerAt x earlier)
 
-unfoldable pub countingAt : End → List Event → Counting
-countingAt x [] = record { ledger = blank; serials = [] }
-countingAt x (e ∷ earlier) = cond (enters x e) (receives (e .call) (e .said .bytes) (countingAt x earlier)) (countingAt x earlier)
+-- and the receiver's
+unfoldable pub receiverLedgerAt : End → List Event → ReceiverLedger
+receiverLedgerAt x [] = record { ledger = blank; serials = [] }
+receiverLedgerAt x (e ∷ earlier) = cond (isEntered x e) (receiverEnters (e .call) (e .said .bytes) (receiverLedgerAt x earlier)) (receiverLedgerAt x earlier)
 
--- what a report has to name: the open lot while its total waits, or a session total that waits
+-- the open lot as a report names it
 abbrev pub namedLot : Option LedgerLot → Awaited
 namedLot none = Awaited.Neither
 namedLot (some l) = Awaited.LotTotal (lotSum l)
 
-abbrev pub namedBy : Option Entry → Option LedgerLot → Awaited
-namedBy (some Entry.lotTotal) current = namedLot current
-namedBy (some Entry.sessionTotal) current = Awaited.SessionTotal
-namedBy (some (Entry.header number)) current = Awaited.Neither
-namedBy (some (Entry.detail ds)) current = Awaited.Neither
-namedBy (some Entry.unknown) current = Awaited.Neither
-namedBy none current = Awaited.Neither
+-- by what waits: a lot total the open lot, a session total itself
+abbrev pub awaitedBy : Option Entry → Option LedgerLot → Awaited
+awaitedBy (some Entry.lotTotal) current = namedLot current
+awaitedBy (some Entry.sessionTotal) current = Awaited.SessionTotal
+awaitedBy (some (Entry.header number)) current = Awaited.Neither
+awaitedBy (some (Entry.detail ds)) current = Awaited.Neither
+awaitedBy (some Entry.unknown) current = Awaited.Neither
+awaitedBy none current = Awaited.Neither
 
-abbrev pub toBeNamed : Confirming → Awaited
-toBeNamed b = namedBy (b .waiting) (b .ledger .current)
+-- what a report has to name
+abbrev pub toBeNamed : PresenterLedger → Awaited
+toBeNamed b = awaitedBy (b .waiting) (b .ledger .current)

@@ -13,23 +13,24 @@ abbrev pub close : ℕ
 close = 84600  -- 23:30
 
 abbrev pub lastSecond : ℕ
-lastSecond = 86399
+lastSecond = 86399  -- 23:59:59
 
+-- 20: no time of a day
 abbrev pub pastDay : ℕ → Bool
 pastDay time = ltb lastSecond time
 
--- when messages and replies go to and fro
+-- 31 otherwise: from the opening on, and before the close
 abbrev pub withinHours : ℕ → Bool
 withinHours time = leb opening time && ltb time close
 
--- when a presenter sends no more headers, by its own clock
+-- 10 at the presenter, by its own clock
 abbrev pub presenterLate : ℕ → Bool
 presenterLate time = leb preclose time
 
--- when a receiver accepts none, by its own
+-- 10 at the receiver, by its own
 abbrev pub receiverLate : ℕ → Bool
 receiverLate time = leb preclose time
 
--- when a clock call closes
+-- a clock call then closes
 abbrev pub atClose : ℕ → Bool
 atClose time = leb close time

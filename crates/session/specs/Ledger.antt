@@ -5,11 +5,9 @@ use mathlib.Core.Bool.{Bool, true, false}
 use mathlib.Core.List.{List, [], _∷_, _++_, map}
 use mathlib.Core.Option.{Option, none, some}
 use lib.ListN.{length}
-use Rattle.packed.specs.Pieces.{pieces}
 use Rattle.packed.specs.Writing.{packedByte}
 use Rattle.codes.specs.Body.{operationOf}
-use Rattle.document.specs.Limits.{documentBytes}
-use Rattle.document.specs.Entities.{member}
+use Rattle.packed.specs.Every.{member}
 use Rattle.detail.specs.Groups.{documents}
 use Rattle.message.specs.declared.content.Content.{Content}
 use Rattle.message.specs.Content.{contentOf}
@@ -17,12 +15,14 @@ use Rattle.message.specs.Header.{headerOf}
 use Rattle.session.specs.declared.counters.Lot.{Lot}
 use Rattle.session.specs.declared.report.Tally.{Tally}
 use Rattle.session.specs.Running.{Running, empty, gather, detailAdds}
+use Rattle.document.specs.Part.{documentsOf}
 
 -- a document to the byte, its key included, and its operation as the byte of its group
 pub record Document : Type 0 where
   pub operation : ℕ
   pub bytes : List ℕ
 
+-- a lot: its number, and its documents in order
 pub record LedgerLot : Type 0 where
   pub number : ℕ
   pub documents : List Document
@@ -32,6 +32,7 @@ pub record Ledger : Type 0 where
   pub lots : List LedgerLot
   pub current : Option LedgerLot
 
+-- 'at first empty and none'
 abbrev pub blank : Ledger
 blank = record { lots = []; current = none }
 
@@ -41,7 +42,7 @@ pub data Entry : Type 0 where
   detail : List Document → Entry
   lotTotal : Entry
   sessionTotal : Entry
-  unknown : Entry
+  unknown : Entry  -- a body that is no message
 
 -- the open lot with more documents
 abbrev pub longer : List Document → Option LedgerLot → Option LedgerLot
@@ -53,14 +54,15 @@ abbrev pub moved : List LedgerLot → Option LedgerLot → List LedgerLot
 moved lots none = lots
 moved lots (some l) = lots ++ l ∷ []
 
+-- a message with the code that was replied, or read
 unfoldable pub enter : Entry → (accepted : Bool) → Ledger → Ledger
--- accepted
+-- on 00
 enter (Entry.header number) true b = record { lots = b .lots; current = some (record { number = number; documents = [] }) }
 enter (Entry.detail ds) true b = record { lots = b .lots; current = longer ds (b .current) }
 enter Entry.lotTotal true b = record { lots = moved (b .lots) (b .current); current = none }
--- a lot total that is not accepted drops the open lot
+-- on another code
 enter Entry.lotTotal false b = record { lots = b .lots; current = none }
--- nothing else is entered
+-- else the ledger stays
 enter (Entry.header number) false b = b
 enter (Entry.detail ds) false b = b
 enter Entry.sessionTotal accepted b = b
@@ -70,35 +72,41 @@ enter Entry.unknown accepted b = b
 abbrev pub ofOperation : (operation : ℕ) → List (List ℕ) → List Document
 ofOperation operation ds = map (λ (d : List ℕ). record { operation = operation; bytes = d }) ds
 
--- what a part is sent as, and what a body was received as
+-- what a part is sent as
 abbrev pub partEntry : (operation : ℕ) (part : List ℕ) → Entry
-partEntry operation part = Entry.detail (ofOperation (packedByte operation) (pieces documentBytes part))
+partEntry operation part = Entry.detail (ofOperation (packedByte operation) (documentsOf part))
 
-unfoldable pub entryBy : Content → (body : List ℕ) → Entry
-entryBy Content.Header body = Entry.header (headerOf body .number)
-entryBy Content.Detail body = Entry.detail (ofOperation (operationOf body) (documents body))
-entryBy Content.LotTotal body = Entry.lotTotal
-entryBy Content.SessionTotal body = Entry.sessionTotal
-entryBy Content.Unknown body = Entry.unknown
+-- and what a body is received as, by what it is
+unfoldable pub receivedEntry : Content → (body : List ℕ) → Entry
+receivedEntry Content.Header body = Entry.header (headerOf body .number)
+receivedEntry Content.Detail body = Entry.detail (ofOperation (operationOf body) (documents body))
+receivedEntry Content.LotTotal body = Entry.lotTotal
+receivedEntry Content.SessionTotal body = Entry.sessionTotal
+receivedEntry Content.Unknown body = Entry.unknown
 
+-- by its operation
 abbrev pub bodyEntry : (body : List ℕ) → Entry
-bodyEntry body = entryBy (contentOf body) body
+bodyEntry body = receivedEntry (contentOf body) body
 
--- counts and sums: of documents, of a lot, of a list of lots
+-- counts and sums over documents
 unfoldable pub sum : List Document → Running
 sum [] = empty
 sum (d ∷ ds) = gather (detailAdds (d .operation) (d .bytes ∷ [])) (sum ds)
 
+-- a lot as a report names it
 abbrev pub lotSum : LedgerLot → Lot
 lotSum l = record { number = l .number; gathered = sum (l .documents) }
 
+-- over a list of lots
 unfoldable pub lotsSum : List LedgerLot → Running
 lotsSum [] = empty
 lotsSum (l ∷ ls) = gather (sum (l .documents)) (lotsSum ls)
 
+-- as a report's totals
 abbrev pub tallied : List LedgerLot → Tally
 tallied ls = record { lots = length ls; gathered = lotsSum ls }
 
+-- the numbers of the lots
 abbrev pub numbers : List LedgerLot → List ℕ
 numbers ls = map (λ (l : LedgerLot). l .number) ls
 

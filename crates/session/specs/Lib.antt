@@ -7,6 +7,7 @@ pub mod Course
 pub mod Sequence
 pub mod Start
 pub mod Outcome
+pub mod Time
 pub mod Sending
 pub mod Receiving
 pub mod Reply

@@ -8,13 +8,14 @@ use Rattle.packed.specs.Every.{anyOf}
 use Rattle.amounts.specs.declared.Totals.{Totals}
 use Rattle.amounts.specs.Totals.{same}
 use Rattle.codes.specs.Chain.{_when_, _orelse_}
-use Rattle.codes.specs.Reply.{codeOf}
+use Rattle.codes.specs.Code.{codeNumbered}
 use Rattle.codes.specs.Body.{operationOf}
 use Rattle.detail.specs.Groups.{documents}
 use Rattle.detail.specs.Codes.{receiverCode}
 use Rattle.message.specs.declared.content.Content.{Content}
 use Rattle.message.specs.declared.envelope.Kind.{Kind}
-use Rattle.message.specs.Limits.{envelopeBytes, replyBytes}
+use Rattle.message.specs.declared.route.Route.{Route}
+use Rattle.message.specs.Limits.{replyRoom}
 use Rattle.message.specs.Route.{sameRoute}
 use Rattle.message.specs.Envelope.{serialOf, envelopeGood, envelopeOf, bodyOf}
 use Rattle.message.specs.Content.{contentOf}
@@ -35,20 +36,22 @@ use Rattle.session.specs.Parties.{representedBy, receivingRoute}
 use Rattle.session.specs.Running.{Running, detailAdds, stated, documentsIn}
 use Rattle.session.specs.Course.{course, advance, ends, kept}
 use Rattle.session.specs.Sequence.{headerSequence, lotSequence, lotTotalSequence, sessionTotalSequence}
-use Rattle.session.specs.Outcome.{Held, Outcome, decided, wrote, noRoom, timeRefusal}
+use Rattle.session.specs.Outcome.{Held, held, Outcome, decided, wrote, noRoom, seenAt, withReceiving}
+use Rattle.session.specs.Time.{timeRefusal}
 
--- the accepted lots
+-- the accepted lots: of the places, as many as are counted
 abbrev pub acceptedLots : Receiving → List Lot
 acceptedLots r = take (r .counters .lots) (r .lots)
 
--- one of some lots has this number, or these three totals
+-- 04 of a header: one of the lots has this number
 abbrev pub numberUsed : ℕ → List Lot → Bool
 numberUsed number lots = anyOf (λ (l : Lot). eqb number (l .number)) lots
 
+-- 04 of a lot total: one of them has these three totals
 abbrev pub totalsUsed : Totals → List Lot → Bool
 totalsUsed t lots = anyOf (λ (l : Lot). same (stated (l .gathered)) t) lots
 
--- the codes of each message, in the paper's order
+-- 'Codes': of each message those that it can earn, in the paper's order
 unfoldable pub headerCode : (time : ℕ) (body : List ℕ) → Parties → Receiving → ℕ
 headerCode time body p r =
     bodyCode (header (receivingRoute p)) body
@@ -78,77 +81,81 @@ sessionTotalCode body r =
     orelse sessionTotalSequence (r .ended) (r .counters .current)
     orelse 8 when not (eqb (r .counters .lots) (read .number) && same (stated (r .counters .gathered)) (read .stated))
 
--- a body's own chain, by what it is
-unfoldable pub codeBy : Content → (time : ℕ) (body : List ℕ) → Parties → Running → Receiving → ℕ
-codeBy Content.Header time body p running r = headerCode time body p r
-codeBy Content.Detail time body p running r = detailCode body p running r
-codeBy Content.LotTotal time body p running r = lotTotalCode body running r
-codeBy Content.SessionTotal time body p running r = sessionTotalCode body r
-codeBy Content.Unknown time body p running r = 1
+-- the code of a body, by what it is
+unfoldable pub receivedCode : Content → (time : ℕ) (body : List ℕ) → Parties → Running → Receiving → ℕ
+receivedCode Content.Header time body p running r = headerCode time body p r
+receivedCode Content.Detail time body p running r = detailCode body p running r
+receivedCode Content.LotTotal time body p running r = lotTotalCode body running r
+receivedCode Content.SessionTotal time body p running r = sessionTotalCode body r
+receivedCode Content.Unknown time body p running r = 1  -- another operation
 
--- what it does once its code is known
-unfoldable pub effectBy : Content → (body : List ℕ) → Running → Effect
-effectBy Content.Header body running = Effect.Header (headerOf body .number)
-effectBy Content.Detail body running = Effect.Detail (detailAdds (operationOf body) (documents body))
-effectBy Content.LotTotal body running = Effect.LotTotal (record { number = totalOf lotTotalFields body .number; gathered = running })
-effectBy Content.SessionTotal body running = Effect.SessionTotal
-effectBy Content.Unknown body running = Effect.Nothing
+-- what it does to its direction
+unfoldable pub receivedEffect : Content → (body : List ℕ) → Running → Effect
+receivedEffect Content.Header body running = Effect.Header (headerOf body .number)
+receivedEffect Content.Detail body running = Effect.Detail (detailAdds (operationOf body) (documents body))
+receivedEffect Content.LotTotal body running = Effect.LotTotal (record { number = totalOf lotTotalFields body .number; gathered = running })
+receivedEffect Content.SessionTotal body running = Effect.SessionTotal
+receivedEffect Content.Unknown body running = Effect.Nothing
 
-abbrev pub codeFor : (time : ℕ) (body : List ℕ) → Held → ℕ
-codeFor time body h = codeBy (contentOf body) time body (h .session .parties) (h .running) (h .session .receiving)
+-- the code that a new message earns
+abbrev pub earnedCode : (time : ℕ) (body : List ℕ) → Held → ℕ
+earnedCode time body h = receivedCode (contentOf body) time body (h .session .parties) (h .running) (h .session .receiving)
 
 -- the course of the direction after a message of this code
 abbrev pub receivingCourse : (code : ℕ) (body : List ℕ) → Running → Receiving → Course
-receivingCourse code body running r = advance (effectBy (contentOf body) body running) (eqb code 0) (course (r .counters) running)
+receivingCourse code body running r = advance (receivedEffect (contentOf body) body running) (eqb code 0) (course (r .counters) running)
 
--- and its record: the serial becomes the last, and the reply is kept
+-- 'its serial becomes the last', and the reply is kept
 unfoldable pub receivingAfter : (code : ℕ) (body : List ℕ) → Running → Receiving → Receiving
 receivingAfter code body running r =
-    let effect = effectBy (contentOf body) body running in
+    let effect = receivedEffect (contentOf body) body running in
     record {
       serial = suc (r .serial);
-      reply = record { operation = replyOperation (contentOf body); code = codeOf code };
+      reply = record { operation = replyOperation (contentOf body); code = codeNumbered code };
       counters = receivingCourse code body running r .counters;
       ended = r .ended || ends effect (eqb code 0);
       lots = kept effect (eqb code 0) (r .counters .lots) (r .lots);
     }
 
--- a session with another receiving direction, at a time
-abbrev pub withReceiving : (time : ℕ) → Receiving → Session → Session
-withReceiving time r s = record { parties = s .parties; presenting = s .presenting; receiving = r; seen = time; close = s .close }
+-- it has the last serial, or the last plus 1
+abbrev pub isLast : (bytes : List ℕ) (last : ℕ) → Bool
+isLast bytes last = eqb (serialOf bytes) last
 
-abbrev pub isLast : (bytes : List ℕ) → Receiving → Bool
-isLast bytes r = eqb (serialOf bytes) (r .serial)
-
-abbrev pub isNext : (bytes : List ℕ) → Receiving → Bool
-isNext bytes r = eqb (serialOf bytes) (suc (r .serial))
+abbrev pub isNext : (bytes : List ℕ) (last : ℕ) → Bool
+isNext bytes last = eqb (serialOf bytes) (suc last)
 
 -- a new message is handled
 abbrev pub afterNew : (time : ℕ) (body : List ℕ) → Held → Held
 afterNew time body h =
-    let code = codeFor time body h in
+    let code = earnedCode time body h in
     let r = h .session .receiving in
-    record { session = withReceiving time (receivingAfter code body (h .running) r) (h .session); running = receivingCourse code body (h .running) r .running; line = h .line }
+    held (seenAt time (withReceiving (receivingAfter code body (h .running) r) (h .session))) (receivingCourse code body (h .running) r .running) (h .line)
 
--- of the last one again no body is read, and only the last seen time moves
+-- the last one again: its body is not read, and only the last seen time moves
 abbrev pub afterRepeat : (time : ℕ) → Held → Held
-afterRepeat time h = record { session = withReceiving time (h .session .receiving) (h .session); running = h .running; line = h .line }
+afterRepeat time h = held (seenAt time (h .session)) (h .running) (h .line)
 
 -- which of the two it is, its serial tells
 abbrev pub afterMessage : (time : ℕ) (bytes : List ℕ) → Held → Held
-afterMessage time bytes h = cond (isNext bytes (h .session .receiving)) (afterNew time (bodyOf bytes) h) (afterRepeat time h)
+afterMessage time bytes h = cond (isNext bytes (h .session .receiving .serial)) (afterNew time (bodyOf bytes) h) (afterRepeat time h)
+
+-- 'Order': receiving, before the codes, which travel in the reply
+abbrev pub receivingOrder : (bytes : List ℕ) (last room : ℕ) → Route → ℕ
+receivingOrder bytes last room route =
+    21 when not (envelopeGood Kind.Message bytes)
+    orelse 33 when not (sameRoute (envelopeOf bytes .route) route)
+    orelse 35 when not (isLast bytes last || isNext bytes last)
+    orelse 23 when noRoom replyRoom room
 
 unfoldable pub receiveRefusal : (time : ℕ) (bytes : List ℕ) (room : ℕ) → Session → ℕ
 receiveRefusal time bytes room s =
     timeRefusal time (s .seen) (s .close)
-    orelse 21 when not (envelopeGood Kind.Message bytes)
-    orelse 33 when not (sameRoute (envelopeOf bytes .route) (receivingRoute (s .parties)))
-    orelse 35 when not (isLast bytes (s .receiving) || isNext bytes (s .receiving))
-    orelse 23 when noRoom (envelopeBytes + replyBytes) room
+    orelse receivingOrder bytes (s .receiving .serial) room (receivingRoute (s .parties))
 
 -- the reply that is kept is written, new or again
 abbrev pub replying : (bytes : List ℕ) → Held → Outcome
 replying bytes h = wrote (wholeReply (envelopeOf bytes) (h .session .receiving .reply)) h
 
+-- a message of any bytes
 unfoldable pub receive : (time : ℕ) (bytes : List ℕ) → Held → Outcome
 receive time bytes h = decided (receiveRefusal time bytes (length (h .line)) (h .session)) h (replying bytes (afterMessage time bytes h))

@@ -9,7 +9,7 @@ use Rattle.session.specs.declared.report.Report.{Report}
 use Rattle.session.specs.declared.session.Session.{Session}
 use Rattle.session.specs.Running.{Running}
 
--- the accepted lots
+-- the totals of a direction: its accepted lots
 abbrev pub tally : Counters → Tally
 tally c = record { lots = c .lots; gathered = c .gathered }
 
@@ -25,6 +25,7 @@ awaited (Effect.Detail more) = Awaited.Neither
 abbrev pub positions : (presented received : Running) → Positions
 positions p r = record { nominal = difference (p .nominal .0) (r .nominal .0); commission = difference (p .commission .0) (r .commission .0) }
 
+-- all of it
 unfoldable pub report : Session → Report
 report s =
     record {

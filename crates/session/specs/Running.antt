@@ -1,4 +1,4 @@
--- 01, 'Trays' and 'Course of a direction': what a lot gathers, apart from what a message states of it.
+-- 01, 'Trays': the running totals of a lot, which grow by what is accepted; what a message states of them is three totals.
 use Prim.Native.Nat.{ℕ}
 use mathlib.Core.List.{List}
 use Rattle.amounts.specs.declared.Totals.{Totals}
@@ -9,6 +9,7 @@ use Rattle.document.specs.Amounts.{totalsOf}
 abbrev pub Running : Type 0
 Running = Totals
 
+-- of a lot that has no documents yet
 abbrev pub empty : Running
 empty = zeros
 
@@ -16,11 +17,11 @@ empty = zeros
 abbrev pub gather : Running → Running → Running
 gather a b = plus a b
 
--- what the documents of a detail of this operation add; as long as both operations are counted together, it is not asked
+-- what an accepted detail adds: its documents, counted together whatever their operation
 abbrev pub detailAdds : (operation : ℕ) (documents : List (List ℕ)) → Running
 detailAdds operation documents = totalsOf documents
 
--- the three totals that a message states
+-- the three totals that a lot total or a session total states
 abbrev pub stated : Running → Totals
 stated r = r
 

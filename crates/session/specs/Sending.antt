@@ -4,16 +4,14 @@ use mathlib.Core.Bool.{Bool, true, false, not}
 use mathlib.Core.List.{List}
 use lib.Dec.{leb}
 use lib.ListN.{length}
-use Rattle.packed.specs.Pieces.{pieces}
 use Rattle.packed.specs.Writing.{packedByte}
 use Rattle.codes.specs.Chain.{_when_, _orelse_}
-use Rattle.document.specs.Limits.{documentBytes}
 use Rattle.detail.specs.Codes.{presenterCode}
-use Rattle.detail.specs.Writing.{written}
+use Rattle.detail.specs.Writing.{writtenDetail}
 use Rattle.message.specs.declared.envelope.Envelope.{Envelope}
 use Rattle.message.specs.Limits.{largestSerial}
 use Rattle.message.specs.Header.{sendable}
-use Rattle.message.specs.Line.{Body, bodyBytes, message}
+use Rattle.message.specs.Line.{Body, bodyBytes, wholeMessage}
 use Rattle.session.specs.declared.counters.OpenLot.{OpenLot}
 use Rattle.session.specs.declared.counters.Lot.{Lot}
 use Rattle.session.specs.declared.counters.Counters.{Counters}
@@ -25,9 +23,11 @@ use Rattle.session.specs.Hours.{presenterLate}
 use Rattle.session.specs.Parties.{presentingRoute}
 use Rattle.session.specs.Running.{Running, detailAdds, stated, documentsIn}
 use Rattle.session.specs.Sequence.{headerSequence, lotSequence, sessionTotalSequence}
-use Rattle.session.specs.Outcome.{Held, Outcome, decided, wrote, noRoom, timeRefusal}
+use Rattle.session.specs.Outcome.{Held, held, Outcome, decided, wrote, noRoom, seenAt, withPresenting}
+use Rattle.session.specs.Time.{timeRefusal}
+use Rattle.document.specs.Part.{documentsOf}
 
--- a reply is awaited
+-- 34: a reply is still awaited
 abbrev pub isPending : Effect → Bool
 isPending Effect.Nothing = false
 isPending (Effect.Header number) = true
@@ -39,35 +39,35 @@ isPending Effect.SessionTotal = true
 abbrev pub nextEnvelope : Session → Envelope
 nextEnvelope s = record { route = presentingRoute (s .parties); serial = suc (s .presenting .serial) }
 
+-- 'Order': sending, with the presenter's own code in its place
+abbrev pub sendingOrder : (code bytes room : ℕ) → Presenting → ℕ
+sendingOrder code bytes room p =
+    34 when isPending (p .pending)
+    orelse 36 when leb largestSerial (p .serial)
+    orelse code
+    orelse 23 when noRoom bytes room
+
 unfoldable pub sendRefusal : (time code bytes room : ℕ) → Session → ℕ
 sendRefusal time code bytes room s =
     timeRefusal time (s .seen) (s .close)
-    orelse 34 when isPending (s .presenting .pending)
-    orelse 36 when leb largestSerial (s .presenting .serial)
-    orelse code
-    orelse 23 when noRoom bytes room
+    orelse sendingOrder code bytes room (s .presenting)
 
 -- the next serial is used, and its message awaits a reply; the counters stay
 abbrev pub sent : (time : ℕ) → Effect → Session → Session
 sent time effect s =
-    record {
-      parties = s .parties;
-      presenting = record { serial = suc (s .presenting .serial); pending = effect; counters = s .presenting .counters; ended = s .presenting .ended };
-      receiving = s .receiving;
-      seen = time;
-      close = s .close;
-    }
+    let p = s .presenting in
+    seenAt time (withPresenting (record { serial = suc (p .serial); pending = effect; counters = p .counters; ended = p .ended }) s)
 
 -- what a send does: the message stands in the line buffer, and nothing is added yet
 abbrev pub posted : (time : ℕ) → Effect → (body : List ℕ) → Held → Outcome
-posted time effect body h = wrote (message (nextEnvelope (h .session)) body) (record { session = sent time effect (h .session); running = h .running; line = h .line })
+posted time effect body h = wrote (wholeMessage (nextEnvelope (h .session)) body) (held (sent time effect (h .session)) (h .running) (h .line))
 
--- a message of this body, which the presenter's own code may stop
+-- a message of this body; the presenter's own code stops the call, which is then a refused one
 unfoldable pub send : (time code : ℕ) → Effect → (body : List ℕ) → Held → Outcome
 send time code effect body h =
-    decided (sendRefusal time code (length (message (nextEnvelope (h .session)) body)) (length (h .line)) (h .session)) h (posted time effect body h)
+    decided (sendRefusal time code (length (wholeMessage (nextEnvelope (h .session)) body)) (length (h .line)) (h .session)) h (posted time effect body h)
 
--- the codes that a presenter applies to itself: never 04, 06, 08, nor that no detail was accepted
+-- the codes that a presenter applies to itself, of each message: never 04, 06, 08, nor that no detail was accepted
 unfoldable pub headerStop : (time moment centre number : ℕ) → Presenting → ℕ
 headerStop time moment centre number p =
     1 when not (sendable moment centre number)
@@ -77,7 +77,7 @@ headerStop time moment centre number p =
 
 -- what the documents of a part would add
 abbrev pub partAdds : (operation : ℕ) (part : List ℕ) → Running
-partAdds operation part = detailAdds (packedByte operation) (pieces documentBytes part)
+partAdds operation part = detailAdds (packedByte operation) (documentsOf part)
 
 unfoldable pub detailStop : (operation partner : ℕ) (part : List ℕ) → Running → Presenting → ℕ
 detailStop operation partner part running p =
@@ -91,24 +91,26 @@ lotTotalStop p = lotSequence (p .ended) (p .counters .current)
 unfoldable pub sessionTotalStop : Presenting → ℕ
 sessionTotalStop p = sessionTotalSequence (p .ended) (p .counters .current)
 
--- the lot that a total of the presenter ends: the open one, with what it gathered
+-- the number of the open lot; 0 where there is none, and then no total is sent
 abbrev pub openNumber : OpenLot → ℕ
 openNumber OpenLot.None = 0
 openNumber (OpenLot.Numbered n) = n
 
+-- the lot that a total of the presenter ends: the open one, with what it gathered
 abbrev pub endingLot : Counters → Running → Lot
 endingLot c running = record { number = openNumber (c .current); gathered = running }
 
--- hhmmsscc is what the header says of its moment; the call's own time is the first
+-- the time is the call's own; the moment, hhmmsscc, is what the header says of itself
 unfoldable pub sendHeader : (time moment centre number : ℕ) → Held → Outcome
 sendHeader time moment centre number h =
     send time (headerStop time moment centre number (h .session .presenting)) (Effect.Header number)
     (bodyBytes (presentingRoute (h .session .parties)) (Body.opening (record { time = moment; centre = centre; number = number }))) h
 
+-- the documents of a part, in groups of four
 unfoldable pub sendDetail : (time operation : ℕ) (part : List ℕ) → Held → Outcome
 sendDetail time operation part h =
     send time (detailStop operation (h .session .parties .partner) part (h .running) (h .session .presenting)) (Effect.Detail (partAdds operation part))
-    (written (packedByte operation) part) h
+    (writtenDetail (packedByte operation) part) h
 
 -- totals are what this end has counted; the lot's number is that of the open one
 unfoldable pub sendLotTotal : (time : ℕ) → Held → Outcome

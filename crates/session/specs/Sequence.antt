@@ -1,5 +1,5 @@
--- 01, 'Given because of the state', 07: which message has its place where. Header, detail and session total are asked alike at both ends, a lot
--- total in full by its receiver alone.
+-- 01, 'Given because of the state', 07: which message has its place where, a definition for each of the paper's clauses. Both ends ask them alike,
+-- but a lot total is asked in full by its receiver alone.
 use Prim.Native.Nat.{ℕ}
 use mathlib.Core.Bool.{Bool, true, false, not}
 use lib.Dec.{eqb}
@@ -11,13 +11,12 @@ abbrev pub isOpen : OpenLot → Bool
 isOpen OpenLot.None = false
 isOpen (OpenLot.Numbered n) = true
 
--- the lot of this number is open
-abbrev pub isThis : (number : ℕ) → OpenLot → Bool
-isThis number OpenLot.None = false
-isThis number (OpenLot.Numbered n) = eqb n number
+-- the open lot is the one of this number
+abbrev pub isOpenLot : (number : ℕ) → OpenLot → Bool
+isOpenLot number OpenLot.None = false
+isOpenLot number (OpenLot.Numbered n) = eqb n number
 
--- Each asks whether the direction has ended and which lot is open. While 07 is the one code of them all, only a header and a session total need
--- to ask for the end: after it no lot is open.
+-- Each is told whether the direction has ended, and which lot is open. A detail and a lot total do not ask for the end: after it no lot is open.
 
 -- a header: not after the end, nor while a lot is open
 unfoldable pub headerSequence : (ended : Bool) → OpenLot → ℕ
@@ -32,7 +31,7 @@ lotSequence ended lot = 7 when not (isOpen lot)
 -- a lot total that was received: of the open lot, with a detail accepted, which has one document at least
 unfoldable pub lotTotalSequence : (ended : Bool) (number : ℕ) → OpenLot → Running → ℕ
 lotTotalSequence ended number lot running =
-    7 when not (isThis number lot)
+    7 when not (isOpenLot number lot)
     orelse 7 when eqb (documentsIn running) 0
 
 -- a session total: not after the end, nor while a lot is open

@@ -4,7 +4,7 @@ use mathlib.Core.Bool.{false, not, cond}
 use mathlib.Core.List.{List}
 use lib.ListN.{replicate}
 use Rattle.codes.specs.Chain.{_when_}
-use Rattle.codes.specs.declared.reply.Code.{Code}
+use Rattle.codes.specs.declared.code.Code.{Code}
 use Rattle.message.specs.declared.reply.Operation.{Operation}
 use Rattle.session.specs.declared.counters.OpenLot.{OpenLot}
 use Rattle.session.specs.declared.counters.Counters.{Counters}
@@ -28,7 +28,7 @@ noLots = record { current = OpenLot.None; lots = 0; gathered = empty }
 abbrev pub unsent : Presenting
 unsent = record { serial = 0; pending = Effect.Nothing; counters = noLots; ended = false }
 
--- nothing was received
+-- nothing was received; its reply is never written, since a first message has serial 1
 abbrev pub unheard : Receiving
 unheard =
     record {
@@ -39,7 +39,7 @@ unheard =
       lots = replicate mostLots (record { number = 0; gathered = empty });
     }
 
--- before any call
+-- before any call: the last seen time is 0
 unfoldable pub fresh : Parties → Close → Session
 fresh parties close = record { parties = parties; presenting = unsent; receiving = unheard; seen = 0; close = close }
 
@@ -48,9 +48,11 @@ pub record StartOutcome : Type 0 where
   pub number : ℕ
   pub session : Session
 
+-- what the answer of a start says
 abbrev pub startSaid : Started → StartOutcome
 startSaid s = record { number = answerNumber (s .answer); session = s .session }
 
+-- a session just started
 abbrev pub started : (date own partner : ℕ) (represented : List ℕ) → Session
 started date own partner represented = fresh (partiesOf date own partner represented) Close.Open
 

@@ -4,7 +4,7 @@ ghost use Prim.Native.Nat.{_+_};
 ghost use Rattle.session.specs.Limits.{passesLot, lotsUsed};
 
 // The most documents of a lot.
-pub const LOT_DOCUMENTS: u64 = 2600;
+pub const MOST_LOT_DOCUMENTS: u64 = 2600;
 
 // The most accepted lots of a direction.
 pub const MOST_LOTS: usize = 64;
@@ -14,10 +14,10 @@ pub const MOST_LOTS: usize = 64;
 pub fn passes_lot(gathered: u64, more: u64) -> bool
     ensures { λ r. ⌜ r ≡ passesLot (gathered + more) ⌝ }
 {
-    if LOT_DOCUMENTS < gathered {
+    if MOST_LOT_DOCUMENTS < gathered {
         return true;
     }
-    LOT_DOCUMENTS - gathered < more
+    MOST_LOT_DOCUMENTS - gathered < more
 }
 
 // Whether a direction with so many accepted lots may have no more.

@@ -9,13 +9,13 @@ use crate::parties::Parties;
 use crate::parties::nobody;
 use crate::parties::parties_good;
 use crate::parties::parties_of;
+use codes::code::Code;
 use codes::refusal::Refusal;
-use codes::reply::Code;
 use message::reply::Operation;
 use message::reply::Reply;
 ghost use mathlib.Core.Path.{_≡_};
 ghost use Rattle.session.specs.Start.{noLots, unsent, unheard, fresh, startSaid, start};
-ghost use Rattle.session.specs.Premise.{Begun};
+ghost use Rattle.session.specs.Engine.{withEmpty, Ready};
 
 // How a session was closed, if it was.
 pub enum Close {
@@ -132,7 +132,7 @@ impl Session {
     // started, and meets the premise of every call.
     pub fn start(date: u32, own: u16, partner: u16, represented: &[u16]) -> Started
         ensures outcome { λ r. ⌜ startSaid r ≡ start date own partner (now (represented .entry)) ⌝ }
-        ensures premise { λ r. ⌜ Begun (r .session) ⌝ }
+        ensures premise { λ r. ⌜ Ready (withEmpty (r .session)) ⌝ }
     {
         if parties_good(date, own, partner, represented) {
             return Started {

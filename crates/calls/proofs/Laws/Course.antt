@@ -6,19 +6,19 @@ use Rattle.amounts.specs.Inner.Fits.{SumFits, DifferenceFits}
 use Rattle.session.specs.declared.counters.Lot.{Lot}
 use Rattle.session.specs.declared.counters.Counters.{Counters}
 use Rattle.session.specs.declared.effect.Effect.{Effect}
-use Rattle.session.specs.Limits.{lotDocuments}
+use Rattle.session.specs.Limits.{mostLotDocuments}
 use Rattle.session.specs.Running.{Running, gather}
 use Rattle.session.specs.Premise.{Fits, CountersSound}
 use Rattle.calls.specs.Inner.Course.{Countable}
 
 -- a detail that a lot may still gather
-pub detail-fits : (more t : Running) → Fits lotDocuments (gather t more) → SumFits t more
+pub detail-fits : (more t : Running) → Fits mostLotDocuments (gather t more) → SumFits t more
 detail-fits more t f = record { documents = omega (arith, f .documents); nominal = omega (arith, f .documents, f .nominal); commission = omega (arith, f .documents, f .commission) }
 
 -- a lot beside all that were accepted
 pub lot-fits : (lot : Lot) (c : Counters) (t : Running) → Countable (Effect.LotTotal lot) true c t → SumFits (c .gathered) (lot .gathered)
 lot-fits lot c t h =
-    let f = subst (Fits lotDocuments) (sym (h .carried refl)) (h .running) in
+    let f = subst (Fits mostLotDocuments) (sym (h .carried refl)) (h .running) in
     let g = h .counters .gathered in
     let n = h .counters .lots in
     record {

@@ -3,7 +3,7 @@
 use mathlib.Core.Path.{_≡_, ap, sym, subst, _∙_}
 use Prim.Native.Nat.{ℕ}
 use Rattle.session.specs.declared.session.Session.{Session}
-use Rattle.session.specs.Course.{Direction}
+use Rattle.session.specs.Parties.{Direction}
 use Rattle.session.specs.Outcome.{Held, Outcome, refused, decided}
 use Rattle.session.specs.Premise.{Kept, KeptBeside}
 use Rattle.session.proofs.Laws.Decided.{unrefused, refused-keeps}

@@ -13,7 +13,7 @@ use Rattle.codes.specs.Chain.{_when_, _orelse_}
 use Rattle.codes.proofs.Laws.Chain.{applies, passes, none-test, none-both, last}
 use Rattle.codes.specs.Field.{between}
 use Rattle.codes.specs.Body.{operationOf}
-use Rattle.document.specs.Limits.{documentBytes, mostDocuments}
+use Rattle.document.specs.Limits.{documentBytes, mostDetailDocuments}
 use Rattle.document.specs.Operation.{presentedNumber, returnedNumber}
 use Rattle.document.specs.Fields.{fieldsGood, amountsGood}
 use Rattle.document.specs.Drawee.{draweeServed}
@@ -26,7 +26,7 @@ pub record Sendable (operation : ℕ) (part : List ℕ) : Type 0 where
   pub kind : eqb operation presentedNumber || eqb operation returnedNumber ≡ true
   pub whole : length part % documentBytes ≡ 0
   pub least : 1 ≤ length part / documentBytes
-  pub most : length part / documentBytes ≤ mostDocuments
+  pub most : length part / documentBytes ≤ mostDetailDocuments
 
 pub sendable-part : (operation : ℕ) (part : List ℕ) → sendable operation part ≡ true → Sendable operation part
 unfolding sendable
@@ -34,14 +34,14 @@ sendable-part operation part e =
     let kind = eqb operation presentedNumber || eqb operation returnedNumber in
     let whole = eqb (length part % documentBytes) 0 in
     let n = length part / documentBytes in
-    let last = and-eq-true-iff (kind && whole) (between 1 mostDocuments n) .0 e in
+    let last = and-eq-true-iff (kind && whole) (between 1 mostDetailDocuments n) .0 e in
     let first = and-eq-true-iff kind whole .0 (last .0) in
-    let range = and-eq-true-iff (leb 1 n) (leb n mostDocuments) .0 (last .1) in
+    let range = and-eq-true-iff (leb 1 n) (leb n mostDetailDocuments) .0 (last .1) in
     record {
       kind = first .0;
       whole = eqb-true (length part % documentBytes) 0 (first .1);
       least = leb-true 1 n (range .0);
-      most = leb-true n mostDocuments (range .1);
+      most = leb-true n mostDetailDocuments (range .1);
     }
 
 module _ (operation partner : ℕ) (part : List ℕ) where

@@ -16,12 +16,12 @@ use Rattle.packed.proofs.Laws.Pieces.{shorter, pieces-step, pieces-count}
 use Rattle.codes.specs.Field.{between}
 use Rattle.codes.specs.Body.{mark, operationOf, longestBody}
 use Rattle.document.specs.Operation.{isOperation}
-use Rattle.document.specs.Limits.{documentBytes, mostDocuments}
+use Rattle.document.specs.Limits.{documentBytes, mostDetailDocuments}
 use Rattle.detail.specs.Limits.{headBytes, fullCount, mostGroups, groupBytes}
 use Rattle.detail.specs.Groups.{groups, countOf, groupGood, shapeGood}
 
 -- the most documents of a detail are the full groups of the longest body, and make the most bytes that an envelope can hold
-full-body : (mostDocuments ≡ mostGroups * fullCount) × (longestBody ≡ mostGroups * groupBytes)
+full-body : (mostDetailDocuments ≡ mostGroups * fullCount) × (longestBody ≡ mostGroups * groupBytes)
 full-body = (refl, refl)
 
 -- what is known of a good group

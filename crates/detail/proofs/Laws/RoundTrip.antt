@@ -1,5 +1,4 @@
--- Both round trips of a detail: what is written from a part reads as that part, and an acceptedTotals body that is read and written again is its
--- own bytes with the free bytes 00.
+-- Both round trips of a detail, over its groups.
 use mathlib.Core.Path.{_≡_, refl, ap, sym, _∙_}
 use mathlib.Core.Bool.{Bool, true, false, not, _&&_, _||_, and-eq-true-iff}
 use mathlib.Core.List.{List, [], _∷_, _++_, map, flatMap}
@@ -18,16 +17,16 @@ use Rattle.codes.specs.Chain.{_when_}
 use Rattle.codes.proofs.Laws.Chain.{none-test, none-both}
 use Rattle.codes.specs.Field.{between}
 use Rattle.codes.specs.Body.{operationOf, cleared}
-use Rattle.document.specs.Operation.{isOperation}
+use Rattle.document.specs.Operation.{isOperation, presentedNumber, returnedNumber}
 use Rattle.document.specs.Limits.{documentBytes}
-use Rattle.document.specs.Operation.{presentedNumber, returnedNumber}
 use Rattle.document.specs.Fields.{fieldsGood, amountsGood}
 use Rattle.document.specs.Drawee.{draweeServed}
 use Rattle.detail.specs.Limits.{headBytes, mostGroups, fillBytes, groupBytes}
 use Rattle.detail.specs.Groups.{groups, groupGood, shapeGood, oneOperation, groupDocuments, documents}
 use Rattle.detail.specs.Codes.{receiverCode, sendable}
 use Rattle.detail.specs.Inner.Verdict.{judged}
-use Rattle.detail.specs.Writing.{writtenGroup, written, partOf, clearedGroups}
+use Rattle.detail.specs.Writing.{writtenGroup, writtenDetail}
+use Rattle.detail.specs.RoundTrip.{partOf, clearedGroups, WrittenThenRead, ReadThenWritten}
 use Rattle.detail.proofs.Laws.Groups.{Good, good}
 use Rattle.detail.proofs.Laws.Codes.{sendable-part, shaped-judged}
 use Rattle.detail.proofs.Laws.Writing.{documents-written, operation-written, one-written, shape-written}
@@ -42,13 +41,18 @@ operation-byte operation e = go (eqb operation presentedNumber) refl e
     go false h e = rw (eqb-true operation returnedNumber e)
 
 -- a part that may be sent is judged by its receiver on the very documents of the part
-pub written-then-read : (own operation : ℕ) (represented part : List ℕ) → sendable operation part ≡ true → receiverCode own represented (written (packedByte operation) part) ≡ judged (every (fieldsGood (packedByte operation) own) (pieces documentBytes part)) (every (amountsGood (packedByte operation) own) (pieces documentBytes part)) (every (draweeServed (packedByte operation) own represented) (pieces documentBytes part))
+pub written-then-read : (own operation : ℕ) (represented part : List ℕ) → sendable operation part ≡ true → receiverCode own represented (writtenDetail (packedByte operation) part) ≡ judged (every (fieldsGood (packedByte operation) own) (pieces documentBytes part)) (every (amountsGood (packedByte operation) own) (pieces documentBytes part)) (every (draweeServed (packedByte operation) own represented) (pieces documentBytes part))
 written-then-read own operation represented part e =
     let fit = sendable-part operation part e in
     let o = packedByte operation in
     let some : 0 < length part = omega arith in
-    shaped-judged own represented (written o part) (shape-written o part (operation-byte operation (fit .kind)) some (omega arith) (fit .whole)) (one-written o part some)
+    shaped-judged own represented (writtenDetail o part) (shape-written o part (operation-byte operation (fit .kind)) some (omega arith) (fit .whole)) (one-written o part some)
     ∙ λ i. judged (every (fieldsGood (operation-written o part some i) own) (documents-written o part i)) (every (amountsGood (operation-written o part some i) own) (documents-written o part i)) (every (draweeServed (operation-written o part some i) own represented) (documents-written o part i))
+
+pub fields-again : WrittenThenRead
+fields-again operation part e =
+    let some : 0 < length part = let fit = sendable-part operation part e in omega arith in
+    (operation-written (packedByte operation) part some, documents-written (packedByte operation) part)
 
 -- the part of a body is its groups without their heads
 heads-dropped : (gs : List (List ℕ)) → flatMap (λ (d : List ℕ). d) (flatMap groupDocuments gs) ≡ flatMap (drop headBytes) gs
@@ -78,8 +82,8 @@ again operation (x ∷ a ∷ b ∷ n ∷ ds) h e =
     let count : length ds / documentBytes ≡ n = omega arith in
     λ i. 0x00 ∷ sym (h .marked) i ∷ sym e i ∷ count i ∷ ds
 
-pub read-then-written : (body : List ℕ) → shapeGood body ≡ true → oneOperation body ≡ true → written (operationOf body) (partOf body) ≡ clearedGroups body
-unfolding shapeGood groups oneOperation documents written partOf clearedGroups
+pub read-then-written : (body : List ℕ) → shapeGood body ≡ true → oneOperation body ≡ true → writtenDetail (operationOf body) (partOf body) ≡ clearedGroups body
+unfolding shapeGood groups oneOperation documents writtenDetail partOf clearedGroups
 read-then-written body shape one =
     let gs = groups body in
     let operation = operationOf body in
@@ -96,7 +100,7 @@ read-then-written body shape one =
         again (operationOf body) g (good g (both .0)) (eqb-true (operationOf g) (operationOf body) (both .1))
 
 -- so for every body that its receiver accepts
-pub accepted-again : (own : ℕ) (represented body : List ℕ) → receiverCode own represented body ≡ 0 → written (operationOf body) (partOf body) ≡ clearedGroups body
+pub accepted-again : ReadThenWritten
 unfolding receiverCode
 accepted-again own represented body e =
     let shape = none-both (1 when not (shapeGood body)) _ e in

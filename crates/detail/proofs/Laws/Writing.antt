@@ -16,10 +16,10 @@ use Rattle.packed.proofs.Laws.Pieces.{shorter, pieces-at, pieces-end, pieces-st
 use Rattle.codes.specs.Field.{between}
 use Rattle.codes.specs.Body.{operationOf}
 use Rattle.document.specs.Operation.{isOperation}
-use Rattle.document.specs.Limits.{documentBytes, mostDocuments}
+use Rattle.document.specs.Limits.{documentBytes, mostDetailDocuments}
 use Rattle.detail.specs.Limits.{headBytes, fullCount, mostGroups, fillBytes, groupBytes}
 use Rattle.detail.specs.Groups.{groups, groupGood, shapeGood, oneOperation, groupDocuments, documents}
-use Rattle.detail.specs.Writing.{writtenGroup, written}
+use Rattle.detail.specs.Writing.{writtenGroup, writtenDetail}
 
 -- what is still to be written from place at of a part on
 abbrev pub rest : (operation at : ℕ) → List ℕ → List ℕ
@@ -49,39 +49,39 @@ rest-bytes operation p (suc n) at h = go (ltb at (length p)) refl (rest-bytes op
         let piece : length (part at fillBytes p) + (length p - (at + fillBytes)) ≡ length p - at = simp (length-take, length-drop) (omega arith) in
         rest-length operation at p more ∙ omega (arith, tail, piece, more)
 
-whole : (operation : ℕ) (p : List ℕ) → written operation p ≡ rest operation 0 p
-unfolding written
+whole : (operation : ℕ) (p : List ℕ) → writtenDetail operation p ≡ rest operation 0 p
+unfolding writtenDetail
 whole operation p = refl
 
-pub written-bytes : (operation : ℕ) (p : List ℕ) → length (written operation p) ≡ length p + (length p + 203) / fillBytes * headBytes
+pub written-bytes : (operation : ℕ) (p : List ℕ) → length (writtenDetail operation p) ≡ length p + (length p + 203) / fillBytes * headBytes
 written-bytes operation p = ap length (whole operation p) ∙ rest-bytes operation p (length p) 0 (omega arith) ∙ omega arith
 
 module _ (operation : ℕ) where
   -- a written detail is cut into the groups that it was made of
-  groups-written : (p : List ℕ) → groups (written operation p) ≡ map (writtenGroup operation) (pieces fillBytes p)
-  unfolding groups written
+  groups-written : (p : List ℕ) → groups (writtenDetail operation p) ≡ map (writtenGroup operation) (pieces fillBytes p)
+  unfolding groups writtenDetail
   groups-written p =
       pieces-made fillBytes groupBytes (lit< tt) (lit< tt) (writtenGroup operation) (λ (ds : List ℕ). true) (λ (ds : List ℕ) (e : true ≡ true) (h : length ds ≡ fillBytes). omega arith) (λ (ds : List ℕ) (e : true ≡ true) (h : length ds ≤ fillBytes). (omega arith, omega arith)) p
       (every-always (λ (ds : List ℕ). true) (λ (ds : List ℕ). refl) (pieces fillBytes p))
 
   -- the documents of a written detail are those of the part, in order and to the byte
-  pub documents-written : (p : List ℕ) → documents (written operation p) ≡ pieces documentBytes p
+  pub documents-written : (p : List ℕ) → documents (writtenDetail operation p) ≡ pieces documentBytes p
   unfolding documents
   documents-written p =
       ap (flatMap groupDocuments) (groups-written p)
       ∙ flat-map groupDocuments (writtenGroup operation) (pieces fillBytes p)
       ∙ pieces-within documentBytes fullCount (lit< tt) (lit< tt) p
 
-  pub operation-written : (p : List ℕ) → 0 < length p → operationOf (written operation p) ≡ operation
-  unfolding written flatMap
+  pub operation-written : (p : List ℕ) → 0 < length p → operationOf (writtenDetail operation p) ≡ operation
+  unfolding writtenDetail flatMap
   operation-written p h = ap (λ (l : List (List ℕ)). operationOf (flatMap (writtenGroup operation) l)) (pieces-step fillBytes (lit< tt) p h)
 
-  pub one-written : (p : List ℕ) → 0 < length p → oneOperation (written operation p) ≡ true
+  pub one-written : (p : List ℕ) → 0 < length p → oneOperation (writtenDetail operation p) ≡ true
   unfolding oneOperation
   one-written p h =
-      ap (every (λ (g : List ℕ). eqb (operationOf g) (operationOf (written operation p)))) (groups-written p)
-      ∙ every-map (λ (g : List ℕ). eqb (operationOf g) (operationOf (written operation p))) (writtenGroup operation) (pieces fillBytes p)
-      ∙ every-always (λ (ds : List ℕ). eqb operation (operationOf (written operation p))) (λ (ds : List ℕ). eq-eqb operation (operationOf (written operation p)) (sym (operation-written p h))) (pieces fillBytes p)
+      ap (every (λ (g : List ℕ). eqb (operationOf g) (operationOf (writtenDetail operation p)))) (groups-written p)
+      ∙ every-map (λ (g : List ℕ). eqb (operationOf g) (operationOf (writtenDetail operation p))) (writtenGroup operation) (pieces fillBytes p)
+      ∙ every-always (λ (ds : List ℕ). eqb operation (operationOf (writtenDetail operation p))) (λ (ds : List ℕ). eq-eqb operation (operationOf (writtenDetail operation p)) (sym (operation-written p h))) (pieces fillBytes p)
 
 -- 1 to 4 whole documents
 abbrev wholeFew : List ℕ → Bool
@@ -112,7 +112,7 @@ whole-group operation ds o e =
     rw (o, both .0) (eq-eqb (length (writtenGroup operation ds)) (4 + n * documentBytes) (omega arith))
 
 -- a part of 1 to 200 whole documents becomes a body of the right shape
-pub shape-written : (operation : ℕ) (p : List ℕ) → isOperation operation ≡ true → 0 < length p → length p ≤ mostDocuments * documentBytes → length p % documentBytes ≡ 0 → shapeGood (written operation p) ≡ true
+pub shape-written : (operation : ℕ) (p : List ℕ) → isOperation operation ≡ true → 0 < length p → length p ≤ mostDetailDocuments * documentBytes → length p % documentBytes ≡ 0 → shapeGood (writtenDetail operation p) ≡ true
 unfolding shapeGood
 shape-written operation p o some most whole =
     let ps = pieces fillBytes p in

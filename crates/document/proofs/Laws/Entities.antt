@@ -4,7 +4,7 @@ use mathlib.Core.Bool.{Bool, _||_, or-false, or-assoc}
 use mathlib.Core.List.{List, [], _∷_}
 use Prim.Native.Nat.{ℕ}
 use lib.Dec.{eqb}
-use Rattle.document.specs.Entities.{member}
+use Rattle.packed.specs.Every.{member}
 
 -- found among those passed, or among those left: nothing left, and one more
 pub member-none : (found : Bool) (e : ℕ) → found || member e [] ≡ found

@@ -8,8 +8,8 @@ use Rattle.packed.specs.Every.{every}
 use Rattle.packed.specs.Number.{number}
 use Rattle.packed.specs.Digits.{areDigits}
 use Rattle.codes.specs.Field.{exactly, earning}
-use Rattle.codes.specs.Reply.{codeNumber}
-use Rattle.codes.specs.declared.reply.Code.{Code}
+use Rattle.codes.specs.Code.{codeNumber}
+use Rattle.codes.specs.declared.code.Code.{Code}
 use Rattle.codes.proofs.Laws.Field.{tableDigits, table-split, digitRuns, total, runs-join, adjoining}
 use Rattle.document.specs.Limits.{documentBytes}
 use Rattle.document.specs.Rules.{identification, dayAndMonth, province, truncation, keyOrReason}

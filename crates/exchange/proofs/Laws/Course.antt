@@ -11,29 +11,30 @@ use Rattle.session.specs.Limits.{passesLot}
 use Rattle.session.specs.Engine.{Call}
 use Rattle.exchange.specs.declared.cursors.Cursors.{Cursors}
 use Rattle.exchange.specs.declared.progress.Progress.{Progress}
-use Rattle.exchange.specs.Cursors.{partAt, documentsOf, nextOperation, same}
-use Rattle.exchange.specs.Course.{Ends, Standing, roundMade, counted, pastPart, partSent, ifRoom, detailSent, whileMoving, wholeLot, lotMade, Safe, standingOf}
+use Rattle.exchange.specs.Cursors.{partAt, nextOperation, same}
+use Rattle.document.specs.Part.{countIn}
+use Rattle.exchange.specs.Course.{Ends, Standing, roundMade, inOpenLot, pastPart, partSent, ifRoom, detailSent, whileMoving, wholeLot, lotMade, Safe, standingOf}
 
 -- a part goes
-pub part-sent : (presentations bytes : List ℕ) (s : Standing) (operation before after : ℕ) (ends : Ends) (c : Cursors) → operation ≡ nextOperation presentations (s .cursors) → before ≡ counted (s .ends) → ends ≡ roundMade (Call.detail opening operation bytes) (s .ends) → after ≡ counted ends → c ≡ pastPart presentations (documentsOf bytes) before after (s .cursors) → record { ends = ends; cursors = c } ≡ partSent presentations bytes s
+pub part-sent : (presentations bytes : List ℕ) (s : Standing) (operation before after : ℕ) (ends : Ends) (c : Cursors) → operation ≡ nextOperation presentations (s .cursors) → before ≡ inOpenLot (s .ends) → ends ≡ roundMade (Call.detail opening operation bytes) (s .ends) → after ≡ inOpenLot ends → c ≡ pastPart presentations (countIn bytes) before after (s .cursors) → record { ends = ends; cursors = c } ≡ partSent presentations bytes s
 unfolding partSent
 part-sent presentations bytes s operation before after ends c op b e a so =
     let made = e ∙ ap (λ (o : ℕ). roundMade (Call.detail opening o bytes) (s .ends)) op in
-    let past = so ∙ (λ i. pastPart presentations (documentsOf bytes) (b i) ((a ∙ ap counted made) i) (s .cursors)) in
+    let past = so ∙ (λ i. pastPart presentations (countIn bytes) (b i) ((a ∙ ap inOpenLot made) i) (s .cursors)) in
     λ i. record { ends = made i; cursors = past i }
 
 -- the next one, or none: `full` is what the code asked of the lot
-module _ (presentations returns bytes : List ℕ) (s : Standing) (so : bytes ≡ partAt presentations returns (s .cursors)) (gathered : ℕ) (full : Bool) (g : gathered ≡ counted (s .ends)) (f : full ≡ passesLot (gathered + documentsOf bytes)) where
-  by-part : cond (eqb (documentsOf bytes) 0 || full) s (partSent presentations bytes s) ≡ detailSent presentations returns s
+module _ (presentations returns bytes : List ℕ) (s : Standing) (so : bytes ≡ partAt presentations returns (s .cursors)) (gathered : ℕ) (full : Bool) (g : gathered ≡ inOpenLot (s .ends)) (f : full ≡ passesLot (gathered + countIn bytes)) where
+  by-part : cond (eqb (countIn bytes) 0 || full) s (partSent presentations bytes s) ≡ detailSent presentations returns s
   unfolding detailSent
   by-part =
-      ap (λ (b : Bool). cond (eqb (documentsOf bytes) 0 || b) s (partSent presentations bytes s)) (f ∙ ap (λ (n : ℕ). passesLot (n + documentsOf bytes)) g)
+      ap (λ (b : Bool). cond (eqb (countIn bytes) 0 || b) s (partSent presentations bytes s)) (f ∙ ap (λ (n : ℕ). passesLot (n + countIn bytes)) g)
       ∙ ap (λ (b : List ℕ). ifRoom presentations b s) so
 
-  pub no-room : eqb (documentsOf bytes) 0 || full ≡ true → s ≡ detailSent presentations returns s
+  pub no-room : eqb (countIn bytes) 0 || full ≡ true → s ≡ detailSent presentations returns s
   no-room e = (rw e) ∙ by-part
 
-  pub room : eqb (documentsOf bytes) 0 || full ≡ false → partSent presentations bytes s ≡ detailSent presentations returns s
+  pub room : eqb (countIn bytes) 0 || full ≡ false → partSent presentations bytes s ≡ detailSent presentations returns s
   room e = (rw e) ∙ by-part
 
 -- a lot, or none

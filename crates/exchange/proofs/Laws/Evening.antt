@@ -11,7 +11,8 @@ use Rattle.codes.proofs.Laws.Chain.{none-test, none-both}
 use Rattle.session.specs.Engine.{Engine}
 use Rattle.outgoing.specs.Outgoing.{bothGood, checkCode}
 use Rattle.exchange.specs.declared.shown.Side.{Side}
-use Rattle.exchange.specs.Fixed.{near, far, messageRoom, replyRoom}
+use Rattle.message.specs.Limits.{messageRoom, replyRoom}
+use Rattle.exchange.specs.Fixed.{near, far}
 use Rattle.exchange.specs.Course.{Ends, bothDirections}
 use Rattle.exchange.specs.Cursors.{unmoved, within}
 use Rattle.exchange.specs.Evening.{noSide, closedSide, startedEnd, beginning, shownOf, evening, traysCode, exchanged}

@@ -3,20 +3,19 @@ use mathlib.Core.Path.{_≡_, ap, sym, _∙_}
 use mathlib.Core.List.{List, []}
 use Prim.Native.Nat.{ℕ}
 use borrow.Author.Tests.{eq-eqb, ne-eqb}
-use Rattle.session.specs.Engine.{Call, Engine}
-use Rattle.centre.specs.Turn.{Turned, turned}
-use Rattle.exchange.specs.Round.{Answered, bytesOf, replyTo, answered, answerTo, rounded}
+use Rattle.session.specs.Engine.{Call, Engine, Performed, performed, saidBy}
+use Rattle.exchange.specs.Round.{Answered, replyTo, answered, answerTo, rounded}
 
 -- the receiver has heard `bytes`
-module _ (time : ℕ) (bytes reply : List ℕ) (presenter receiver : Engine) (heard : Turned) (so : heard ≡ turned (Call.receive time bytes) reply receiver) where
+module _ (time : ℕ) (bytes reply : List ℕ) (presenter receiver : Engine) (heard : Performed) (so : heard ≡ performed (Call.receive time bytes) reply receiver) where
   by-heard : replyTo time heard presenter ≡ answered time bytes reply presenter receiver
   unfolding answered
-  by-heard = ap (λ (t : Turned). replyTo time t presenter) so
+  by-heard = ap (λ (t : Performed). replyTo time t presenter) so
 
   -- and the presenter took the reply
-  pub replied : (told : Turned) → heard .number ≡ 0 → told ≡ turned (Call.reply time (bytesOf heard)) [] presenter → record { presenter = told .engine; receiver = heard .engine; received = heard .number; replied = told .number; reply = heard .line } ≡ answered time bytes reply presenter receiver
+  pub replied : (told : Performed) → heard .number ≡ 0 → told ≡ performed (Call.reply time (saidBy heard .bytes)) [] presenter → record { presenter = told .engine; receiver = heard .engine; received = heard .number; replied = told .number; reply = heard .line } ≡ answered time bytes reply presenter receiver
   replied told none e =
-      ap (λ (t : Turned). record { presenter = t .engine; receiver = heard .engine; received = heard .number; replied = t .number; reply = heard .line }) e
+      ap (λ (t : Performed). record { presenter = t .engine; receiver = heard .engine; received = heard .number; replied = t .number; reply = heard .line }) e
       ∙ (rw (eq-eqb (heard .number) 0 none))
       ∙ by-heard
 
@@ -25,13 +24,13 @@ module _ (time : ℕ) (bytes reply : List ℕ) (presenter receiver : Engine) (he
   unreplied some = (rw (ne-eqb (heard .number) 0 some)) ∙ by-heard
 
 -- the presenter has made its call
-module _ (call : Call) (time : ℕ) (message reply : List ℕ) (presenter receiver : Engine) (turn : Turned) (so : turn ≡ turned call message presenter) where
+module _ (call : Call) (time : ℕ) (message reply : List ℕ) (presenter receiver : Engine) (turn : Performed) (so : turn ≡ performed call message presenter) where
   by-turn : answerTo time reply turn receiver ≡ rounded call time message reply presenter receiver
   unfolding rounded
-  by-turn = ap (λ (t : Turned). answerTo time reply t receiver) so
+  by-turn = ap (λ (t : Performed). answerTo time reply t receiver) so
 
   -- and its message was answered
-  pub heard : (sent : ℕ) (answer : Answered) → turn .number ≡ 0 → sent ≡ 0 → answer ≡ answered time (bytesOf turn) reply (turn .engine) receiver → record { sent = sent; message = turn .line; answer = answer } ≡ rounded call time message reply presenter receiver
+  pub heard : (sent : ℕ) (answer : Answered) → turn .number ≡ 0 → sent ≡ 0 → answer ≡ answered time (saidBy turn .bytes) reply (turn .engine) receiver → record { sent = sent; message = turn .line; answer = answer } ≡ rounded call time message reply presenter receiver
   heard sent answer none unsent e =
       (λ i. record { sent = (unsent ∙ sym none) i; message = turn .line; answer = e i })
       ∙ (rw (eq-eqb (turn .number) 0 none))

@@ -7,19 +7,18 @@ use lib.ListN.{length}
 use Rattle.message.specs.declared.envelope.Kind.{Kind}
 use Rattle.message.specs.Envelope.{envelopeOf}
 use Rattle.message.specs.Reply.{writtenReplyBody}
-use Rattle.message.specs.Line.{message}
+use Rattle.message.specs.Line.{wholeMessage}
 use Rattle.message.proofs.Laws.Envelope.{whole-length}
 use Rattle.session.specs.declared.effect.Effect.{Effect}
-use Rattle.session.specs.Course.{Direction}
+use Rattle.session.specs.Parties.{Direction}
 use Rattle.session.specs.Outcome.{Held, Outcome}
 use Rattle.session.specs.Sending.{nextEnvelope, sendRefusal, send, sendHeader, sendDetail, sendLotTotal, sendSessionTotal}
 use Rattle.session.specs.Receiving.{afterMessage, receiveRefusal, receive}
 use Rattle.session.specs.Reply.{takeReply}
 use Rattle.session.specs.Clock.{clock}
-use Rattle.session.specs.Engine.{Call, Engine, meaning, directionOf, lent}
+use Rattle.session.specs.Engine.{Call, Engine, meaning, directionOf, lent, Performed, performed}
 use Rattle.session.proofs.Laws.Decided.{either}
 use Rattle.session.proofs.Laws.Refusals.{send-told, receive-told}
-use Rattle.centre.specs.Turn.{Turned, turned}
 
 abbrev Within : (room : ℕ) → Outcome → Type 0
 Within room o = o .written ≤ room
@@ -27,7 +26,7 @@ Within room o = o .written ≤ room
 sent-within : (time code : ℕ) (effect : Effect) (body : List ℕ) (h : Held) → Within (length (h .line)) (send time code effect body h)
 unfolding send
 sent-within time code effect body h =
-    either (Within (length (h .line))) _ h _ (λ (k : ℕ). omega arith) (λ (e : sendRefusal time code (length (message (nextEnvelope (h .session)) body)) (length (h .line)) (h .session) ≡ 0). send-told time code (message (nextEnvelope (h .session)) body) h e .room)
+    either (Within (length (h .line))) _ h _ (λ (k : ℕ). omega arith) (λ (e : sendRefusal time code (length (wholeMessage (nextEnvelope (h .session)) body)) (length (h .line)) (h .session) ≡ 0). send-told time code (wholeMessage (nextEnvelope (h .session)) body) h e .room)
 
 meant-within : (call : Call) (h : Held) → Within (length (h .line)) (meaning call h)
 unfolding meaning sendHeader sendDetail sendLotTotal sendSessionTotal receive takeReply clock
@@ -41,9 +40,9 @@ meant-within (Call.reply time bytes) h = either (Within (length (h .line))) _ h 
 meant-within (Call.clock time) h = either (Within (length (h .line))) _ h _ (λ (k : ℕ). omega arith) (λ e. omega arith)
 meant-within Call.report h = omega arith
 
-pub written-within : (call : Call) (line : List ℕ) (e : Engine) (t : Turned) → t ≡ turned call line e → t .written ≤ length line
-unfolding turned
-written-within call line e t so = subst (λ (x : Turned). x .written ≤ length line) (sym so) (held-line (directionOf call))
+pub written-within : (call : Call) (line : List ℕ) (e : Engine) (t : Performed) → t ≡ performed call line e → t .written ≤ length line
+unfolding performed
+written-within call line e t so = subst (λ (x : Performed). x .written ≤ length line) (sym so) (held-line (directionOf call))
   where
     held-line : (d : Direction) → Within (length line) (meaning call (lent d line e))
     held-line Direction.presenting = meant-within call (lent Direction.presenting line e)

@@ -16,10 +16,11 @@ use Rattle.codes.specs.Field.{exactly, earning, tableGood, tableNumbers, tableT
 use Rattle.codes.proofs.Laws.Field.{table-split, digitRuns, total, runs-join, adjoining}
 use Rattle.message.specs.declared.route.Route.{Route}
 use Rattle.message.specs.declared.header.Header.{Header}
-use Rattle.message.specs.Limits.{largestNumber}
+use Rattle.message.specs.Limits.{largestOrderNumber}
 use Rattle.message.specs.declared.header.ReadHeader.{ReadHeader}
 use Rattle.message.specs.Layout.{bodyCode, readBody, writtenBody}
-use Rattle.message.specs.Route.{routeValues, routeAt, sameRoute}
+use Rattle.message.specs.Route.{routeValues, sameRoute}
+use Rattle.message.specs.Inner.Route.{routeAt}
 use Rattle.message.specs.Header.{timeOfDay, orderNumber, headerFields, header, headerValues, headerOf, headerSaid, sendable}
 use Rattle.message.proofs.Laws.Route.{same}
 use Rattle.message.proofs.Laws.Reading.{told}
@@ -61,22 +62,22 @@ module _ (route : Route) where
       λ i. h .time ∷ routeValues (sym r i) ++ h .centre ∷ h .number ∷ sym z i ∷ []
 
   -- an accepted header has an order number
-  pub order-told : (body : List ℕ) → bodyCode (header route) body ≡ 0 → headerOf body .number ≤ largestNumber
+  pub order-told : (body : List ℕ) → bodyCode (header route) body ≡ 0 → headerOf body .number ≤ largestOrderNumber
   order-told body e =
       let h = headerOf body in
       let n = h .number in
       let good = accepted-told (header route) body e .1 in
       let order = three (areDigits (part 3 16 body) && timeOfDay (h .time) && sameRoute (routeAt 7 body) route) (orderNumber n) (exactly 0 (number (part 18 1 body))) (sym (fields-split body) ∙ good) .1 in
-      leb-true n largestNumber (both (leb 1 n) (leb n largestNumber) order .1)
+      leb-true n largestOrderNumber (both (leb 1 n) (leb n largestOrderNumber) order .1)
 
   -- numbers that a header can carry
   pub in-range : (h : Header) → route .date < 100 ^ 3 → route .presenting < 100 ^ 2 → route .receiving < 100 ^ 2 → sendable (h .time) (h .centre) (h .number) ≡ true → tableTakes (headerFields route) (headerValues route h) ≡ true
   unfolding sendable headerFields tableTakes
   in-range h d p r e =
-      let all = three (timeOfDay (h .time)) (leb (h .centre) largestNumber) (orderNumber (h .number)) e in
+      let all = three (timeOfDay (h .time)) (leb (h .centre) largestOrderNumber) (orderNumber (h .number)) e in
       let hour = ltb-true (h .time / 1000000) 24 (three (ltb (h .time / 1000000) 24) (ltb (h .time / 10000 % 100) 60) (ltb (h .time / 100 % 100) 60) (all .0) .0) in
-      let centre = leb-true (h .centre) largestNumber (all .1) in
-      let number = leb-true (h .number) largestNumber (both (leb 1 (h .number)) (leb (h .number) largestNumber) (all .2) .1) in
+      let centre = leb-true (h .centre) largestOrderNumber (all .1) in
+      let number = leb-true (h .number) largestOrderNumber (both (leb 1 (h .number)) (leb (h .number) largestOrderNumber) (all .2) .1) in
       λ i.
       lt-ltb (h .time) (100 ^ 4) (omega arith) i && all .0 i
       && (lt-ltb (route .date) (100 ^ 3) d i && eq-eqb (route .date) (route .date) refl i

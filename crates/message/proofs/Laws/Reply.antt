@@ -15,11 +15,11 @@ use Rattle.packed.proofs.Laws.Told.{both, three}
 use Rattle.codes.specs.Body.{free, mark, operationOf, cleared}
 use Rattle.codes.specs.Numbered.{numbered}
 use Rattle.codes.specs.Chain.{_when_}
-use Rattle.codes.specs.declared.reply.Code.{Code}
-use Rattle.codes.specs.declared.reply.ReadCode.{ReadCode}
-use Rattle.codes.specs.Reply.{codeNumber, codeByte, readCode, isKnown, knownCode}
+use Rattle.codes.specs.declared.code.Code.{Code}
+use Rattle.codes.specs.declared.code.ReadCode.{ReadCode}
+use Rattle.codes.specs.Code.{codeNumber, codeByte, readCode, isKnown, knownCode}
 use Rattle.codes.proofs.Laws.Chain.{none-test, given-test}
-use Rattle.codes.proofs.Laws.Reply.{code-value, written-then-read as code-written, read-then-written as code-read}
+use Rattle.codes.proofs.Laws.Code.{code-value, written-then-read as code-written, read-then-written as code-read}
 use Rattle.message.specs.declared.reply.Operation.{Operation}
 use Rattle.message.specs.declared.reply.Reply.{Reply}
 use Rattle.message.specs.declared.reply.ReadReply.{ReadReply}

@@ -16,7 +16,7 @@ use Rattle.codes.proofs.Laws.Chain.{joins, rest-same}
 use Rattle.message.specs.declared.envelope.Kind.{Kind}
 use Rattle.message.specs.Limits.{envelopeBytes, largestSerial}
 use Rattle.message.specs.Envelope.{envelopeFields, writtenEnvelope}
-use Rattle.message.specs.Line.{Body, layoutOf, bodyBytes, message}
+use Rattle.message.specs.Line.{Body, layoutOf, bodyBytes, wholeMessage}
 use Rattle.message.proofs.Laws.Buffer.{both-written}
 use Rattle.message.proofs.Laws.Envelope.{whole-length}
 use Rattle.message.proofs.Laws.Line.{body-length}
@@ -24,10 +24,10 @@ use Rattle.session.specs.declared.effect.Effect.{Effect}
 use Rattle.session.specs.declared.session.Session.{Session}
 use Rattle.session.specs.Parties.{presentingRoute}
 use Rattle.session.specs.Running.{Running}
-use Rattle.session.specs.Outcome.{Outcome, noRoom, timeRefusal}
+use Rattle.session.specs.Outcome.{Outcome, noRoom, held}
+use Rattle.session.specs.Time.{timeRefusal}
 use Rattle.session.specs.Sending.{isPending, nextEnvelope, sendRefusal, sent, posted, send}
 use Rattle.session.proofs.Laws.Refusals.{SendTold, send-told}
-use Rattle.calls.specs.Said.{held}
 use Rattle.calls.proofs.Laws.Said.{said-done, said-refused}
 use Rattle.presenting.specs.declared.answer.SendAnswer.{SendAnswer}
 use Rattle.presenting.specs.Said.{sendNumber, sendWritten}
@@ -57,15 +57,15 @@ pub record Answered (time code : ℕ) (body : List ℕ) (s : Session) (line : Li
   pub bytes : ℕ
   pub number : sendNumber answer ≡ sendRefusal time code bytes (length line) s
   pub written : sendWritten answer ≡ cond (eqb (sendNumber answer) 0) bytes 0
-  pub size : code ≡ 0 → bytes ≡ length (message (nextEnvelope s) body)
+  pub size : code ≡ 0 → bytes ≡ length (wholeMessage (nextEnvelope s) body)
 
 -- messages of a fixed length
-pub fixed-size : (s : Session) (x : Body) → envelopeBytes + layoutOf (presentingRoute (s .parties)) x .bytes ≡ length (message (nextEnvelope s) (bodyBytes (presentingRoute (s .parties)) x))
+pub fixed-size : (s : Session) (x : Body) → envelopeBytes + layoutOf (presentingRoute (s .parties)) x .bytes ≡ length (wholeMessage (nextEnvelope s) (bodyBytes (presentingRoute (s .parties)) x))
 fixed-size s x = sym (whole-length Kind.Message (nextEnvelope s) (bodyBytes (presentingRoute (s .parties)) x) ∙ ap (λ (n : ℕ). envelopeBytes + n) (body-length (presentingRoute (s .parties)) x))
 
 module _ (time code : ℕ) (effect : Effect) (body : List ℕ) (s : Session) (t : Running) (line : List ℕ) (answer : SendAnswer) (k : Answered time code body s line answer) where
   abbrev whole : List ℕ
-  whole = message (nextEnvelope s) body
+  whole = wholeMessage (nextEnvelope s) body
 
   chain : sendNumber answer ≡ sendRefusal time code (length whole) (length line) s
   chain = k .number ∙ refusal-same time code (k .bytes) (length whole) (length line) s (k .size)

@@ -8,8 +8,8 @@ use lib.Dec.{eqb}
 use lib.ListN.{length}
 use borrow.Author.Tests.{eqb-true}
 use Rattle.codes.specs.Chain.{_orelse_}
-use Rattle.codes.specs.declared.reply.Code.{Code}
-use Rattle.codes.specs.Reply.{codeNumber}
+use Rattle.codes.specs.declared.code.Code.{Code}
+use Rattle.codes.specs.Code.{codeNumber}
 use Rattle.codes.proofs.Laws.Chain.{ends as ends-chain}
 use Rattle.message.specs.Content.{contentOf}
 use Rattle.message.specs.Reading.{reading}
@@ -24,7 +24,7 @@ use Rattle.session.specs.declared.session.Receiving.{Receiving}
 use Rattle.session.specs.Limits.{mostLots}
 use Rattle.session.specs.Running.{Running, empty}
 use Rattle.session.specs.Course.{course, reopened, advance, ends, kept}
-use Rattle.session.specs.Receiving.{codeBy, effectBy}
+use Rattle.session.specs.Receiving.{receivedCode, receivedEffect}
 use Rattle.session.specs.Premise.{OpenSound}
 use Rattle.session.proofs.Laws.Allowed.{Allowed, received-allowed}
 use Rattle.calls.specs.Inner.Course.{Countable}
@@ -76,12 +76,12 @@ alike false effect meant e =
     }
 
 -- what the chain lets pass may be counted, and an accepted lot has a free place
-pub countable : (time : ℕ) (body : List ℕ) (p : Parties) (t : Running) (r : Receiving) (code : ℕ) (effect : Effect) → Lent p t r → code ≡ codeBy (contentOf body) time body p t r → StandsFor (eqb code 0) effect (effectBy (contentOf body) body t) → Countable effect (eqb code 0) (r .counters) t
+pub countable : (time : ℕ) (body : List ℕ) (p : Parties) (t : Running) (r : Receiving) (code : ℕ) (effect : Effect) → Lent p t r → code ≡ receivedCode (contentOf body) time body p t r → StandsFor (eqb code 0) effect (receivedEffect (contentOf body) body t) → Countable effect (eqb code 0) (r .counters) t
 countable time body p t r code effect g c s = record { counters = g .counters; running = g .running; sound = λ (e : eqb code 0 ≡ true). allowed e .sound; carried = λ (e : eqb code 0 ≡ true). allowed e .carried }
   where
     allowed : eqb code 0 ≡ true → Allowed effect (course (r .counters) t)
     allowed e =
-        subst (λ (x : Effect). Allowed x (course (r .counters) t)) (sym (subst (λ (b : Bool). StandsFor b effect (effectBy (contentOf body) body t)) e s))
+        subst (λ (x : Effect). Allowed x (course (r .counters) t)) (sym (subst (λ (b : Bool). StandsFor b effect (receivedEffect (contentOf body) body t)) e s))
         (received-allowed time body p t r (g .running) (contentOf body) (sym c ∙ eqb-true code 0 e))
 
 pub free-place : (effect : Effect) (accepted : Bool) (c : Counters) (t : Running) → Countable effect accepted c t → accepted ≡ true → endsLot effect ≡ true → c .lots < mostLots

@@ -3,13 +3,13 @@
 use mathlib.Core.Path.{_≡_, refl, ap, sym, _∙_}
 use mathlib.Core.Bool.{Bool, true, false, cond, _||_, false≢true}
 use mathlib.Core.List.{List}
-use Prim.Native.Nat.{ℕ, suc, _+_}
+use Prim.Native.Nat.{ℕ, suc}
 use lib.ListN.{length}
 use lib.Seq.{sets}
 use borrow.Author.Tests.{eqb-true}
 use Rattle.message.specs.declared.envelope.Envelope.{Envelope}
 use Rattle.message.specs.declared.envelope.Kind.{Kind}
-use Rattle.message.specs.Limits.{envelopeBytes, replyBytes}
+use Rattle.message.specs.Limits.{replyRoom}
 use Rattle.message.specs.Envelope.{serialOf, envelopeOf, bodyOf}
 use Rattle.message.specs.Reply.{writtenReplyBody}
 use Rattle.message.specs.Line.{wholeReply}
@@ -18,10 +18,9 @@ use Rattle.session.specs.declared.session.Receiving.{Receiving}
 use Rattle.session.specs.declared.session.Session.{Session}
 use Rattle.session.specs.Parties.{receivingRoute}
 use Rattle.session.specs.Running.{Running}
-use Rattle.session.specs.Outcome.{Held}
-use Rattle.session.specs.Receiving.{codeFor, receivingCourse, receivingAfter, withReceiving, isLast, isNext, afterNew, afterRepeat, receiveRefusal, replying, receive}
+use Rattle.session.specs.Outcome.{Held, held, seenAt, withReceiving}
+use Rattle.session.specs.Receiving.{earnedCode, receivingCourse, receivingAfter, isLast, isNext, afterNew, afterRepeat, receiveRefusal, replying, receive}
 use Rattle.session.proofs.Laws.Refusals.{ReceiveTold, receive-told}
-use Rattle.calls.specs.Said.{held}
 use Rattle.calls.proofs.Laws.Said.{said-done}
 
 module _ (time : ℕ) (bytes : List ℕ) (s : Session) (t : Running) (line : List ℕ) where
@@ -33,22 +32,22 @@ module _ (time : ℕ) (bytes : List ℕ) (s : Session) (t : Running) (line : Lis
 
   -- the direction and the running totals after a message, by whether it is new
   abbrev direction : Bool → Receiving
-  direction new = cond new (receivingAfter (codeFor time (bodyOf bytes) h) (bodyOf bytes) t r) r
+  direction new = cond new (receivingAfter (earnedCode time (bodyOf bytes) h) (bodyOf bytes) t r) r
 
   abbrev gathered : Bool → Running
-  gathered new = cond new (receivingCourse (codeFor time (bodyOf bytes) h) (bodyOf bytes) t r .running) t
+  gathered new = cond new (receivingCourse (earnedCode time (bodyOf bytes) h) (bodyOf bytes) t r .running) t
 
-  left-so : (new : Bool) → held (withReceiving time (direction new) s) (gathered new) line ≡ cond new (afterNew time (bodyOf bytes) h) (afterRepeat time h)
+  left-so : (new : Bool) → held (seenAt time (withReceiving (direction new) s)) (gathered new) line ≡ cond new (afterNew time (bodyOf bytes) h) (afterRepeat time h)
   left-so true = refl
   left-so false = refl
 
   -- its serial is the message's
-  serial-so : (new : Bool) → isNext bytes r ≡ new → isLast bytes r || isNext bytes r ≡ true → direction new .serial ≡ serialOf bytes
+  serial-so : (new : Bool) → isNext bytes (r .serial) ≡ new → isLast bytes (r .serial) || isNext bytes (r .serial) ≡ true → direction new .serial ≡ serialOf bytes
   unfolding receivingAfter
   serial-so true n k = sym (eqb-true (serialOf bytes) (suc (r .serial)) n)
-  serial-so false n k = last (isLast bytes r) refl (ap (λ (b : Bool). isLast bytes r || b) (sym n) ∙ k)
+  serial-so false n k = last (isLast bytes (r .serial)) refl (ap (λ (b : Bool). isLast bytes (r .serial) || b) (sym n) ∙ k)
     where
-      last : (b : Bool) → isLast bytes r ≡ b → isLast bytes r || false ≡ true → r .serial ≡ serialOf bytes
+      last : (b : Bool) → isLast bytes (r .serial) ≡ b → isLast bytes (r .serial) || false ≡ true → r .serial ≡ serialOf bytes
       last true e k = sym (eqb-true (serialOf bytes) (r .serial) e)
       last false e k = absurd (false≢true (ap (λ (b : Bool). b || false) (sym e) ∙ k))
 
@@ -56,13 +55,13 @@ module _ (time : ℕ) (bytes : List ℕ) (s : Session) (t : Running) (line : Lis
     pub told : ReceiveTold bytes h
     told = receive-told time bytes h (sym chain ∙ none)
 
-    pub replied-so : (new : Bool) (after : Receiving) (running : Running) (now : List ℕ) → new ≡ isNext bytes r → after ≡ direction new → running ≡ gathered new → now ≡ sets line 0 (wholeReply (record { route = receivingRoute (s .parties); serial = after .serial }) (after .reply)) → record { number = answer; written = envelopeBytes + replyBytes; left = held (withReceiving time after s) running now } ≡ receive time bytes h
+    pub replied-so : (new : Bool) (after : Receiving) (running : Running) (now : List ℕ) → new ≡ isNext bytes (r .serial) → after ≡ direction new → running ≡ gathered new → now ≡ sets line 0 (wholeReply (record { route = receivingRoute (s .parties); serial = after .serial }) (after .reply)) → record { number = answer; written = replyRoom; left = held (seenAt time (withReceiving after s)) running now } ≡ receive time bytes h
     unfolding receive
     replied-so new after running now n d g w =
         let own : _≡_ {A = Envelope} (record { route = receivingRoute (s .parties); serial = after .serial }) (envelopeOf bytes) = λ i. record { route = sym (told .way) i; serial = (ap (λ (x : Receiving). x .serial) d ∙ serial-so new (sym n) (told .known)) i } in
-        let size : envelopeBytes + replyBytes ≡ length (wholeReply (envelopeOf bytes) (after .reply)) = sym (whole-length Kind.Reply (envelopeOf bytes) (writtenReplyBody (after .reply))) in
+        let size : replyRoom ≡ length (wholeReply (envelopeOf bytes) (after .reply)) = sym (whole-length Kind.Reply (envelopeOf bytes) (writtenReplyBody (after .reply))) in
         let line-so = w ∙ ap (λ (e : Envelope). sets line 0 (wholeReply e (after .reply))) own in
-        let same : held (withReceiving time after s) running line ≡ cond (isNext bytes r) (afterNew time (bodyOf bytes) h) (afterRepeat time h) = (λ i. held (withReceiving time (d i) s) (g i) line) ∙ left-so new ∙ ap (λ (b : Bool). cond b (afterNew time (bodyOf bytes) h) (afterRepeat time h)) n in
-        (λ i. record { number = none i; written = size i; left = held (withReceiving time after s) running (line-so i) })
+        let same : held (seenAt time (withReceiving after s)) running line ≡ cond (isNext bytes (r .serial)) (afterNew time (bodyOf bytes) h) (afterRepeat time h) = (λ i. held (seenAt time (withReceiving (d i) s)) (g i) line) ∙ left-so new ∙ ap (λ (b : Bool). cond b (afterNew time (bodyOf bytes) h) (afterRepeat time h)) n in
+        (λ i. record { number = none i; written = size i; left = held (seenAt time (withReceiving after s)) running (line-so i) })
         ∙ ap (replying bytes) same
-        ∙ said-done answer (receiveRefusal time bytes (length line) s) h (replying bytes (cond (isNext bytes r) (afterNew time (bodyOf bytes) h) (afterRepeat time h))) chain none
+        ∙ said-done answer (receiveRefusal time bytes (length line) s) h (replying bytes (cond (isNext bytes (r .serial)) (afterNew time (bodyOf bytes) h) (afterRepeat time h))) chain none

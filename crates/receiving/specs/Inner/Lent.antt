@@ -6,7 +6,7 @@ use Rattle.document.specs.Limits.{mostRepresented}
 use Rattle.message.specs.Limits.{largestSerial}
 use Rattle.session.specs.declared.parties.Parties.{Parties}
 use Rattle.session.specs.declared.session.Receiving.{Receiving}
-use Rattle.session.specs.Limits.{lotDocuments, mostLots}
+use Rattle.session.specs.Limits.{mostLotDocuments, mostLots}
 use Rattle.session.specs.Running.{Running}
 use Rattle.session.specs.Premise.{Fits, CountersSound}
 
@@ -15,4 +15,4 @@ pub record Lent (p : Parties) (t : Running) (r : Receiving) : Type 0 where
   pub serial : r .serial ≤ largestSerial
   pub counters : CountersSound (r .counters)
   pub places : length (r .lots) ≡ mostLots
-  pub running : Fits lotDocuments t
+  pub running : Fits mostLotDocuments t

@@ -5,22 +5,21 @@ use mathlib.Core.List.{List}
 use Prim.Native.Nat.{ℕ}
 use lib.Dec.{eqb}
 use Rattle.session.specs.Start.{StartOutcome, start}
-use Rattle.session.specs.Engine.{Call, Engine, withEmpty}
-use Rattle.centre.specs.Turn.{Turned, turned}
+use Rattle.session.specs.Engine.{Call, Engine, withEmpty, Performed, performed}
 use Rattle.script.specs.declared.reading.Asked.{Asked}
 use Rattle.script.specs.declared.reading.Reading.{Reading}
 use Rattle.script.specs.Reading.{namedBy}
 use Rattle.script.specs.Player.{Seated, called, begunAt, done}
 
-pub called-there : (call : Call) (line : List ℕ) (s : Seated) {t : Turned} → s .started ≡ true → t ≡ turned call line (s .engine) → _≡_ {A = Seated} (record { started = true; engine = t .engine }) (called call line s)
+pub called-there : (call : Call) (line : List ℕ) (s : Seated) {t : Performed} → s .started ≡ true → t ≡ performed call line (s .engine) → _≡_ {A = Seated} (record { started = true; engine = t .engine }) (called call line s)
 unfolding called
 called-there call line s there h =
     (λ i. record { started = true; engine = h i .engine })
-    ∙ sym (ap (λ (b : Bool). cond b (record { started = true; engine = turned call line (s .engine) .engine }) s) there)
+    ∙ sym (ap (λ (b : Bool). cond b (record { started = true; engine = performed call line (s .engine) .engine }) s) there)
 
 pub called-none : (call : Call) (line : List ℕ) (s : Seated) → s .started ≡ false → s ≡ called call line s
 unfolding called
-called-none call line s none = sym (ap (λ (b : Bool). cond b (record { started = true; engine = turned call line (s .engine) .engine }) s) none)
+called-none call line s none = sym (ap (λ (b : Bool). cond b (record { started = true; engine = performed call line (s .engine) .engine }) s) none)
 
 pub begun-there : (date own partner : ℕ) (represented : List ℕ) (s : Seated) {o : StartOutcome} {e : Engine} → o ≡ start date own partner represented → eqb (o .number) 0 ≡ true → e ≡ withEmpty (o .session) → _≡_ {A = Seated} (record { started = true; engine = e }) (begunAt date own partner represented s)
 unfolding begunAt

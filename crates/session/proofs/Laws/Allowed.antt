@@ -21,7 +21,7 @@ use Rattle.detail.specs.Codes.{receiverCode, presenterCode}
 use Rattle.detail.specs.Groups.{documents}
 use Rattle.detail.proofs.Laws.Codes.{accepted-part, accepted-amounts}
 use Rattle.message.specs.declared.content.Content.{Content}
-use Rattle.message.specs.Limits.{largestNumber}
+use Rattle.message.specs.Limits.{largestOrderNumber}
 use Rattle.message.specs.Layout.{bodyCode}
 use Rattle.message.specs.Header.{timeOfDay, orderNumber, header, headerOf, sendable}
 use Rattle.message.specs.Total.{lotTotal, lotTotalFields, totalOf}
@@ -32,14 +32,14 @@ use Rattle.session.specs.declared.effect.Effect.{Effect}
 use Rattle.session.specs.declared.parties.Parties.{Parties}
 use Rattle.session.specs.declared.session.Presenting.{Presenting}
 use Rattle.session.specs.declared.session.Receiving.{Receiving}
-use Rattle.session.specs.Limits.{lotDocuments, mostLots, passesLot, lotsUsed}
+use Rattle.session.specs.Limits.{mostLotDocuments, mostLots, passesLot, lotsUsed}
 use Rattle.session.specs.Hours.{presenterLate, receiverLate}
 use Rattle.session.specs.Parties.{receivingRoute, representedBy}
 use Rattle.session.specs.Running.{Running, empty, gather, detailAdds, documentsIn}
 use Rattle.session.specs.Course.{course}
-use Rattle.session.specs.Sequence.{isOpen, isThis, headerSequence, lotSequence, lotTotalSequence}
+use Rattle.session.specs.Sequence.{isOpen, isOpenLot, headerSequence, lotSequence, lotTotalSequence}
 use Rattle.session.specs.Sending.{headerStop, detailStop, lotTotalStop, partAdds, openNumber, endingLot}
-use Rattle.session.specs.Receiving.{acceptedLots, numberUsed, headerCode, detailCode, lotTotalCode, codeBy, effectBy}
+use Rattle.session.specs.Receiving.{acceptedLots, numberUsed, headerCode, detailCode, lotTotalCode, receivedCode, receivedEffect}
 use Rattle.session.specs.Premise.{Fits, PendingSound, PendingCarried}
 
 -- amounts of digits fit, and add
@@ -65,7 +65,7 @@ numbered-open : (lot : OpenLot) → isOpen lot ≡ true → lot ≡ OpenLot.Numb
 numbered-open OpenLot.None e = absurd (false≢true e)
 numbered-open (OpenLot.Numbered n) e = refl
 
-this-open : (number : ℕ) (lot : OpenLot) → isThis number lot ≡ true → lot ≡ OpenLot.Numbered number
+this-open : (number : ℕ) (lot : OpenLot) → isOpenLot number lot ≡ true → lot ≡ OpenLot.Numbered number
 this-open number OpenLot.None e = absurd (false≢true e)
 this-open number (OpenLot.Numbered n) e = ap OpenLot.Numbered (eqb-true n number e)
 
@@ -76,10 +76,10 @@ header-sound time moment centre number p e =
     let fields = passed 1 (not (sendable moment centre number)) _ (lit< tt) e in
     let place = none-both (headerSequence (p .ended) (p .counters .current)) _ (fields .1) in
     let late = passed 10 (presenterLate time) _ (lit< tt) (place .1) in
-    let order = three (timeOfDay moment) (leb centre largestNumber) (orderNumber number) (not-false (sendable moment centre number) (fields .0)) .2 in
-    (leb-true number largestNumber (both (leb 1 number) (leb number largestNumber) order .1), leb-false mostLots (p .counters .lots) (none-test 11 (lotsUsed (p .counters .lots)) (lit< tt) (late .1)))
+    let order = three (timeOfDay moment) (leb centre largestOrderNumber) (orderNumber number) (not-false (sendable moment centre number) (fields .0)) .2 in
+    (leb-true number largestOrderNumber (both (leb 1 number) (leb number largestOrderNumber) order .1), leb-false mostLots (p .counters .lots) (none-test 11 (lotsUsed (p .counters .lots)) (lit< tt) (late .1)))
 
-module _ (t : Running) (p : Presenting) (fits : Fits lotDocuments t) where
+module _ (t : Running) (p : Presenting) (fits : Fits mostLotDocuments t) where
   abbrev pub ownCourse : Course
   ownCourse = course (p .counters) t
 
@@ -90,10 +90,10 @@ module _ (t : Running) (p : Presenting) (fits : Fits lotDocuments t) where
       let more = partAdds operation part in
       let own = none-both (presenterCode operation partner part) _ e in
       let place = none-both (lotSequence (p .ended) (p .counters .current)) _ (own .1) in
-      let room = ltb-false lotDocuments (documentsIn t + documentsIn more) (none-test 12 (passesLot (documentsIn t + documentsIn more)) (lit< tt) (place .1)) in
+      let room = ltb-false mostLotDocuments (documentsIn t + documentsIn more) (none-test 12 (passesLot (documentsIn t + documentsIn more)) (lit< tt) (place .1)) in
       record {
         sound = open-told (p .ended) (p .counters .current) (place .0);
-        carried = fits-gather lotDocuments (length ds) lotDocuments t more room fits (documents-fit (packedByte operation) partner ds (accepted-part operation partner part (own .0) .1));
+        carried = fits-gather mostLotDocuments (length ds) mostLotDocuments t more room fits (documents-fit (packedByte operation) partner ds (accepted-part operation partner part (own .0) .1));
       }
 
   pub lot-total-allowed : lotTotalStop p ≡ 0 → Allowed (Effect.LotTotal (endingLot (p .counters) t)) ownCourse
@@ -101,12 +101,12 @@ module _ (t : Running) (p : Presenting) (fits : Fits lotDocuments t) where
   lot-total-allowed e = record { sound = numbered-open (p .counters .current) (open-told (p .ended) (p .counters .current) e); carried = refl }
 
 -- and so do the receiver's
-module _ (time : ℕ) (body : List ℕ) (parties : Parties) (t : Running) (r : Receiving) (fits : Fits lotDocuments t) where
+module _ (time : ℕ) (body : List ℕ) (parties : Parties) (t : Running) (r : Receiving) (fits : Fits mostLotDocuments t) where
   abbrev pub receiving-here : Course
   receiving-here = course (r .counters) t
 
-  pub received-allowed : (c : Content) → codeBy c time body parties t r ≡ 0 → Allowed (effectBy c body t) receiving-here
-  unfolding codeBy effectBy headerCode detailCode lotTotalCode lotTotalSequence
+  pub received-allowed : (c : Content) → receivedCode c time body parties t r ≡ 0 → Allowed (receivedEffect c body t) receiving-here
+  unfolding receivedCode receivedEffect headerCode detailCode lotTotalCode lotTotalSequence
   received-allowed Content.Header e =
       let read = none-both (bodyCode (header (receivingRoute parties)) body) _ e in
       let place = none-both (headerSequence (r .ended) (r .counters .current)) _ (read .1) in
@@ -121,16 +121,16 @@ module _ (time : ℕ) (body : List ℕ) (parties : Parties) (t : Running) (r : R
       let more = detailAdds (operationOf body) ds in
       let read = none-both (receiverCode (parties .own) (representedBy parties) body) _ e in
       let place = none-both (lotSequence (r .ended) (r .counters .current)) _ (read .1) in
-      let room = ltb-false lotDocuments (documentsIn t + documentsIn more) (none-test 12 (passesLot (documentsIn t + documentsIn more)) (lit< tt) (place .1)) in
+      let room = ltb-false mostLotDocuments (documentsIn t + documentsIn more) (none-test 12 (passesLot (documentsIn t + documentsIn more)) (lit< tt) (place .1)) in
       record {
         sound = open-told (r .ended) (r .counters .current) (place .0);
-        carried = fits-gather lotDocuments (length ds) lotDocuments t more room fits (documents-fit (operationOf body) (parties .own) ds (accepted-amounts (parties .own) (representedBy parties) body (read .0)));
+        carried = fits-gather mostLotDocuments (length ds) mostLotDocuments t more room fits (documents-fit (operationOf body) (parties .own) ds (accepted-amounts (parties .own) (representedBy parties) body (read .0)));
       }
   received-allowed Content.LotTotal e =
       let number = totalOf lotTotalFields body .number in
       let read = none-both (bodyCode lotTotal body) _ e in
       let place = none-both (lotTotalSequence (r .ended) number (r .counters .current) t) _ (read .1) in
-      let this = passed 7 (not (isThis number (r .counters .current))) _ (lit< tt) (place .0) in
-      record { sound = this-open number (r .counters .current) (not-false (isThis number (r .counters .current)) (this .0)); carried = refl }
+      let this = passed 7 (not (isOpenLot number (r .counters .current))) _ (lit< tt) (place .0) in
+      record { sound = this-open number (r .counters .current) (not-false (isOpenLot number (r .counters .current)) (this .0)); carried = refl }
   received-allowed Content.SessionTotal e = record { sound = tt; carried = tt }
   received-allowed Content.Unknown e = record { sound = tt; carried = tt }

@@ -4,9 +4,9 @@ use mathlib.Core.Bool.{Bool, true, false}
 use mathlib.Core.List.{List}
 use Prim.Native.Nat.{ℕ, zero, suc}
 use Rattle.codes.specs.Chain.{_when_, _orelse_}
-use Rattle.codes.specs.declared.reply.Code.{Code}
-use Rattle.codes.specs.Reply.{codeNumber, codeOf}
-use Rattle.codes.proofs.Laws.Reply.{number-told}
+use Rattle.codes.specs.declared.code.Code.{Code}
+use Rattle.codes.specs.Code.{codeNumber, codeNumbered}
+use Rattle.codes.proofs.Laws.Code.{number-told}
 use Rattle.detail.specs.Codes.{receiverCode}
 use Rattle.message.specs.declared.content.Content.{Content}
 use Rattle.message.specs.Layout.{Layout, bodyCode}
@@ -14,10 +14,10 @@ use Rattle.session.specs.declared.parties.Parties.{Parties}
 use Rattle.session.specs.declared.session.Receiving.{Receiving}
 use Rattle.session.specs.Running.{Running}
 use Rattle.session.specs.Sequence.{headerSequence, lotSequence, lotTotalSequence, sessionTotalSequence}
-use Rattle.session.specs.Receiving.{headerCode, detailCode, lotTotalCode, sessionTotalCode, codeBy}
+use Rattle.session.specs.Receiving.{headerCode, detailCode, lotTotalCode, sessionTotalCode, receivedCode}
 
 abbrev Listed : ℕ → Type 0
-Listed n = codeNumber (codeOf n) ≡ n
+Listed n = codeNumber (codeNumbered n) ≡ n
 
 listed : (c : Code) → Listed (codeNumber c)
 listed c = ap codeNumber (number-told c)
@@ -45,8 +45,8 @@ unfolding receiverCode
 detail-listed own represented body = row Code.WrongField _ _ (row Code.MixedOperations _ _ (row Code.WrongField _ _ (row Code.WrongAmount _ _ (one Code.WrongDrawee _))))
 
 module _ (time : ℕ) (body : List ℕ) (p : Parties) (running : Running) (r : Receiving) where
-  pub code-carried : (c : Content) → codeNumber (codeOf (codeBy c time body p running r)) ≡ codeBy c time body p running r
-  unfolding codeBy headerCode detailCode lotTotalCode sessionTotalCode headerSequence lotSequence lotTotalSequence sessionTotalSequence
+  pub code-carried : (c : Content) → codeNumber (codeNumbered (receivedCode c time body p running r)) ≡ receivedCode c time body p running r
+  unfolding receivedCode headerCode detailCode lotTotalCode sessionTotalCode headerSequence lotSequence lotTotalSequence sessionTotalSequence
   code-carried Content.Header = then _ _ (body-listed _ body) (then _ _ (row Code.WrongSequence _ _ (one Code.WrongSequence _)) (row Code.TooLate _ _ (row Code.Duplicate _ _ (one Code.TooManyLots _))))
   code-carried Content.Detail = then _ _ (detail-listed _ _ body) (then _ _ (one Code.WrongSequence _) (one Code.TooManyDocuments _))
   code-carried Content.LotTotal = then _ _ (body-listed _ body) (then _ _ (row Code.WrongSequence _ _ (one Code.WrongSequence _)) (row Code.Duplicate _ _ (one Code.WrongTotals _)))

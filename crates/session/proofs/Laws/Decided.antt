@@ -6,6 +6,7 @@ use native.Mathlib.Omega.{arith}
 use lib.ListN.{length, take, drop}
 use lib.Seq.{sets, sets-eq, take-append-seam}
 use Rattle.session.specs.Outcome.{Held, Outcome, refused, decided}
+use Rattle.session.specs.Engine.{Said}
 
 -- what holds of every refusal, and of what is done where the number is 0, holds of the call
 pub either : (P : Outcome → Type 0) (n : ℕ) (before : Held) (done : Outcome) → ((k : ℕ) → P (refused (suc k) before)) → (n ≡ 0 → P done) → P (decided n before done)
@@ -22,6 +23,10 @@ pub refused-keeps : (n : ℕ) (before : Held) (done : Outcome) → (n ≡ 0 → 
 unfolding decided
 refused-keeps zero before done h = absurd (h refl)
 refused-keeps (suc k) before done h = refl
+
+-- what an outcome says
+abbrev pub saidIn : Outcome → Said
+saidIn o = record { number = o .number; bytes = take (o .written) (o .left .line) }
 
 -- the bytes that were written are the first of the line buffer
 pub first-bytes : (bytes line : List ℕ) → length bytes ≤ length line → take (length bytes) (sets line 0 bytes) ≡ bytes

@@ -8,7 +8,7 @@ use native.Mathlib.Omega.{arith}
 use lib.ListN.{length}
 use Rattle.packed.specs.Writing.{packedByte}
 use Rattle.detail.specs.Codes.{sendable}
-use Rattle.detail.specs.Writing.{written}
+use Rattle.detail.specs.Writing.{writtenDetail}
 use Rattle.detail.proofs.Laws.Codes.{sendable-part}
 use Rattle.detail.proofs.Laws.Writing.{documents-written, operation-written}
 use Rattle.detail.proofs.Laws.RoundTrip.{operation-byte}
@@ -28,7 +28,7 @@ use Rattle.session.specs.declared.counters.Lot.{Lot}
 use Rattle.session.specs.declared.counters.Course.{Course}
 use Rattle.session.specs.Running.{Running}
 use Rattle.session.specs.Sending.{openNumber, endingLot}
-use Rattle.session.specs.Ledger.{LedgerLot, Ledger, Entry, entryBy, bodyEntry, partEntry, ofOperation}
+use Rattle.session.specs.Ledger.{LedgerLot, Ledger, Entry, receivedEntry, bodyEntry, partEntry, ofOperation}
 use Rattle.session.proofs.Laws.Ledger.{summary, openOf, runningOf, lotOf}
 
 header-read : (route : Route) (h : Header) → tableTakes (headerFields route) (headerValues route h) ≡ true → headerOf (bodyBytes route (Body.opening h)) ≡ h
@@ -36,27 +36,27 @@ unfolding bodyBytes
 header-read route h e = header-told route h e
 
 pub header-entry : (route : Route) (h : Header) → route .date < 100 ^ 3 → route .presenting < 100 ^ 2 → route .receiving < 100 ^ 2 → headerSendable (h .time) (h .centre) (h .number) ≡ true → bodyEntry (bodyBytes route (Body.opening h)) ≡ Entry.header (h .number)
-unfolding entryBy
-header-entry route h d p r s = ap (λ (c : Content). entryBy c (bodyBytes route (Body.opening h))) (content-told route (Body.opening h)) ∙ ap (λ (x : Header). Entry.header (x .number)) (header-read route h (in-range route h d p r s))
+unfolding receivedEntry
+header-entry route h d p r s = ap (λ (c : Content). receivedEntry c (bodyBytes route (Body.opening h))) (content-told route (Body.opening h)) ∙ ap (λ (x : Header). Entry.header (x .number)) (header-read route h (in-range route h d p r s))
 
-pub detail-entry : (operation : ℕ) (part : List ℕ) → sendable operation part ≡ true → bodyEntry (written (packedByte operation) part) ≡ partEntry operation part
-unfolding entryBy
+pub detail-entry : (operation : ℕ) (part : List ℕ) → sendable operation part ≡ true → bodyEntry (writtenDetail (packedByte operation) part) ≡ partEntry operation part
+unfolding receivedEntry
 detail-entry operation part s =
     let fit = sendable-part operation part s in
     let o = packedByte operation in
-    let body = written o part in
+    let body = writtenDetail o part in
     let some-bytes : 0 < length part = omega (arith, fit .least) in
     let op = operation-written o part some-bytes in
-    ap (λ (c : Content). entryBy c body) (ap byOperation op ∙ detail-told o (operation-byte operation (fit .kind)))
+    ap (λ (c : Content). receivedEntry c body) (ap byOperation op ∙ detail-told o (operation-byte operation (fit .kind)))
     ∙ λ i. Entry.detail (ofOperation (op i) (documents-written o part i))
 
 pub lot-total-entry : (route : Route) (t : Total) → bodyEntry (bodyBytes route (Body.lotEnding t)) ≡ Entry.lotTotal
-unfolding entryBy
-lot-total-entry route t = ap (λ (c : Content). entryBy c (bodyBytes route (Body.lotEnding t))) (content-told route (Body.lotEnding t))
+unfolding receivedEntry
+lot-total-entry route t = ap (λ (c : Content). receivedEntry c (bodyBytes route (Body.lotEnding t))) (content-told route (Body.lotEnding t))
 
 pub session-total-entry : (route : Route) (t : Total) → bodyEntry (bodyBytes route (Body.sessionEnding t)) ≡ Entry.sessionTotal
-unfolding entryBy
-session-total-entry route t = ap (λ (c : Content). entryBy c (bodyBytes route (Body.sessionEnding t))) (content-told route (Body.sessionEnding t))
+unfolding receivedEntry
+session-total-entry route t = ap (λ (c : Content). receivedEntry c (bodyBytes route (Body.sessionEnding t))) (content-told route (Body.sessionEnding t))
 
 -- the lot that the presenter's counters name is the open one of its book
 pub open-lot-same : (c : Counters) (t : Running) (b : Ledger) → _≡_ {A = Course} (record { counters = c; running = t }) (summary b) → endingLot c t ≡ lotOf (b .current)

@@ -7,23 +7,23 @@ use native.Mathlib.Omega.{arith}
 use lib.ListN.{length}
 use Rattle.message.specs.Envelope.{envelopeOf, bodyOf}
 use Rattle.message.specs.Line.{wholeReply}
-use Rattle.session.specs.Course.{Direction, opposite}
+use Rattle.session.specs.Parties.{Direction, opposite}
 use Rattle.session.specs.declared.counters.OpenLot.{OpenLot}
 use Rattle.session.specs.declared.session.Presenting.{Presenting}
 use Rattle.session.specs.declared.session.Receiving.{Receiving}
 use Rattle.session.specs.declared.session.Session.{Session}
 use Rattle.session.specs.Running.{Running}
-use Rattle.session.specs.Outcome.{Held, Outcome, refused, decided, silent, wrote, timeRefusal, clockRefusal}
+use Rattle.session.specs.Outcome.{Held, Outcome, refused, decided, silent, wrote, held, withPresenting, withReceiving}
+use Rattle.session.specs.Time.{timeRefusal, clockRefusal}
 use Rattle.session.specs.Sending.{sendRefusal, send, headerStop, sessionTotalStop, sendHeader, sendDetail, sendLotTotal, sendSessionTotal}
 use Rattle.session.specs.Receiving.{isNext, receiveRefusal, receive, receivingAfter, afterNew, afterRepeat, afterMessage, replying}
 use Rattle.session.specs.Reply.{replyRefusal, takeReply}
 use Rattle.session.specs.Clock.{clock}
-use Rattle.session.specs.Premise.{PendingCarried, Sound, Carried, Premise, Kept, KeptBeside}
-use Rattle.session.specs.Engine.{Call, Engine, meaning, directionOf, lent, givenBack, perform}
-use Rattle.session.specs.Claim.{Ready}
+use Rattle.session.specs.Premise.{PendingCarried, Sound, Carried, Kept, KeptBeside}
+use Rattle.session.specs.Engine.{Call, Engine, meaning, directionOf, lent, givenBack, performed, Ready}
 use Rattle.session.proofs.Laws.Decided.{either, unrefused, refused-keeps}
 use Rattle.session.proofs.Laws.Allowed.{header-sound}
-use Rattle.session.proofs.Laws.Sound.{send-sound, send-carried, clock-sound, clock-carried, send-header-keeps, send-detail-keeps, send-lot-total-keeps, send-session-total-keeps, receive-keeps, reply-keeps, clock-keeps}
+use Rattle.session.proofs.Laws.Sound.{Premise, send-sound, send-carried, clock-sound, clock-carried, send-header-keeps, send-detail-keeps, send-lot-total-keeps, send-session-total-keeps, receive-keeps, reply-keeps, clock-keeps}
 
 -- a call is a refusal that leaves what it was lent, or what it does where its chain gives 0
 pub record Decided (h : Held) (o : Outcome) : Type 0 where
@@ -52,11 +52,11 @@ gives-back call h number = let d = is-decided call h in go (d .refusal) (d .done
     go (suc k) done u o e number = e ∙ refused-keeps (suc k) h done (λ (z : suc k ≡ 0). omega arith) ∙ λ i. refused (sym (ap (λ (p : Outcome). p .number) (e ∙ refused-keeps (suc k) h done (λ (z : suc k ≡ 0). omega arith))) i) h
 
 -- what a call is lent, with another record of one direction
-abbrev withReceiving : Receiving → Held → Held
-withReceiving r h = record { session = record { parties = h .session .parties; presenting = h .session .presenting; receiving = r; seen = h .session .seen; close = h .session .close }; running = h .running; line = h .line }
+abbrev heldReceiving : Receiving → Held → Held
+heldReceiving r h = held (withReceiving r (h .session)) (h .running) (h .line)
 
-abbrev withPresenting : Presenting → Held → Held
-withPresenting p h = record { session = record { parties = h .session .parties; presenting = p; receiving = h .session .receiving; seen = h .session .seen; close = h .session .close }; running = h .running; line = h .line }
+abbrev heldPresenting : Presenting → Held → Held
+heldPresenting p h = held (withPresenting p (h .session)) (h .running) (h .line)
 
 -- an outcome with a change of what is left
 abbrev changed : (Held → Held) → Outcome → Outcome
@@ -69,8 +69,8 @@ apart f (suc n) h done = refl
 
 -- A call of one direction neither asks nor touches the other: with another state of that one it gives the same answer, and leaves it.
 abbrev Apart : Direction → (Held → Outcome) → Type 0
-Apart Direction.presenting call = (h : Held) (r : Receiving) → call (withReceiving r h) ≡ changed (withReceiving r) (call h)
-Apart Direction.receiving call = (h : Held) (p : Presenting) → call (withPresenting p h) ≡ changed (withPresenting p) (call h)
+Apart Direction.presenting call = (h : Held) (r : Receiving) → call (heldReceiving r h) ≡ changed (heldReceiving r) (call h)
+Apart Direction.receiving call = (h : Held) (p : Presenting) → call (heldPresenting p h) ≡ changed (heldPresenting p) (call h)
 
 -- all calls but the clock call and the report, which look at both, belong to one direction
 abbrev belongs : Call → Bool
@@ -86,22 +86,22 @@ belongs Call.report = false
 received-apart : (time : ℕ) (bytes : List ℕ) → Apart Direction.receiving (receive time bytes)
 unfolding receive receiveRefusal timeRefusal clockRefusal
 received-apart time bytes h p =
-    let next = isNext bytes (h .session .receiving) in
+    let next = isNext bytes (h .session .receiving .serial) in
     let a = afterNew time (bodyOf bytes) h in
     let b = afterRepeat time h in
-    ap (λ (after : Held). decided (receiveRefusal time bytes (length (h .line)) (h .session)) (withPresenting p h) (replying bytes after)) (either-way next a b) ∙ apart (withPresenting p) (receiveRefusal time bytes (length (h .line)) (h .session)) h (replying bytes (cond next a b))
+    ap (λ (after : Held). decided (receiveRefusal time bytes (length (h .line)) (h .session)) (heldPresenting p h) (replying bytes after)) (either-way next a b) ∙ apart (heldPresenting p) (receiveRefusal time bytes (length (h .line)) (h .session)) h (replying bytes (cond next a b))
   where
-    either-way : (t : Bool) (a b : Held) → cond t (withPresenting p a) (withPresenting p b) ≡ withPresenting p (cond t a b)
+    either-way : (t : Bool) (a b : Held) → cond t (heldPresenting p a) (heldPresenting p b) ≡ heldPresenting p (cond t a b)
     either-way true a b = refl
     either-way false a b = refl
 
 pub directions-apart : (call : Call) → belongs call ≡ true → Apart (directionOf call) (meaning call)
 unfolding meaning sendHeader sendDetail sendLotTotal sendSessionTotal send sendRefusal takeReply replyRefusal timeRefusal clockRefusal
-directions-apart (Call.header time moment centre number) b = λ (h : Held) (r : Receiving). apart (withReceiving r) _ h _
-directions-apart (Call.detail time operation part) b = λ (h : Held) (r : Receiving). apart (withReceiving r) _ h _
-directions-apart (Call.lotTotal time) b = λ (h : Held) (r : Receiving). apart (withReceiving r) _ h _
-directions-apart (Call.sessionTotal time) b = λ (h : Held) (r : Receiving). apart (withReceiving r) _ h _
-directions-apart (Call.reply time bytes) b = λ (h : Held) (r : Receiving). apart (withReceiving r) _ h _
+directions-apart (Call.header time moment centre number) b = λ (h : Held) (r : Receiving). apart (heldReceiving r) _ h _
+directions-apart (Call.detail time operation part) b = λ (h : Held) (r : Receiving). apart (heldReceiving r) _ h _
+directions-apart (Call.lotTotal time) b = λ (h : Held) (r : Receiving). apart (heldReceiving r) _ h _
+directions-apart (Call.sessionTotal time) b = λ (h : Held) (r : Receiving). apart (heldReceiving r) _ h _
+directions-apart (Call.reply time bytes) b = λ (h : Held) (r : Receiving). apart (heldReceiving r) _ h _
 directions-apart Call.report b = absurd (false≢true b)
 directions-apart (Call.clock time) b = absurd (false≢true b)
 directions-apart (Call.receive time bytes) b = received-apart time bytes
@@ -127,7 +127,7 @@ untouched (Call.sessionTotal time) h = by-decision h _ _ refl refl
 untouched (Call.reply time bytes) h = by-decision h _ _ refl refl
 untouched (Call.clock time) h = by-decision h _ _ refl refl
 untouched Call.report h = record { parties = refl; otherSide = refl }
-untouched (Call.receive time bytes) h = either (λ (o : Outcome). Untouched Direction.receiving h (o .left)) (receiveRefusal time bytes (length (h .line)) (h .session)) h _ (λ (k : ℕ). record { parties = refl; otherSide = refl }) (λ (e : receiveRefusal time bytes (length (h .line)) (h .session) ≡ 0). same-session (afterMessage time bytes h) _ (either-way (isNext bytes (h .session .receiving))))
+untouched (Call.receive time bytes) h = either (λ (o : Outcome). Untouched Direction.receiving h (o .left)) (receiveRefusal time bytes (length (h .line)) (h .session)) h _ (λ (k : ℕ). record { parties = refl; otherSide = refl }) (λ (e : receiveRefusal time bytes (length (h .line)) (h .session) ≡ 0). same-session (afterMessage time bytes h) _ (either-way (isNext bytes (h .session .receiving .serial))))
   where
     same-session : (a : Held) (line : List ℕ) → Untouched Direction.receiving h a → Untouched Direction.receiving h (record { session = a .session; running = a .running; line = line })
     same-session a line u = record { parties = u .parties; otherSide = u .otherSide }
@@ -187,8 +187,8 @@ pub clock-kept : (time : ℕ) (h : Held) → Sound (h .session) → Kept (h .ses
 clock-kept time h g = record { sound = clock-sound time h g; carried = clock-carried time h }
 
 -- so an engine that is ready stays so
-pub ready-kept : (call : Call) (line : List ℕ) (e : Engine) → Ready e → Ready (perform call line e .engine)
-unfolding perform
+pub ready-kept : (call : Call) (line : List ℕ) (e : Engine) → Ready e → Ready (performed call line e .engine)
+unfolding performed
 ready-kept call line e r = go (directionOf call) (λ (h : Held) (g : Premise (directionOf call) h). kept-beside call h g)
   where
     go : (d : Direction) → ((h : Held) → Premise d h → KeptBeside d (h .session) (meaning call h .left .session) (meaning call h .left .running)) → Ready (givenBack d (meaning call (lent d line e) .left) e)
@@ -196,8 +196,8 @@ ready-kept call line e r = go (directionOf call) (λ (h : Held) (g : Premise (di
     go Direction.receiving k = let after = k (lent Direction.receiving line e) (record { sound = r .sound; carried = r .receiving }) in record { sound = after .sound; presenting = after .other (e .presenting) (r .presenting); receiving = after .carried }
 
 -- and its parties stay
-pub parties-kept : (call : Call) (line : List ℕ) (e : Engine) → perform call line e .engine .session .parties ≡ e .session .parties
-unfolding perform
+pub parties-kept : (call : Call) (line : List ℕ) (e : Engine) → performed call line e .engine .session .parties ≡ e .session .parties
+unfolding performed
 parties-kept call line e = go (directionOf call) refl
   where
     go : (d : Direction) → directionOf call ≡ d → givenBack d (meaning call (lent d line e) .left) e .session .parties ≡ e .session .parties
@@ -205,7 +205,7 @@ parties-kept call line e = go (directionOf call) refl
     go Direction.receiving way = untouched call (lent Direction.receiving line e) .parties
 
 -- A message is not refused because of its code: it is answered, and its serial becomes the last.
-pub message-told : (time : ℕ) (bytes : List ℕ) (h : Held) → receiveRefusal time bytes (length (h .line)) (h .session) ≡ 0 → isNext bytes (h .session .receiving) ≡ true → receive time bytes h ≡ wrote (wholeReply (envelopeOf bytes) (afterNew time (bodyOf bytes) h .session .receiving .reply)) (afterNew time (bodyOf bytes) h)
+pub message-told : (time : ℕ) (bytes : List ℕ) (h : Held) → receiveRefusal time bytes (length (h .line)) (h .session) ≡ 0 → isNext bytes (h .session .receiving .serial) ≡ true → receive time bytes h ≡ wrote (wholeReply (envelopeOf bytes) (afterNew time (bodyOf bytes) h .session .receiving .reply)) (afterNew time (bodyOf bytes) h)
 unfolding receive
 message-told time bytes h e n = (λ i. decided (e i) h (replying bytes (cond (n i) (afterNew time (bodyOf bytes) h) (afterRepeat time h)))) ∙ unrefused h (replying bytes (afterNew time (bodyOf bytes) h))
 
@@ -214,6 +214,6 @@ unfolding receivingAfter
 serial-taken time body h = refl
 
 -- A repeat writes the kept reply again and moves the last seen time alone.
-pub repeat-told : (time : ℕ) (bytes : List ℕ) (h : Held) → receiveRefusal time bytes (length (h .line)) (h .session) ≡ 0 → isNext bytes (h .session .receiving) ≡ false → receive time bytes h ≡ wrote (wholeReply (envelopeOf bytes) (h .session .receiving .reply)) (afterRepeat time h)
+pub repeat-told : (time : ℕ) (bytes : List ℕ) (h : Held) → receiveRefusal time bytes (length (h .line)) (h .session) ≡ 0 → isNext bytes (h .session .receiving .serial) ≡ false → receive time bytes h ≡ wrote (wholeReply (envelopeOf bytes) (h .session .receiving .reply)) (afterRepeat time h)
 unfolding receive
 repeat-told time bytes h e n = (λ i. decided (e i) h (replying bytes (cond (n i) (afterNew time (bodyOf bytes) h) (afterRepeat time h)))) ∙ unrefused h (replying bytes (afterRepeat time h))

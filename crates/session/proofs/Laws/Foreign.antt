@@ -11,7 +11,7 @@ use Rattle.message.specs.declared.reply.Reply.{Reply}
 use Rattle.message.specs.Limits.{largestSerial}
 use Rattle.message.specs.Envelope.{envelopeFields, envelopeGood, envelopeOf, envelopeValues}
 use Rattle.message.specs.Reply.{writtenReplyBody}
-use Rattle.message.specs.Line.{message, wholeReply}
+use Rattle.message.specs.Line.{wholeMessage, wholeReply}
 use Rattle.message.proofs.Laws.Envelope.{serial-told, in-range}
 use Rattle.session.specs.declared.session.Session.{Session}
 use Rattle.session.specs.Parties.{presentingRoute, receivingRoute}
@@ -44,9 +44,9 @@ module _ (s : Session) (sound : Sound s) where
     other-way : presentingRoute (s .parties) ≡ receivingRoute (s .parties) → ⊥
     other-way e = different (ap (λ (r : Route). r .presenting) e)
 
-    pub message-foreign : (body : List ℕ) → s .presenting .serial < largestSerial → Foreign (receivingRoute (s .parties)) (message (nextEnvelope s) body)
+    pub message-foreign : (body : List ℕ) → s .presenting .serial < largestSerial → Foreign (receivingRoute (s .parties)) (wholeMessage (nextEnvelope s) body)
     message-foreign body more =
-        let bytes = message (nextEnvelope s) body in
+        let bytes = wholeMessage (nextEnvelope s) body in
         record {
           no-message = λ (g : envelopeGood Kind.Message bytes ≡ true) (w : envelopeOf bytes .route ≡ receivingRoute (s .parties)). other-way (sym (route-told Kind.Message (nextEnvelope s) body (next-fits more)) ∙ w);
           no-reply = λ (g : envelopeGood Kind.Reply bytes ≡ true) (w : envelopeOf bytes .route ≡ receivingRoute (s .parties)). message-no-reply (nextEnvelope s) body g;

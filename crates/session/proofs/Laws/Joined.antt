@@ -9,7 +9,7 @@ use Prim.Native.Nat.{ℕ, suc}
 use native.Mathlib.Omega.{arith}
 use lib.Dec.{eqb}
 use borrow.Author.Tests.{ne-eqb}
-use Rattle.document.specs.Entities.{member}
+use Rattle.packed.specs.Every.{member}
 use Rattle.message.specs.declared.route.Route.{Route}
 use Rattle.session.specs.declared.counters.Course.{Course}
 use Rattle.session.specs.declared.effect.Effect.{Effect}
@@ -18,8 +18,8 @@ use Rattle.session.specs.declared.session.Receiving.{Receiving}
 use Rattle.session.specs.Running.{Running, empty}
 use Rattle.session.specs.Receiving.{acceptedLots}
 use Rattle.session.specs.Ledger.{LedgerLot, Ledger, Entry, enter, lotSum, numbers, Distinct}
-use Rattle.session.specs.Ends.{Event, Written}
-use Rattle.session.specs.Entering.{Confirming, Counting}
+use Rattle.session.specs.Ends.{Event, WrittenBefore}
+use Rattle.session.specs.Entering.{PresenterLedger, ReceiverLedger}
 use Rattle.session.proofs.Laws.Ledger.{summary, effectOf}
 use Rattle.session.proofs.Laws.Foreign.{Foreign}
 use Rattle.session.proofs.Laws.Line.{accepts, MessageFact, ReplyFact}
@@ -34,7 +34,7 @@ waitingEffect (some Entry.lotTotal) b = effectOf Entry.lotTotal b
 waitingEffect (some Entry.sessionTotal) b = Effect.SessionTotal
 waitingEffect (some Entry.unknown) b = Effect.Detail empty
 
-pub record PresenterSide (p : Presenting) (t : Running) (b : Confirming) : Type 0 where
+pub record PresenterSide (p : Presenting) (t : Running) (b : PresenterLedger) : Type 0 where
   pub course : _≡_ {A = Course} (record { counters = p .counters; running = t }) (summary (b .ledger))
   pub pending : p .pending ≡ waitingEffect (b .waiting) (b .ledger)
   pub once : Distinct (numbers (b .ledger .lots))
@@ -66,17 +66,17 @@ pub data Link (p : Presenting) (r : Receiving) (waiting : Option Entry) (confirm
 pub record PresentingEnd : Type 0 where
   pub state : Presenting
   pub running : Running
-  pub entered : Confirming
+  pub entered : PresenterLedger
 
 pub record ReceivingEnd : Type 0 where
   pub state : Receiving
   pub running : Running
-  pub entered : Counting
+  pub entered : ReceiverLedger
 
-abbrev pub presentingEnd : Presenting → Running → Confirming → PresentingEnd
+abbrev pub presentingEnd : Presenting → Running → PresenterLedger → PresentingEnd
 presentingEnd p t b = record { state = p; running = t; entered = b }
 
-abbrev pub receivingEnd : Receiving → Running → Counting → ReceivingEnd
+abbrev pub receivingEnd : Receiving → Running → ReceiverLedger → ReceivingEnd
 receivingEnd r t b = record { state = r; running = t; entered = b }
 
 pub record Joined (route : Route) (p : PresentingEnd) (r : ReceivingEnd) (trace : List Event) : Type 0 where
@@ -84,8 +84,8 @@ pub record Joined (route : Route) (p : PresentingEnd) (r : ReceivingEnd) (trace 
   pub receiver : Mirrored (r .state) (r .running) (r .entered .ledger)
   pub seen : Seen (r .state .serial) (r .entered .serials)
   pub link : Link (p .state) (r .state) (p .entered .waiting) (p .entered .ledger) (r .entered .ledger)
-  pub messages : (bytes : List ℕ) → Written bytes trace → MessageFact route (p .state .serial) (p .entered .waiting) bytes
-  pub replies : (bytes : List ℕ) → Written bytes trace → ReplyFact route (r .state .serial) (r .state .reply .code) bytes
+  pub messages : (bytes : List ℕ) → WrittenBefore bytes trace → MessageFact route (p .state .serial) (p .entered .waiting) bytes
+  pub replies : (bytes : List ℕ) → WrittenBefore bytes trace → ReplyFact route (r .state .serial) (r .state .reply .code) bytes
 
 module _ (route : Route) (p : PresentingEnd) (r : ReceivingEnd) (trace : List Event) (j : Joined route p r trace) where
   -- a call that writes nothing of this direction
@@ -93,11 +93,11 @@ module _ (route : Route) (p : PresentingEnd) (r : ReceivingEnd) (trace : List Ev
   passed-by e foreign =
       record { presenter = j .presenter; receiver = j .receiver; seen = j .seen; link = j .link; messages = all-messages; replies = all-replies }
     where
-      all-messages : (bytes : List ℕ) → Written bytes (e ∷ trace) → MessageFact route (p .state .serial) (p .entered .waiting) bytes
+      all-messages : (bytes : List ℕ) → WrittenBefore bytes (e ∷ trace) → MessageFact route (p .state .serial) (p .entered .waiting) bytes
       all-messages bytes (inl w) = subst (MessageFact route (p .state .serial) (p .entered .waiting)) (w .1) (λ g way. absurd (foreign (w .0) .no-message g way))
       all-messages bytes (inr w) = j .messages bytes w
 
-      all-replies : (bytes : List ℕ) → Written bytes (e ∷ trace) → ReplyFact route (r .state .serial) (r .state .reply .code) bytes
+      all-replies : (bytes : List ℕ) → WrittenBefore bytes (e ∷ trace) → ReplyFact route (r .state .serial) (r .state .reply .code) bytes
       all-replies bytes (inl w) = subst (ReplyFact route (r .state .serial) (r .state .reply .code)) (w .1) (λ g way. absurd (foreign (w .0) .no-reply g way))
       all-replies bytes (inr w) = j .replies bytes w
 

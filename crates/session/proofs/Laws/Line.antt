@@ -7,9 +7,9 @@ use Prim.Native.Nat.{ℕ, _≤_}
 use lib.Dec.{eqb}
 use Rattle.packed.specs.Part.{byteAt}
 use Rattle.packed.specs.Number.{byteValue}
-use Rattle.codes.specs.declared.reply.Code.{Code}
-use Rattle.codes.specs.Reply.{codeNumber}
-use Rattle.codes.proofs.Laws.Reply.{code-value}
+use Rattle.codes.specs.declared.code.Code.{Code}
+use Rattle.codes.specs.Code.{codeNumber}
+use Rattle.codes.proofs.Laws.Code.{code-value}
 use Rattle.codes.specs.Field.{tableTakes}
 use Rattle.message.specs.declared.route.Route.{Route}
 use Rattle.message.specs.declared.envelope.Kind.{Kind}
@@ -17,7 +17,7 @@ use Rattle.message.specs.declared.envelope.Envelope.{Envelope}
 use Rattle.message.specs.declared.reply.Reply.{Reply}
 use Rattle.message.specs.Envelope.{serialOf, envelopeFields, envelopeGood, envelopeOf, envelopeValues, writtenEnvelope, bodyOf}
 use Rattle.message.specs.Reply.{writtenReplyBody}
-use Rattle.message.specs.Line.{message, wholeReply}
+use Rattle.message.specs.Line.{wholeMessage, wholeReply}
 use Rattle.message.proofs.Laws.Envelope.{envelope-told, body-told, kind-told}
 use Rattle.session.specs.Reply.{isAccepted}
 use Rattle.session.specs.Ledger.{Entry, bodyEntry}
@@ -40,7 +40,7 @@ isReply Kind.Message = false
 isReply Kind.Reply = true
 
 -- a message is no reply, and a reply no message, whatever its route
-pub message-no-reply : (e : Envelope) (body : List ℕ) → envelopeGood Kind.Reply (message e body) ≡ true → ⊥
+pub message-no-reply : (e : Envelope) (body : List ℕ) → envelopeGood Kind.Reply (wholeMessage e body) ≡ true → ⊥
 unfolding isReply
 message-no-reply e body g = true≢false (ap isReply (kind-told Kind.Message Kind.Reply e body g))
 

@@ -6,9 +6,8 @@ use Prim.Native.Nat.{ℕ, suc}
 use native.Mathlib.Omega.{arith}
 use lib.Dec.{eqb, leb}
 use borrow.Author.Tests.{leb-true, le-leb, ne-eqb, eq-eqb, eqb-true, eqb-false}
-use Rattle.packed.specs.Every.{every, anyOf}
+use Rattle.packed.specs.Every.{every, anyOf, member}
 use Rattle.packed.proofs.Laws.Every.{every-cons, every-then}
-use Rattle.document.specs.Entities.{member}
 use Rattle.session.specs.declared.counters.Lot.{Lot}
 use Rattle.session.specs.Receiving.{numberUsed}
 use Rattle.session.specs.Ledger.{LedgerLot, lotSum, numbers, Distinct}

@@ -9,7 +9,7 @@ use lib.ListN.{length}
 use lib.Seq.{take-suc-set}
 use Rattle.codes.specs.Body.{operationOf}
 use Rattle.codes.proofs.Laws.Chain.{passed, none-both}
-use Rattle.document.specs.Entities.{member}
+use Rattle.packed.specs.Every.{member}
 use Rattle.detail.specs.Groups.{documents}
 use Rattle.message.specs.declared.content.Content.{Content}
 use Rattle.message.specs.Layout.{bodyCode}
@@ -27,8 +27,8 @@ use Rattle.session.specs.Running.{Running}
 use Rattle.session.specs.Course.{advance, kept}
 use Rattle.session.specs.Sequence.{isOpen, headerSequence}
 use Rattle.session.specs.Sending.{openNumber}
-use Rattle.session.specs.Receiving.{acceptedLots, numberUsed, headerCode, codeBy, effectBy}
-use Rattle.session.specs.Ledger.{Document, LedgerLot, Ledger, Entry, longer, moved, enter, entryBy, ofOperation, sum, lotSum, numbers, Distinct}
+use Rattle.session.specs.Receiving.{acceptedLots, numberUsed, headerCode, receivedCode, receivedEffect}
+use Rattle.session.specs.Ledger.{Document, LedgerLot, Ledger, Entry, longer, moved, enter, receivedEntry, ofOperation, sum, lotSum, numbers, Distinct}
 use Rattle.session.proofs.Laws.Allowed.{Allowed}
 use Rattle.session.proofs.Laws.Ledger.{summary, openOf, runningOf, effectOf, lotOf, detail-sum, mirrors}
 use Rattle.session.proofs.Laws.Lists.{distinct-last, numbers-last, sums-last, number-used}
@@ -74,8 +74,8 @@ module _ (r : Receiving) (t : Running) (b : Ledger) (m : Mirrored r t b) where
     FreeHeader Content.SessionTotal = Unit {0}
     FreeHeader Content.Unknown = Unit {0}
 
-    pub free-header : (time : ℕ) (p : Parties) (c : Content) → codeBy c time body p t r ≡ 0 → FreeHeader c
-    unfolding codeBy headerCode
+    pub free-header : (time : ℕ) (p : Parties) (c : Content) → receivedCode c time body p t r ≡ 0 → FreeHeader c
+    unfolding receivedCode headerCode
     free-header time p Content.Header e =
         let read = none-both (bodyCode (header (receivingRoute p)) body) _ e in
         let place = none-both (headerSequence (r .ended) (r .counters .current)) _ (read .1) in
@@ -88,8 +88,8 @@ module _ (r : Receiving) (t : Running) (b : Ledger) (m : Mirrored r t b) where
     free-header time p Content.Unknown e = tt
 
     -- the counters
-    pub course-mirrors : (c : Content) (accepted : Bool) → (accepted ≡ true → Allowed (effectBy c body t) course) → advance (effectBy c body t) accepted course ≡ summary (enter (entryBy c body) accepted b)
-    unfolding effectBy entryBy advance enter
+    pub course-mirrors : (c : Content) (accepted : Bool) → (accepted ≡ true → Allowed (receivedEffect c body t) course) → advance (receivedEffect c body t) accepted course ≡ summary (enter (receivedEntry c body) accepted b)
+    unfolding receivedEffect receivedEntry advance enter
     course-mirrors Content.Header accepted a = let e = Entry.header (headerOf body .number) in ap (advance (effectOf e b) accepted) (m .course) ∙ mirrors e accepted b (λ (h : accepted ≡ true). tt)
     course-mirrors Content.Detail accepted a =
         let e = Entry.detail (ofOperation (operationOf body) (documents body)) in
@@ -106,11 +106,11 @@ module _ (r : Receiving) (t : Running) (b : Ledger) (m : Mirrored r t b) where
     -- the accepted lots
     abbrev pub keptLots : (c : Content) (accepted : Bool) → List Lot
     keptLots c accepted =
-        let effect = effectBy c body t in
+        let effect = receivedEffect c body t in
         acceptedLots (record { serial = r .serial; reply = r .reply; counters = advance effect accepted course .counters; ended = r .ended; lots = kept effect accepted (r .counters .lots) (r .lots) })
 
-    pub lots-mirror : (c : Content) (accepted : Bool) → (accepted ≡ true → Allowed (effectBy c body t) course) → (isOpen (r .counters .current) ≡ true → r .counters .lots < length (r .lots)) → keptLots c accepted ≡ map lotSum (enter (entryBy c body) accepted b .lots)
-    unfolding effectBy entryBy advance enter kept
+    pub lots-mirror : (c : Content) (accepted : Bool) → (accepted ≡ true → Allowed (receivedEffect c body t) course) → (isOpen (r .counters .current) ≡ true → r .counters .lots < length (r .lots)) → keptLots c accepted ≡ map lotSum (enter (receivedEntry c body) accepted b .lots)
+    unfolding receivedEffect receivedEntry advance enter kept
     lots-mirror Content.LotTotal true a room =
         let last = ended (totalOf lotTotalFields body .number) (a refl .sound) in
         let place = room (subst (λ (lot : OpenLot). isOpen lot ≡ true) (sym (a refl .sound)) refl) in
@@ -127,8 +127,8 @@ module _ (r : Receiving) (t : Running) (b : Ledger) (m : Mirrored r t b) where
     lots-mirror Content.Unknown accepted a room = m .kept
 
     -- no number stands twice, and the open lot's is new
-    pub numbers-mirror : (c : Content) (accepted : Bool) → (accepted ≡ true → Allowed (effectBy c body t) course) → (accepted ≡ true → FreeHeader c) → Distinct (numbers (enter (entryBy c body) accepted b .lots)) × NewNumber (enter (entryBy c body) accepted b .current) (enter (entryBy c body) accepted b .lots)
-    unfolding effectBy entryBy enter
+    pub numbers-mirror : (c : Content) (accepted : Bool) → (accepted ≡ true → Allowed (receivedEffect c body t) course) → (accepted ≡ true → FreeHeader c) → Distinct (numbers (enter (receivedEntry c body) accepted b .lots)) × NewNumber (enter (receivedEntry c body) accepted b .current) (enter (receivedEntry c body) accepted b .lots)
+    unfolding receivedEffect receivedEntry enter
     numbers-mirror Content.Header true a free = (m .once, free refl)
     numbers-mirror Content.Header false a free = (m .once, m .new)
     numbers-mirror Content.Detail true a free = (m .once, longer-new (ofOperation (operationOf body) (documents body)) (b .current) (m .new))

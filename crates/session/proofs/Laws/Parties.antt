@@ -11,8 +11,7 @@ use Rattle.packed.proofs.Laws.Told.{both, three}
 use Rattle.document.specs.Limits.{largestEntity, mostRepresented}
 use Rattle.document.specs.Rules.{dayAndMonth}
 use Rattle.document.specs.Entities.{isEntity, entitiesGood}
-use Rattle.session.specs.Limits.{largestDate, leapDay}
-use Rattle.session.specs.Parties.{realDate, partiesGood}
+use Rattle.session.specs.Parties.{largestDate, leapDay, realDate, partiesGood}
 
 pub record Told (d o p : ℕ) (r : List ℕ) : Type 0 where
   pub date : d ≤ largestDate

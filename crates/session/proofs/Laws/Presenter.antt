@@ -13,7 +13,7 @@ use borrow.Author.Tests.{not-false}
 use Rattle.session.proofs.Laws.Running.{gather-empty}
 use Rattle.codes.proofs.Laws.Chain.{passed, none-both}
 use Rattle.detail.specs.Codes.{presenterCode}
-use Rattle.detail.specs.Writing.{written}
+use Rattle.detail.specs.Writing.{writtenDetail}
 use Rattle.detail.proofs.Laws.Codes.{accepted-part}
 use Rattle.packed.specs.Pieces.{pieces}
 use Rattle.packed.specs.Writing.{packedByte}
@@ -25,27 +25,27 @@ use Rattle.message.specs.declared.reply.Reply.{Reply}
 use Rattle.message.specs.Reply.{writtenReplyBody}
 use Rattle.message.specs.Envelope.{serialOf, envelopeGood, envelopeOf, bodyOf}
 use Rattle.message.specs.Header.{sendable}
-use Rattle.message.specs.Line.{Body, bodyBytes, message, wholeReply}
+use Rattle.message.specs.Line.{Body, bodyBytes, wholeMessage, wholeReply}
 use Rattle.message.proofs.Laws.Envelope.{body-told, whole-length}
 use Rattle.session.specs.declared.counters.Course.{Course}
 use Rattle.session.specs.declared.effect.Effect.{Effect}
 use Rattle.session.specs.declared.session.Presenting.{Presenting}
-use Rattle.session.specs.Parties.{presentingRoute}
+use Rattle.session.specs.Parties.{presentingRoute, Direction}
 use Rattle.session.specs.Running.{Running}
-use Rattle.session.specs.Course.{Direction, advance}
+use Rattle.session.specs.Course.{advance}
 use Rattle.session.specs.Sequence.{isOpen}
-use Rattle.session.specs.Outcome.{Held, Outcome, clockRefusal, silent}
+use Rattle.session.specs.Outcome.{Held, Outcome, silent}
+use Rattle.session.specs.Time.{clockRefusal}
 use Rattle.session.specs.Sending.{posted, isPending, nextEnvelope, sendRefusal, sent, send, headerStop, detailStop, lotTotalStop, sessionTotalStop, partAdds, sendHeader, sendDetail, sendLotTotal, sendSessionTotal}
 use Rattle.session.specs.Receiving.{isNext, receiveRefusal, receive, afterNew, afterRepeat, replying}
 use Rattle.session.specs.Reply.{isAccepted, replyRefusal, replied, takeReply}
 use Rattle.session.specs.Clock.{ticked, clock}
 use Rattle.session.specs.Premise.{PendingSound}
 use Rattle.session.specs.Ledger.{Entry, Ledger, enter, bodyEntry, partEntry, numbers, Distinct}
-use Rattle.session.specs.Engine.{Call, Engine, saidBy, meaning, lent, perform}
-use Rattle.session.specs.Ends.{End, Event, Written, Brought}
-use Rattle.session.specs.Entering.{Confirming, waitingFor, enterWaiting, answeredWith, presents}
-use Rattle.session.specs.Claim.{Ready}
-use Rattle.session.proofs.Laws.Decided.{either, first-bytes}
+use Rattle.session.specs.Engine.{Call, Engine, saidBy, meaning, lent, performed, Ready}
+use Rattle.session.specs.Ends.{End, Event, WrittenBefore, Brought}
+use Rattle.session.specs.Entering.{PresenterLedger, waitingFor, enterWaiting, answeredWith, presenterEnters}
+use Rattle.session.proofs.Laws.Decided.{either, saidIn, first-bytes}
 use Rattle.session.proofs.Laws.Refusals.{SendTold, send-told, ReceiveTold, receive-told, ReplyTold, reply-told}
 use Rattle.session.proofs.Laws.Ledger.{summary, openOf, Finds, effectOf, detail-sum, mirrors}
 use Rattle.session.proofs.Laws.Line.{accepts, MessageFact, ReplyFact, message-no-reply, serial-read}
@@ -60,7 +60,7 @@ pending-some Entry.lotTotal b = refl
 pending-some Entry.sessionTotal b = refl
 pending-some Entry.unknown b = refl
 
-module _ (x : End) (e : Engine) (ready : Ready e) (different : e .session .parties .own ≡ e .session .parties .partner → ⊥) (r : ReceivingEnd) (bp : Confirming) (trace : List Event) where
+module _ (x : End) (e : Engine) (ready : Ready e) (different : e .session .parties .own ≡ e .session .parties .partner → ⊥) (r : ReceivingEnd) (bp : PresenterLedger) (trace : List Event) where
   abbrev route : Route
   route = presentingRoute (e .session .parties)
 
@@ -80,17 +80,17 @@ module _ (x : End) (e : Engine) (ready : Ready e) (different : e .session .parti
 
     -- the ends after a call with this outcome, in which the running totals are the call's own or not
     abbrev After : Call → Running → Outcome → Type 0
-    After call t o = Joined route (presentingEnd (o .left .session .presenting) t (cond (eqb (o .number) 0) (presents call bp) bp)) r (record { at = x; call = call; said = saidBy o } ∷ trace)
+    After call t o = Joined route (presentingEnd (o .left .session .presenting) t (cond (eqb (o .number) 0) (presenterEnters call bp) bp)) r (record { at = x; call = call; said = saidIn o } ∷ trace)
 
-    refused-after : (call : Call) (k : ℕ) → Joined route (presentingEnd p pt (cond (eqb (suc k) 0) (presents call bp) bp)) r (record { at = x; call = call; said = record { number = suc k; bytes = [] } } ∷ trace)
-    refused-after call k = subst (λ (b : Confirming). Joined route (presentingEnd p pt b) r (record { at = x; call = call; said = record { number = suc k; bytes = [] } } ∷ trace)) (sym (not-entered k (presents call bp) bp)) (refused-by route here r trace j (record { at = x; call = call; said = record { number = suc k; bytes = [] } }) k refl)
+    refused-after : (call : Call) (k : ℕ) → Joined route (presentingEnd p pt (cond (eqb (suc k) 0) (presenterEnters call bp) bp)) r (record { at = x; call = call; said = record { number = suc k; bytes = [] } } ∷ trace)
+    refused-after call k = subst (λ (b : PresenterLedger). Joined route (presentingEnd p pt b) r (record { at = x; call = call; said = record { number = suc k; bytes = [] } } ∷ trace)) (sym (not-entered k (presenterEnters call bp) bp)) (refused-by route here r trace j (record { at = x; call = call; said = record { number = suc k; bytes = [] } }) k refl)
 
     module _ (call : Call) (time code : ℕ) (effect : Effect) (body line : List ℕ) (entry : Entry) where
       abbrev h : Held
       h = lent Direction.presenting line e
 
       abbrev bytes : List ℕ
-      bytes = message (nextEnvelope (e .session)) body
+      bytes = wholeMessage (nextEnvelope (e .session)) body
 
       abbrev event : Event
       event = record { at = x; call = call; said = record { number = 0; bytes = bytes } }
@@ -115,7 +115,7 @@ module _ (x : End) (e : Engine) (ready : Ready e) (different : e .session .parti
           linked (Link.sent d w s b) = absurd (waits d w)
           linked (Link.taken d w s b) = absurd (waits d w)
 
-          all-messages : (b : List ℕ) → Written b (event ∷ trace) → MessageFact route (suc (p .serial)) (some entry) b
+          all-messages : (b : List ℕ) → WrittenBefore b (event ∷ trace) → MessageFact route (suc (p .serial)) (some entry) b
           all-messages b (inl w) =
               subst (MessageFact route (suc (p .serial)) (some entry)) (w .1)
               (λ (g : envelopeGood Kind.Message bytes ≡ true) (way : envelopeOf bytes .route ≡ route). (
@@ -127,12 +127,12 @@ module _ (x : End) (e : Engine) (ready : Ready e) (different : e .session .parti
               let old = j .messages b w g way .0 in
               (omega (arith, old), λ (d : Entry) (s : serialOf b ≡ suc (p .serial)) (same : some entry ≡ some d). absurd (omega (arith, old, s)))
 
-          all-replies : (b : List ℕ) → Written b (event ∷ trace) → ReplyFact route (r .state .serial) (r .state .reply .code) b
+          all-replies : (b : List ℕ) → WrittenBefore b (event ∷ trace) → ReplyFact route (r .state .serial) (r .state .reply .code) b
           all-replies b (inl w) = subst (ReplyFact route (r .state .serial) (r .state .reply .code)) (w .1) (λ (g : envelopeGood Kind.Reply bytes ≡ true) (way : envelopeOf bytes .route ≡ route). absurd (message-no-reply (nextEnvelope (e .session)) body g))
           all-replies b (inr w) = j .replies b w
 
       -- so for every send, if its code lets nothing else pass
-      send-after : (presents call bp ≡ waitingFor entry bp) → (code ≡ 0 → (effect ≡ waitingEffect (some entry) (bp .ledger)) × (bodyEntry body ≡ entry)) → After call (send time code effect body h .left .running) (send time code effect body h)
+      send-after : (presenterEnters call bp ≡ waitingFor entry bp) → (code ≡ 0 → (effect ≡ waitingEffect (some entry) (bp .ledger)) × (bodyEntry body ≡ entry)) → After call (send time code effect body h .left .running) (send time code effect body h)
       unfolding send
       send-after books fits =
           either (λ (o : Outcome). After call (o .left .running) o) (sendRefusal time code (length bytes) (length (h .line)) (h .session)) h (posted time effect body h)
@@ -140,8 +140,8 @@ module _ (x : End) (e : Engine) (ready : Ready e) (different : e .session .parti
           (λ (z : sendRefusal time code (length bytes) (length (h .line)) (h .session) ≡ 0).
           let told = send-told time code bytes h z in
           let fit = fits (told .unstopped) in
-          subst (λ (w : List ℕ). Joined route (presentingEnd (sent time effect (e .session) .presenting) pt (presents call bp)) r (record { at = x; call = call; said = record { number = 0; bytes = w } } ∷ trace)) (sym (first-bytes bytes line (told .room)))
-          (subst (λ (b : Confirming). Joined route (presentingEnd (sent time effect (e .session) .presenting) pt b) r (event ∷ trace)) (sym books) (sent-joined told (fit .0) (fit .1))))
+          subst (λ (w : List ℕ). Joined route (presentingEnd (sent time effect (e .session) .presenting) pt (presenterEnters call bp)) r (record { at = x; call = call; said = record { number = 0; bytes = w } } ∷ trace)) (sym (first-bytes bytes line (told .room)))
+          (subst (λ (b : PresenterLedger). Joined route (presentingEnd (sent time effect (e .session) .presenting) pt b) r (event ∷ trace)) (sym books) (sent-joined told (fit .0) (fit .1))))
 
     -- a reply enters what waits, with the code that the receiver kept
     module _ (time : ℕ) (bytes line : List ℕ) where
@@ -174,7 +174,7 @@ module _ (x : End) (e : Engine) (ready : Ready e) (different : e .session .parti
           same Entry.unknown true h = λ i. record { counters = summary (bp .ledger) .counters; running = gather-empty (summary (bp .ledger) .running) i }
           same Entry.unknown false h = refl
 
-      replied-joined : Written bytes trace → ReplyTold bytes (e .session) → Joined route (presentingEnd (replied time (isAccepted bytes) replyHeld .session .presenting) (replied time (isAccepted bytes) replyHeld .running) (answeredWith (isAccepted bytes) bp)) r trace
+      replied-joined : WrittenBefore bytes trace → ReplyTold bytes (e .session) → Joined route (presentingEnd (replied time (isAccepted bytes) replyHeld .session .presenting) (replied time (isAccepted bytes) replyHeld .running) (answeredWith (isAccepted bytes) bp)) r trace
       replied-joined brought told = go (j .link)
         where
           go : Link p (r .state) (bp .waiting) (bp .ledger) (r .entered .ledger) → Joined route (presentingEnd (replied time (isAccepted bytes) replyHeld .session .presenting) (replied time (isAccepted bytes) replyHeld .running) (answeredWith (isAccepted bytes) bp)) r trace
@@ -191,12 +191,12 @@ module _ (x : End) (e : Engine) (ready : Ready e) (different : e .session .parti
                 seen = j .seen;
                 link = Link.idle refl s level;
                 messages =
-                    λ (b : List ℕ) (w : Written b trace) (g : envelopeGood Kind.Message b ≡ true) (way : envelopeOf b .route ≡ route).
+                    λ (b : List ℕ) (w : WrittenBefore b trace) (g : envelopeGood Kind.Message b ≡ true) (way : envelopeOf b .route ≡ route).
                     (j .messages b w g way .0, λ (f : Entry) (q : serialOf b ≡ p .serial) (waits : none ≡ some f). absurd (Option·none-ne-some f waits));
                 replies = j .replies;
               }
 
-      reply-after : Written bytes trace → After (Call.reply time bytes) (takeReply time bytes replyHeld .left .running) (takeReply time bytes replyHeld)
+      reply-after : WrittenBefore bytes trace → After (Call.reply time bytes) (takeReply time bytes replyHeld .left .running) (takeReply time bytes replyHeld)
       unfolding takeReply
       reply-after brought =
           either (λ (o : Outcome). After (Call.reply time bytes) (o .left .running) o) (replyRefusal time bytes (e .session)) replyHeld _
@@ -217,7 +217,7 @@ module _ (x : End) (e : Engine) (ready : Ready e) (different : e .session .parti
         let h = lent Direction.receiving line e in
         either (After (Call.receive time bytes) pt) (receiveRefusal time bytes (length (h .line)) (h .session)) h _
         (λ (k : ℕ). refused-after (Call.receive time bytes) k)
-        (λ (z : receiveRefusal time bytes (length (h .line)) (h .session) ≡ 0). go (isNext bytes (e .session .receiving)) (receive-told time bytes h z))
+        (λ (z : receiveRefusal time bytes (length (h .line)) (h .session) ≡ 0). go (isNext bytes (e .session .receiving .serial)) (receive-told time bytes h z))
       where
         go : (t : Bool) → ReceiveTold bytes (lent Direction.receiving line e) → After (Call.receive time bytes) pt (replying bytes (cond t (afterNew time (bodyOf bytes) (lent Direction.receiving line e)) (afterRepeat time (lent Direction.receiving line e))))
         go true told = foreign-reply time bytes line _ told
@@ -238,14 +238,14 @@ module _ (x : End) (e : Engine) (ready : Ready e) (different : e .session .parti
         let fields = passed 1 (not (sendable moment centre number)) _ (lit< tt) z in
         (refl, header-entry route (record { time = moment; centre = centre; number = number }) (omega (arith, s .date)) (omega (arith, s .own)) (omega (arith, s .partner)) (not-false (sendable moment centre number) (fields .0)))
 
-    detail-fits : (operation : ℕ) (part : List ℕ) → detailStop operation (e .session .parties .partner) part pt p ≡ 0 → (Effect.Detail (partAdds operation part) ≡ waitingEffect (some (partEntry operation part)) (bp .ledger)) × (bodyEntry (written (packedByte operation) part) ≡ partEntry operation part)
+    detail-fits : (operation : ℕ) (part : List ℕ) → detailStop operation (e .session .parties .partner) part pt p ≡ 0 → (Effect.Detail (partAdds operation part) ≡ waitingEffect (some (partEntry operation part)) (bp .ledger)) × (bodyEntry (writtenDetail (packedByte operation) part) ≡ partEntry operation part)
     unfolding detailStop
     detail-fits operation part z =
         let own = none-both (presenterCode operation (e .session .parties .partner) part) _ z in
         (ap Effect.Detail (sym (detail-sum (packedByte operation) (pieces documentBytes part))), detail-entry operation part (accepted-part operation (e .session .parties .partner) part (own .0) .0))
 
-    pub presenter-step : (call : Call) (line : List ℕ) → Brought call trace → let d = perform call line e in Joined route (presentingEnd (d .engine .session .presenting) (d .engine .presenting) (cond (eqb (d .said .number) 0) (presents call bp) bp)) r (record { at = x; call = call; said = d .said } ∷ trace)
-    unfolding perform meaning sendHeader sendDetail sendLotTotal sendSessionTotal
+    pub presenter-step : (call : Call) (line : List ℕ) → Brought call trace → let d = performed call line e in Joined route (presentingEnd (d .engine .session .presenting) (d .engine .presenting) (cond (eqb (saidBy d .number) 0) (presenterEnters call bp) bp)) r (record { at = x; call = call; said = saidBy d } ∷ trace)
+    unfolding performed meaning sendHeader sendDetail sendLotTotal sendSessionTotal
     presenter-step (Call.header time moment centre number) line brought = send-after (Call.header time moment centre number) time _ _ _ line (Entry.header number) refl (header-fits time moment centre number)
     presenter-step (Call.detail time operation part) line brought = send-after (Call.detail time operation part) time _ _ _ line (partEntry operation part) refl (detail-fits operation part)
     presenter-step (Call.lotTotal time) line brought = send-after (Call.lotTotal time) time _ _ _ line Entry.lotTotal refl (λ (z : lotTotalStop p ≡ 0). (ap Effect.LotTotal (open-lot-same (p .counters) pt (bp .ledger) (j .presenter .course)), lot-total-entry route _))

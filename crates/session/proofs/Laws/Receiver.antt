@@ -9,36 +9,35 @@ use lib.Dec.{eqb}
 use lib.ListN.{length, take}
 use lib.Seq.{sets}
 use borrow.Author.Tests.{eqb-true, eq-eqb}
-use Rattle.codes.proofs.Laws.Reply.{accepts as code-accepts}
-use Rattle.document.specs.Entities.{member}
+use Rattle.codes.proofs.Laws.Code.{accepts as code-accepts}
+use Rattle.packed.specs.Every.{member}
 use Rattle.message.specs.declared.route.Route.{Route}
 use Rattle.message.specs.declared.envelope.Kind.{Kind}
 use Rattle.message.specs.declared.reply.Reply.{Reply}
 use Rattle.message.specs.Envelope.{serialOf, envelopeGood, envelopeOf, bodyOf}
 use Rattle.message.specs.Content.{contentOf}
 use Rattle.message.specs.Reply.{writtenReplyBody}
-use Rattle.message.specs.Line.{message, wholeReply}
+use Rattle.message.specs.Line.{wholeMessage, wholeReply}
 use Rattle.message.proofs.Laws.Envelope.{serial-told, whole-length}
-use Rattle.session.specs.Course.{Direction}
+use Rattle.session.specs.Parties.{Direction, receivingRoute}
 use Rattle.session.specs.declared.counters.OpenLot.{OpenLot}
 use Rattle.session.specs.declared.effect.Effect.{Effect}
 use Rattle.session.specs.declared.session.Receiving.{Receiving}
 use Rattle.session.specs.Limits.{mostLots}
-use Rattle.session.specs.Parties.{receivingRoute}
 use Rattle.session.specs.Running.{Running}
 use Rattle.session.specs.Sequence.{isOpen}
-use Rattle.session.specs.Outcome.{Held, Outcome, clockRefusal}
+use Rattle.session.specs.Outcome.{Held, Outcome}
+use Rattle.session.specs.Time.{clockRefusal}
 use Rattle.session.specs.Sending.{nextEnvelope, sendRefusal, send, sendHeader, sendDetail, sendLotTotal, sendSessionTotal}
-use Rattle.session.specs.Receiving.{isNext, isLast, codeFor, effectBy, receivingCourse, receivingAfter, receiveRefusal, receive, afterNew, afterRepeat, replying}
+use Rattle.session.specs.Receiving.{isNext, isLast, earnedCode, receivedEffect, receivingCourse, receivingAfter, receiveRefusal, receive, afterNew, afterRepeat, replying}
 use Rattle.session.specs.Reply.{isAccepted, replyRefusal, takeReply}
 use Rattle.session.specs.Clock.{clock}
 use Rattle.session.specs.Premise.{OpenSound}
 use Rattle.session.specs.Ledger.{enter, bodyEntry}
-use Rattle.session.specs.Engine.{Call, Engine, saidBy, meaning, lent, perform}
-use Rattle.session.specs.Ends.{End, Event, Written, Brought}
-use Rattle.session.specs.Entering.{Counting, received, receives}
-use Rattle.session.specs.Claim.{Ready}
-use Rattle.session.proofs.Laws.Decided.{either, first-bytes}
+use Rattle.session.specs.Engine.{Call, Engine, saidBy, meaning, lent, performed, Ready}
+use Rattle.session.specs.Ends.{End, Event, WrittenBefore, Brought}
+use Rattle.session.specs.Entering.{ReceiverLedger, firstReceived, receiverEnters}
+use Rattle.session.proofs.Laws.Decided.{either, saidIn, first-bytes}
 use Rattle.session.proofs.Laws.Refusals.{send-told, ReceiveTold, receive-told}
 use Rattle.session.proofs.Laws.Allowed.{Allowed, received-allowed}
 use Rattle.session.proofs.Laws.Line.{accepts, MessageFact, ReplyFact, reply-no-message, serial-read, code-read}
@@ -52,7 +51,7 @@ has-room : (lot : OpenLot) (lots : ℕ) → OpenSound lot lots → isOpen lot �
 has-room OpenLot.None lots s e = absurd (false≢true e)
 has-room (OpenLot.Numbered n) lots s e = s .1
 
-module _ (x : End) (e : Engine) (ready : Ready e) (different : e .session .parties .own ≡ e .session .parties .partner → ⊥) (p : PresentingEnd) (br : Counting) (trace : List Event) where
+module _ (x : End) (e : Engine) (ready : Ready e) (different : e .session .parties .own ≡ e .session .parties .partner → ⊥) (p : PresentingEnd) (br : ReceiverLedger) (trace : List Event) where
   abbrev route : Route
   route = receivingRoute (e .session .parties)
 
@@ -67,22 +66,22 @@ module _ (x : End) (e : Engine) (ready : Ready e) (different : e .session .parti
 
   module _ (j : Joined route p here trace) where
     abbrev After : Call → Running → Outcome → Type 0
-    After call t o = Joined route p (receivingEnd (o .left .session .receiving) t (cond (eqb (o .number) 0) (receives call (saidBy o .bytes) br) br)) (record { at = x; call = call; said = saidBy o } ∷ trace)
+    After call t o = Joined route p (receivingEnd (o .left .session .receiving) t (cond (eqb (o .number) 0) (receiverEnters call (saidIn o .bytes) br) br)) (record { at = x; call = call; said = saidIn o } ∷ trace)
 
-    refused-after : (call : Call) (k : ℕ) → Joined route p (receivingEnd r rt (cond (eqb (suc k) 0) (receives call [] br) br)) (record { at = x; call = call; said = record { number = suc k; bytes = [] } } ∷ trace)
-    refused-after call k = subst (λ (b : Counting). Joined route p (receivingEnd r rt b) (record { at = x; call = call; said = record { number = suc k; bytes = [] } } ∷ trace)) (sym (not-entered k (receives call [] br) br)) (refused-by route p here trace j (record { at = x; call = call; said = record { number = suc k; bytes = [] } }) k refl)
+    refused-after : (call : Call) (k : ℕ) → Joined route p (receivingEnd r rt (cond (eqb (suc k) 0) (receiverEnters call [] br) br)) (record { at = x; call = call; said = record { number = suc k; bytes = [] } } ∷ trace)
+    refused-after call k = subst (λ (b : ReceiverLedger). Joined route p (receivingEnd r rt b) (record { at = x; call = call; said = record { number = suc k; bytes = [] } } ∷ trace)) (sym (not-entered k (receiverEnters call [] br) br)) (refused-by route p here trace j (record { at = x; call = call; said = record { number = suc k; bytes = [] } }) k refl)
 
     -- what is sent from here is of the other direction
-    send-after : (call : Call) (time code : ℕ) (effect : Effect) (body line : List ℕ) → ((w : List ℕ) → receives call w br ≡ br) → After call rt (send time code effect body (lent Direction.presenting line e))
+    send-after : (call : Call) (time code : ℕ) (effect : Effect) (body line : List ℕ) → ((w : List ℕ) → receiverEnters call w br ≡ br) → After call rt (send time code effect body (lent Direction.presenting line e))
     unfolding send
     send-after call time code effect body line books =
         let h = lent Direction.presenting line e in
-        let bytes = message (nextEnvelope (e .session)) body in
+        let bytes = wholeMessage (nextEnvelope (e .session)) body in
         either (After call rt) (sendRefusal time code (length bytes) (length (h .line)) (h .session)) h _
         (λ (k : ℕ). refused-after call k)
         (λ (z : sendRefusal time code (length bytes) (length (h .line)) (h .session) ≡ 0).
         let told = send-told time code bytes h z in
-        subst (λ (b : Counting). Joined route p (receivingEnd r rt b) (record { at = x; call = call; said = record { number = 0; bytes = take (length bytes) (sets line 0 bytes) } } ∷ trace)) (sym (books _))
+        subst (λ (b : ReceiverLedger). Joined route p (receivingEnd r rt b) (record { at = x; call = call; said = record { number = 0; bytes = take (length bytes) (sets line 0 bytes) } } ∷ trace)) (sym (books _))
         (passed-by route p here trace j _ (λ (n : 0 ≡ 0). subst (Foreign route) (sym (first-bytes bytes line (told .room))) (message-foreign (e .session) (ready .sound) different body (told .more)))))
 
     reply-after : (time : ℕ) (bytes line : List ℕ) → After (Call.reply time bytes) rt (takeReply time bytes (lent Direction.presenting line e))
@@ -99,7 +98,7 @@ module _ (x : End) (e : Engine) (ready : Ready e) (different : e .session .parti
         (λ (k : ℕ). refused-after (Call.clock time) k)
         (λ (z : clockRefusal time (e .session .seen) (e .session .close) ≡ 0). passed-by route p here trace j _ (λ (n : 0 ≡ 0). nothing-foreign route))
 
-    module _ (time : ℕ) (bytes line : List ℕ) (brought : Written bytes trace) (told : ReceiveTold bytes (lent Direction.receiving line e)) where
+    module _ (time : ℕ) (bytes line : List ℕ) (brought : WrittenBefore bytes trace) (told : ReceiveTold bytes (lent Direction.receiving line e)) where
       abbrev h : Held
       h = lent Direction.receiving line e
 
@@ -107,7 +106,7 @@ module _ (x : End) (e : Engine) (ready : Ready e) (different : e .session .parti
       body = bodyOf bytes
 
       abbrev code : ℕ
-      code = codeFor time body h
+      code = earnedCode time body h
 
       -- the reply of this serial with some code, kept by the receiver, is on the line beside all earlier ones
       module _ (after : Receiving) (reply : Reply) (serial : serialOf bytes ≡ after .serial) (keptReply : after .reply ≡ reply) where
@@ -120,11 +119,11 @@ module _ (x : End) (e : Engine) (ready : Ready e) (different : e .session .parti
         fits : length whole ≤ length line
         fits = omega (arith, told .room, whole-length Kind.Reply (envelopeOf bytes) (writtenReplyBody reply))
 
-        all-messages : (b : List ℕ) → Written b (event ∷ trace) → MessageFact route (p .state .serial) (p .entered .waiting) b
+        all-messages : (b : List ℕ) → WrittenBefore b (event ∷ trace) → MessageFact route (p .state .serial) (p .entered .waiting) b
         all-messages b (inl w) = subst (MessageFact route (p .state .serial) (p .entered .waiting)) (w .1) (λ (g : envelopeGood Kind.Message whole ≡ true) (way : envelopeOf whole .route ≡ route). absurd (reply-no-message (envelopeOf bytes) reply g))
         all-messages b (inr w) = j .messages b w
 
-        all-replies : ((b : List ℕ) → Written b trace → ReplyFact route (after .serial) (after .reply .code) b) → (b : List ℕ) → Written b (event ∷ trace) → ReplyFact route (after .serial) (after .reply .code) b
+        all-replies : ((b : List ℕ) → WrittenBefore b trace → ReplyFact route (after .serial) (after .reply .code) b) → (b : List ℕ) → WrittenBefore b (event ∷ trace) → ReplyFact route (after .serial) (after .reply .code) b
         all-replies old b (inl w) =
             subst (ReplyFact route (after .serial) (after .reply .code)) (w .1)
             (λ (g : envelopeGood Kind.Reply whole ≡ true) (way : envelopeOf whole .route ≡ route).
@@ -136,14 +135,14 @@ module _ (x : End) (e : Engine) (ready : Ready e) (different : e .session .parti
       abbrev kept : Reply
       kept = receivingAfter code body rt r .reply
 
-      abbrev entered : Counting
+      abbrev entered : ReceiverLedger
       entered = record { ledger = enter (bodyEntry body) (eqb code 0) (br .ledger); serials = suc (r .serial) ∷ br .serials }
 
       replied-code : isAccepted (wholeReply (envelopeOf bytes) kept) ≡ eqb code 0
       unfolding receivingAfter
       replied-code = code-read (envelopeOf bytes) kept ∙ code-accepts code
 
-      first-time : serialOf bytes ≡ suc (r .serial) → received (serialOf bytes) (bodyEntry body) (isAccepted (wholeReply (envelopeOf bytes) kept)) br ≡ entered
+      first-time : serialOf bytes ≡ suc (r .serial) → firstReceived (serialOf bytes) (bodyEntry body) (isAccepted (wholeReply (envelopeOf bytes) kept)) br ≡ entered
       first-time next =
           ap (λ (t : Bool). cond t br (record { ledger = enter (bodyEntry body) (isAccepted (wholeReply (envelopeOf bytes) kept)) (br .ledger); serials = serialOf bytes ∷ br .serials })) (ap (λ (n : ℕ). member n (br .serials)) next ∙ next-unseen (r .serial) (br .serials) (j .seen .earlier))
           ∙ λ i. record { ledger = enter (bodyEntry body) (replied-code i) (br .ledger); serials = next i ∷ br .serials }
@@ -153,7 +152,7 @@ module _ (x : End) (e : Engine) (ready : Ready e) (different : e .session .parti
       mirrored =
           let c = contentOf body in
           let m = j .receiver in
-          let allowed : eqb code 0 ≡ true → Allowed (effectBy c body rt) (record { counters = r .counters; running = rt }) = λ (t : eqb code 0 ≡ true). received-allowed time body (e .session .parties) rt r (ready .receiving .fits) c (eqb-true code 0 t) in
+          let allowed : eqb code 0 ≡ true → Allowed (receivedEffect c body rt) (record { counters = r .counters; running = rt }) = λ (t : eqb code 0 ≡ true). received-allowed time body (e .session .parties) rt r (ready .receiving .fits) c (eqb-true code 0 t) in
           let numbers = numbers-mirror r rt (br .ledger) m body c (eqb code 0) allowed (λ (t : eqb code 0 ≡ true). free-header r rt (br .ledger) m body time (e .session .parties) c (eqb-true code 0 t)) in
           record {
             course = course-mirrors r rt (br .ledger) m body c (eqb code 0) allowed;
@@ -181,7 +180,7 @@ module _ (x : End) (e : Engine) (ready : Ready e) (different : e .session .parti
             messages = all-messages (receivingAfter code body rt r) kept next refl;
             replies =
                 all-replies (receivingAfter code body rt r) kept next refl
-                (λ (b : List ℕ) (w : Written b trace) (g : envelopeGood Kind.Reply b ≡ true) (way : envelopeOf b .route ≡ route).
+                (λ (b : List ℕ) (w : WrittenBefore b trace) (g : envelopeGood Kind.Reply b ≡ true) (way : envelopeOf b .route ≡ route).
                 let old = j .replies b w g way .0 in
                 (omega (arith, old), λ (s : serialOf b ≡ suc (r .serial)). absurd (omega (arith, old, s))));
           }
@@ -194,7 +193,7 @@ module _ (x : End) (e : Engine) (ready : Ready e) (different : e .session .parti
           go (inl z) = absurd (omega (arith, z, same, serial-told Kind.Message bytes (told .good) .0))
           go (inr m) = m
 
-      not-again : serialOf bytes ≡ r .serial → (accepted : Bool) → received (serialOf bytes) (bodyEntry body) accepted br ≡ br
+      not-again : serialOf bytes ≡ r .serial → (accepted : Bool) → firstReceived (serialOf bytes) (bodyEntry body) accepted br ≡ br
       not-again same accepted = ap (λ (t : Bool). cond t br (record { ledger = enter (bodyEntry body) accepted (br .ledger); serials = serialOf bytes ∷ br .serials })) (seen-before same)
 
       repeated-joined : serialOf bytes ≡ r .serial → Joined route p here (record { at = x; call = Call.receive time bytes; said = record { number = 0; bytes = wholeReply (envelopeOf bytes) (r .reply) } } ∷ trace)
@@ -202,35 +201,35 @@ module _ (x : End) (e : Engine) (ready : Ready e) (different : e .session .parti
           record { presenter = j .presenter; receiver = j .receiver; seen = j .seen; link = j .link; messages = all-messages r (r .reply) same refl; replies = all-replies r (r .reply) same refl (j .replies) }
 
     -- which of the two it is
-    last-serial : (bytes : List ℕ) → isNext bytes r ≡ false → isLast bytes r || isNext bytes r ≡ true → serialOf bytes ≡ r .serial
-    last-serial bytes n known = eqb-true (serialOf bytes) (r .serial) (sym (or-false (isLast bytes r)) ∙ ap (λ (t : Bool). isLast bytes r || t) (sym n) ∙ known)
+    last-serial : (bytes : List ℕ) → isNext bytes (r .serial) ≡ false → isLast bytes (r .serial) || isNext bytes (r .serial) ≡ true → serialOf bytes ≡ r .serial
+    last-serial bytes n known = eqb-true (serialOf bytes) (r .serial) (sym (or-false (isLast bytes (r .serial))) ∙ ap (λ (t : Bool). isLast bytes (r .serial) || t) (sym n) ∙ known)
 
-    message-after : (time : ℕ) (bytes line : List ℕ) → Written bytes trace → After (Call.receive time bytes) (receive time bytes (lent Direction.receiving line e) .left .running) (receive time bytes (lent Direction.receiving line e))
+    message-after : (time : ℕ) (bytes line : List ℕ) → WrittenBefore bytes trace → After (Call.receive time bytes) (receive time bytes (lent Direction.receiving line e) .left .running) (receive time bytes (lent Direction.receiving line e))
     unfolding receive receivingAfter
     message-after time bytes line brought =
         let h = lent Direction.receiving line e in
         either (λ (o : Outcome). After (Call.receive time bytes) (o .left .running) o) (receiveRefusal time bytes (length (h .line)) (h .session)) h _
         (λ (k : ℕ). refused-after (Call.receive time bytes) k)
-        (λ (z : receiveRefusal time bytes (length (h .line)) (h .session) ≡ 0). go (isNext bytes r) refl (receive-told time bytes h z))
+        (λ (z : receiveRefusal time bytes (length (h .line)) (h .session) ≡ 0). go (isNext bytes (r .serial)) refl (receive-told time bytes h z))
       where
-        go : (t : Bool) → isNext bytes r ≡ t → ReceiveTold bytes (lent Direction.receiving line e) → let o = replying bytes (cond t (afterNew time (bodyOf bytes) (lent Direction.receiving line e)) (afterRepeat time (lent Direction.receiving line e))) in After (Call.receive time bytes) (o .left .running) o
+        go : (t : Bool) → isNext bytes (r .serial) ≡ t → ReceiveTold bytes (lent Direction.receiving line e) → let o = replying bytes (cond t (afterNew time (bodyOf bytes) (lent Direction.receiving line e)) (afterRepeat time (lent Direction.receiving line e))) in After (Call.receive time bytes) (o .left .running) o
         go true n told =
             let next = eqb-true (serialOf bytes) (suc (r .serial)) n in
-            let code = codeFor time (bodyOf bytes) (lent Direction.receiving line e) in
+            let code = earnedCode time (bodyOf bytes) (lent Direction.receiving line e) in
             let after = receivingAfter code (bodyOf bytes) rt r in
             let running = receivingCourse code (bodyOf bytes) rt r .running in
             let whole = wholeReply (envelopeOf bytes) (after .reply) in
-            subst (λ (w : List ℕ). Joined route p (receivingEnd after running (receives (Call.receive time bytes) w br)) (record { at = x; call = Call.receive time bytes; said = record { number = 0; bytes = w } } ∷ trace)) (sym (first-bytes whole line (fits time bytes line brought told after (after .reply) next refl)))
-            (subst (λ (b : Counting). Joined route p (receivingEnd after running b) (record { at = x; call = Call.receive time bytes; said = record { number = 0; bytes = whole } } ∷ trace)) (sym (first-time time bytes line brought told next)) (taken-joined time bytes line brought told next))
+            subst (λ (w : List ℕ). Joined route p (receivingEnd after running (receiverEnters (Call.receive time bytes) w br)) (record { at = x; call = Call.receive time bytes; said = record { number = 0; bytes = w } } ∷ trace)) (sym (first-bytes whole line (fits time bytes line brought told after (after .reply) next refl)))
+            (subst (λ (b : ReceiverLedger). Joined route p (receivingEnd after running b) (record { at = x; call = Call.receive time bytes; said = record { number = 0; bytes = whole } } ∷ trace)) (sym (first-time time bytes line brought told next)) (taken-joined time bytes line brought told next))
         go false n told =
             let same = last-serial bytes n (told .known) in
             let whole = wholeReply (envelopeOf bytes) (r .reply) in
             let event : List ℕ → Event = λ (w : List ℕ). record { at = x; call = Call.receive time bytes; said = record { number = 0; bytes = w } } in
-            subst (λ (w : List ℕ). Joined route p (receivingEnd r rt (receives (Call.receive time bytes) w br)) (event w ∷ trace)) (sym (first-bytes whole line (fits time bytes line brought told r (r .reply) same refl)))
-            (subst (λ (b : Counting). Joined route p (receivingEnd r rt b) (event whole ∷ trace)) (sym (not-again time bytes line brought told same (isAccepted whole))) (repeated-joined time bytes line brought told same))
+            subst (λ (w : List ℕ). Joined route p (receivingEnd r rt (receiverEnters (Call.receive time bytes) w br)) (event w ∷ trace)) (sym (first-bytes whole line (fits time bytes line brought told r (r .reply) same refl)))
+            (subst (λ (b : ReceiverLedger). Joined route p (receivingEnd r rt b) (event whole ∷ trace)) (sym (not-again time bytes line brought told same (isAccepted whole))) (repeated-joined time bytes line brought told same))
 
-    pub receiver-step : (call : Call) (line : List ℕ) → Brought call trace → let d = perform call line e in Joined route p (receivingEnd (d .engine .session .receiving) (d .engine .receiving) (cond (eqb (d .said .number) 0) (receives call (d .said .bytes) br) br)) (record { at = x; call = call; said = d .said } ∷ trace)
-    unfolding perform meaning sendHeader sendDetail sendLotTotal sendSessionTotal
+    pub receiver-step : (call : Call) (line : List ℕ) → Brought call trace → let d = performed call line e in Joined route p (receivingEnd (d .engine .session .receiving) (d .engine .receiving) (cond (eqb (saidBy d .number) 0) (receiverEnters call (saidBy d .bytes) br) br)) (record { at = x; call = call; said = saidBy d } ∷ trace)
+    unfolding performed meaning sendHeader sendDetail sendLotTotal sendSessionTotal
     receiver-step (Call.header time moment centre number) line brought = send-after (Call.header time moment centre number) time _ _ _ line (λ (w : List ℕ). refl)
     receiver-step (Call.detail time operation part) line brought = send-after (Call.detail time operation part) time _ _ _ line (λ (w : List ℕ). refl)
     receiver-step (Call.lotTotal time) line brought = send-after (Call.lotTotal time) time _ _ _ line (λ (w : List ℕ). refl)

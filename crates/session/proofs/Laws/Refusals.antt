@@ -2,7 +2,7 @@
 use mathlib.Core.Path.{_≡_}
 use mathlib.Core.Bool.{true, false, not, _||_}
 use mathlib.Core.List.{List}
-use Prim.Native.Nat.{ℕ, _+_, _≤_, _<_}
+use Prim.Native.Nat.{ℕ, _≤_, _<_}
 use lib.Dec.{eqb, leb, lit<}
 use lib.ListN.{length}
 use borrow.Author.Tests.{leb-false, ltb-false, eqb-true, not-false}
@@ -10,14 +10,15 @@ use Rattle.packed.proofs.Laws.Told.{three}
 use Rattle.codes.specs.Body.{operationOf}
 use Rattle.codes.proofs.Laws.Chain.{passed, none-test, none-both}
 use Rattle.message.specs.declared.envelope.Kind.{Kind}
-use Rattle.message.specs.Limits.{largestSerial, envelopeBytes, replyBytes}
+use Rattle.message.specs.Limits.{largestSerial, replyRoom}
 use Rattle.message.specs.Route.{sameRoute}
 use Rattle.message.specs.Envelope.{serialOf, envelopeGood, envelopeOf, bodyOf}
 use Rattle.message.specs.Reply.{operationByte, replyGood}
 use Rattle.message.proofs.Laws.Route.{same}
 use Rattle.session.specs.declared.session.Session.{Session}
 use Rattle.session.specs.Parties.{presentingRoute, receivingRoute}
-use Rattle.session.specs.Outcome.{Held, noRoom, timeRefusal}
+use Rattle.session.specs.Outcome.{Held, noRoom}
+use Rattle.session.specs.Time.{timeRefusal}
 use Rattle.session.specs.Sending.{isPending, sendRefusal}
 use Rattle.session.specs.Receiving.{isLast, isNext, receiveRefusal}
 use Rattle.session.specs.Reply.{awaitedOperation, isAwaited, replyRefusal}
@@ -41,15 +42,15 @@ send-told time code bytes h e =
 pub record ReceiveTold (bytes : List ℕ) (h : Held) : Type 0 where
   pub good : envelopeGood Kind.Message bytes ≡ true
   pub way : envelopeOf bytes .route ≡ receivingRoute (h .session .parties)
-  pub known : isLast bytes (h .session .receiving) || isNext bytes (h .session .receiving) ≡ true
-  pub room : envelopeBytes + replyBytes ≤ length (h .line)
+  pub known : isLast bytes (h .session .receiving .serial) || isNext bytes (h .session .receiving .serial) ≡ true
+  pub room : replyRoom ≤ length (h .line)
 
 pub receive-told : (time : ℕ) (bytes : List ℕ) (h : Held) → receiveRefusal time bytes (length (h .line)) (h .session) ≡ 0 → ReceiveTold bytes h
 unfolding receiveRefusal
 receive-told time bytes h e =
     let good = envelopeGood Kind.Message bytes in
     let way = sameRoute (envelopeOf bytes .route) (receivingRoute (h .session .parties)) in
-    let known = isLast bytes (h .session .receiving) || isNext bytes (h .session .receiving) in
+    let known = isLast bytes (h .session .receiving .serial) || isNext bytes (h .session .receiving .serial) in
     let clock = none-both (timeRefusal time (h .session .seen) (h .session .close)) _ e in
     let first = passed 21 (not good) _ (lit< tt) (clock .1) in
     let second = passed 33 (not way) _ (lit< tt) (first .1) in
@@ -58,7 +59,7 @@ receive-told time bytes h e =
       good = not-false good (first .0);
       way = same (envelopeOf bytes .route) (receivingRoute (h .session .parties)) (not-false way (second .0));
       known = not-false known (third .0);
-      room = ltb-false (length (h .line)) (envelopeBytes + replyBytes) (none-test 23 (noRoom (envelopeBytes + replyBytes) (length (h .line))) (lit< tt) (third .1));
+      room = ltb-false (length (h .line)) (replyRoom) (none-test 23 (noRoom (replyRoom) (length (h .line))) (lit< tt) (third .1));
     }
 
 pub record ReplyTold (bytes : List ℕ) (s : Session) : Type 0 where

@@ -11,7 +11,7 @@ use Rattle.detail.specs.Groups.{documents}
 use Rattle.message.specs.declared.envelope.Kind.{Kind}
 use Rattle.message.specs.Envelope.{serialOf, bodyOf}
 use Rattle.message.specs.Content.{contentOf}
-use Rattle.message.specs.Line.{message}
+use Rattle.message.specs.Line.{wholeMessage}
 use Rattle.message.proofs.Laws.Envelope.{serial-told}
 use Rattle.message.specs.Limits.{largestSerial}
 use Rattle.session.specs.declared.counters.OpenLot.{OpenLot}
@@ -21,28 +21,35 @@ use Rattle.session.specs.declared.effect.Effect.{Effect}
 use Rattle.session.specs.declared.parties.Parties.{Parties}
 use Rattle.session.specs.declared.session.Close.{Close}
 use Rattle.session.specs.declared.session.Session.{Session}
-use Rattle.session.specs.Limits.{lotDocuments, mostLots}
-use Rattle.session.specs.Parties.{partiesGood, partiesOf, nobody}
+use Rattle.session.specs.Limits.{mostLotDocuments, mostLots}
+use Rattle.session.specs.Parties.{partiesGood, partiesOf, nobody, Direction}
 use Rattle.session.specs.Running.{Running, empty}
-use Rattle.session.specs.Course.{Direction, advance, kept, course}
+use Rattle.session.specs.Course.{advance, kept, course}
 use Rattle.session.specs.Sequence.{isOpen}
 use Rattle.session.specs.Start.{noLots, fresh, started, start}
-use Rattle.session.specs.Outcome.{Held, Outcome, clockRefusal, silent}
+use Rattle.session.specs.Outcome.{Held, Outcome, silent, held}
+use Rattle.session.specs.Time.{clockRefusal}
 use Rattle.session.specs.Sending.{posted, headerStop, sendRefusal, sent, send, sessionTotalStop, sendHeader, sendDetail, sendLotTotal, sendSessionTotal, nextEnvelope}
-use Rattle.session.specs.Receiving.{effectBy, codeFor, receivingAfter, isNext, receive, receiveRefusal, afterNew, afterRepeat, afterMessage}
+use Rattle.session.specs.Receiving.{receivedEffect, earnedCode, receivingAfter, isNext, receive, receiveRefusal, afterNew, afterRepeat, afterMessage}
 use Rattle.session.specs.Reply.{replyRefusal, isAccepted, takeReply}
 use Rattle.session.specs.Clock.{ticked, clock}
-use Rattle.session.specs.Premise.{Fits, CountersSound, OpenSound, PartiesSound, Sound, Carried, Premise, PendingSound, PendingCarried, Begun}
+use Rattle.session.specs.Engine.{withEmpty, Ready}
+use Rattle.session.specs.Premise.{Fits, CountersSound, OpenSound, PartiesSound, Sound, Carried, PendingSound, PendingCarried}
 use Rattle.session.proofs.Laws.Parties.{told as parties-told}
 use Rattle.session.proofs.Laws.Decided.{either}
 use Rattle.session.proofs.Laws.Refusals.{send-told, ReceiveTold, receive-told}
 use Rattle.session.proofs.Laws.Allowed.{fits-gather, fits-empty, Allowed, header-sound, detail-allowed, lot-total-allowed, received-allowed}
 
+-- the premise of a call of a direction, of what it is lent
+pub record Premise (d : Direction) (h : Held) : Type 0 where
+  pub sound : Sound (h .session)
+  pub carried : Carried d (h .session) (h .running)
+
 -- a direction's counters with the running totals lent for it
 pub record CourseSound (k : Course) : Type 0 where
   pub counters : CountersSound (k .counters)
   pub none-open : k .counters .current ≡ OpenLot.None → k .running ≡ empty
-  pub fits : Fits lotDocuments (k .running)
+  pub fits : Fits mostLotDocuments (k .running)
 
 -- a lot that is open is not none
 none-while-open : (lot : OpenLot) {A : Type 0} → isOpen lot ≡ true → lot ≡ OpenLot.None → A
@@ -56,7 +63,7 @@ advanced (Effect.Header n) true k s h =
     record {
       counters = record { lots = s .counters .lots; open-lot = a .sound; gathered = s .counters .gathered };
       none-open = λ (e : OpenLot.Numbered n ≡ OpenLot.None). refl;
-      fits = fits-empty lotDocuments;
+      fits = fits-empty mostLotDocuments;
     }
 advanced (Effect.Detail more) true k s h =
     let a = h refl in
@@ -65,17 +72,17 @@ advanced (Effect.LotTotal lot) true k s h =
     let a = h refl in
     let room : OpenSound (OpenLot.Numbered (lot .number)) (k .counters .lots) = subst (λ (o : OpenLot). OpenSound o (k .counters .lots)) (a .sound) (s .counters .open-lot) in
     let g = s .counters .gathered in
-    let f : Fits lotDocuments (lot .gathered) = subst (Fits lotDocuments) (sym (a .carried)) (s .fits) in
+    let f : Fits mostLotDocuments (lot .gathered) = subst (Fits mostLotDocuments) (sym (a .carried)) (s .fits) in
     record {
-      counters = record { lots = omega (arith, room .1); open-lot = tt; gathered = fits-gather (k .counters .lots * lotDocuments) lotDocuments (suc (k .counters .lots) * lotDocuments) (k .counters .gathered) (lot .gathered) (omega (arith, g .documents, f .documents)) g f };
+      counters = record { lots = omega (arith, room .1); open-lot = tt; gathered = fits-gather (k .counters .lots * mostLotDocuments) mostLotDocuments (suc (k .counters .lots) * mostLotDocuments) (k .counters .gathered) (lot .gathered) (omega (arith, g .documents, f .documents)) g f };
       none-open = λ (e : OpenLot.None ≡ OpenLot.None). refl;
-      fits = fits-empty lotDocuments;
+      fits = fits-empty mostLotDocuments;
     }
 advanced (Effect.LotTotal lot) false k s h =
     record {
       counters = record { lots = s .counters .lots; open-lot = tt; gathered = s .counters .gathered };
       none-open = λ (e : OpenLot.None ≡ OpenLot.None). refl;
-      fits = fits-empty lotDocuments;
+      fits = fits-empty mostLotDocuments;
     }
 advanced (Effect.Header n) false k s h = s
 advanced (Effect.Detail more) false k s h = s
@@ -97,7 +104,7 @@ sent-carried time effect s t g a = record { none-open = g .none-open; fits = g .
 
 module _ (time code : ℕ) (effect : Effect) (body : List ℕ) (h : Held) where
   abbrev bytes : List ℕ
-  bytes = message (nextEnvelope (h .session)) body
+  bytes = wholeMessage (nextEnvelope (h .session)) body
 
   pub send-sound : Sound (h .session) → (code ≡ 0 → PendingSound effect (h .session .presenting .counters)) → Sound (send time code effect body h .left .session)
   unfolding send
@@ -165,13 +172,13 @@ kept-length (Effect.Header number) accepted lots places = refl
 kept-length (Effect.Detail more) accepted lots places = refl
 kept-length Effect.SessionTotal accepted lots places = refl
 
-handled-keeps : (time : ℕ) (bytes : List ℕ) (h : Held) → Premise Direction.receiving h → ReceiveTold bytes h → isNext bytes (h .session .receiving) ≡ true → Premise Direction.receiving (afterNew time (bodyOf bytes) h)
+handled-keeps : (time : ℕ) (bytes : List ℕ) (h : Held) → Premise Direction.receiving h → ReceiveTold bytes h → isNext bytes (h .session .receiving .serial) ≡ true → Premise Direction.receiving (afterNew time (bodyOf bytes) h)
 unfolding receivingAfter
 handled-keeps time bytes h g known next =
     let body = bodyOf bytes in
     let r = h .session .receiving in
-    let code = codeFor time body h in
-    let effect = effectBy (contentOf body) body (h .running) in
+    let code = earnedCode time body h in
+    let effect = receivedEffect (contentOf body) body (h .running) in
     let after = advanced effect (eqb code 0) (record { counters = r .counters; running = h .running }) (receiving-course h g) (λ (t : eqb code 0 ≡ true). received-allowed time body (h .session .parties) (h .running) r (g .carried .fits) (contentOf body) (eqb-true code 0 t)) in
     record {
       sound =
@@ -192,12 +199,12 @@ unfolding receive
 receive-keeps time bytes h g =
     either (λ (o : Outcome). Premise Direction.receiving (o .left)) (receiveRefusal time bytes (length (h .line)) (h .session)) h _
     (λ (k : ℕ). g)
-    (λ (e : receiveRefusal time bytes (length (h .line)) (h .session) ≡ 0). same-good (afterMessage time bytes h) _ (go (isNext bytes (h .session .receiving)) refl (receive-told time bytes h e)))
+    (λ (e : receiveRefusal time bytes (length (h .line)) (h .session) ≡ 0). same-good (afterMessage time bytes h) _ (go (isNext bytes (h .session .receiving .serial)) refl (receive-told time bytes h e)))
   where
     same-good : (a : Held) (line : List ℕ) → Premise Direction.receiving a → Premise Direction.receiving (record { session = a .session; running = a .running; line = line })
     same-good a line g = record { sound = g .sound; carried = g .carried }
 
-    go : (t : Bool) → isNext bytes (h .session .receiving) ≡ t → ReceiveTold bytes h → Premise Direction.receiving (cond t (afterNew time (bodyOf bytes) h) (afterRepeat time h))
+    go : (t : Bool) → isNext bytes (h .session .receiving .serial) ≡ t → ReceiveTold bytes h → Premise Direction.receiving (cond t (afterNew time (bodyOf bytes) h) (afterRepeat time h))
     go true n known = handled-keeps time bytes h g known n
     go false n known =
         record {
@@ -212,7 +219,7 @@ ticked-carried time Direction.receiving s t g = record { none-open = g .none-ope
 
 module _ (time : ℕ) (h : Held) where
   abbrev ticking : Outcome
-  ticking = silent (record { session = ticked time (h .session); running = h .running; line = h .line })
+  ticking = silent (held (ticked time (h .session)) (h .running) (h .line))
 
   pub clock-sound : Sound (h .session) → Sound (clock time h .left .session)
   unfolding clock
@@ -252,13 +259,15 @@ start-sound date own partner represented = go (partiesGood date own partner repr
 
 pub fresh-carried : (parties : Parties) (close : Close) (d : Direction) → Carried d (fresh parties close) empty
 unfolding fresh
-fresh-carried parties close Direction.presenting = record { none-open = λ (e : OpenLot.None ≡ OpenLot.None). refl; fits = fits-empty lotDocuments; pending = tt }
-fresh-carried parties close Direction.receiving = record { none-open = λ (e : OpenLot.None ≡ OpenLot.None). refl; fits = fits-empty lotDocuments; pending = tt }
+fresh-carried parties close Direction.presenting = record { none-open = λ (e : OpenLot.None ≡ OpenLot.None). refl; fits = fits-empty mostLotDocuments; pending = tt }
+fresh-carried parties close Direction.receiving = record { none-open = λ (e : OpenLot.None ≡ OpenLot.None). refl; fits = fits-empty mostLotDocuments; pending = tt }
 
 -- so whatever a start gives
-pub begun : (date own partner : ℕ) (represented : List ℕ) → Begun (start date own partner represented .session)
+pub begun : (date own partner : ℕ) (represented : List ℕ) → Ready (withEmpty (start date own partner represented .session))
 unfolding start
-begun date own partner represented = record { sound = start-sound date own partner represented; carried = go (partiesGood date own partner represented) }
+begun date own partner represented =
+    let carried = go (partiesGood date own partner represented) in
+    record { sound = start-sound date own partner represented; presenting = carried Direction.presenting; receiving = carried Direction.receiving }
   where
     go : (t : Bool) (d : Direction) → Carried d (cond t (started date own partner represented) (fresh nobody Close.Forced)) empty
     go true d = fresh-carried (partiesOf date own partner represented) Close.Open d

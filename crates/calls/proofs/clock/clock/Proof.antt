@@ -3,10 +3,10 @@ use mathlib.Core.Path.{_≡_, sym, _∙_}
 use mathlib.Core.List.{List, []}
 use Prim.Native.Nat.{ℕ}
 use Rattle.session.specs.Running.{Running, empty}
-use Rattle.session.specs.Outcome.{answerNumber, clockRefusal, silent}
+use Rattle.session.specs.Outcome.{answerNumber, silent, held}
+use Rattle.session.specs.Time.{clockRefusal}
 use Rattle.session.specs.Clock.{ticked, clock}
 use Rattle.session.proofs.Laws.EveryCall.{clock-kept}
-use Rattle.calls.specs.Said.{held}
 use Rattle.calls.proofs.Laws.Said.{said-done, said-refused, so-kept}
 use borrow.Author.Needs.{needs}
 use Rattle.calls.proofs.clock.clock.Statement.{statement}

@@ -4,8 +4,8 @@ use borrow.Author.Needs.{needs}
 use Rattle.calls.proofs.sequence.lot_total_sequence.Statement.{statement}
 use Rattle.calls.proofs.sequence.lot_total_sequence.Tie as tie
 
-is-this-requires : tie.Need-is-this-requires
-is-this-requires c κs = search needs
+is-open-lot-requires : tie.Need-is-open-lot-requires
+is-open-lot-requires c κs = search needs
 
 when-requires : tie.Need-when-requires
 when-requires c κs = search needs
@@ -27,7 +27,7 @@ pub lot-total-sequence-spec : {M : Type 1} → statement M
 lot-total-sequence-spec =
     tie.close
     (tie.spec
-    is-this-requires
+    is-open-lot-requires
     when-requires
     documents-in-requires
     when-requires-2

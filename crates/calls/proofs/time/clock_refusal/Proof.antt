@@ -1,5 +1,5 @@
 -- `clock_refusal` is the definition's own chain.
-use Rattle.session.specs.Outcome.{clockRefusal}
+use Rattle.session.specs.Time.{clockRefusal}
 use borrow.Author.Needs.{needs}
 use Rattle.calls.proofs.time.clock_refusal.Statement.{statement}
 use Rattle.calls.proofs.time.clock_refusal.Tie as tie

@@ -1,5 +1,5 @@
 -- `time_refusal` is the definition's own chain.
-use Rattle.session.specs.Outcome.{timeRefusal}
+use Rattle.session.specs.Time.{timeRefusal}
 use borrow.Author.Needs.{needs}
 use Rattle.calls.proofs.time.time_refusal.Statement.{statement}
 use Rattle.calls.proofs.time.time_refusal.Tie as tie

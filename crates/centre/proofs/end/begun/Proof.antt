@@ -1,6 +1,6 @@
 -- `begun`: a start begins the premise for running totals of no documents.
 use mathlib.Core.Path.{sym, subst}
-use Rattle.session.specs.Course.{Direction}
+use Rattle.session.specs.Parties.{Direction}
 use Rattle.session.specs.Premise.{Carried}
 use borrow.Author.Needs.{needs}
 use Rattle.centre.proofs.end.begun.Statement.{statement}
@@ -15,11 +15,11 @@ empty-requires-2 c κs = search needs
 returns : tie.Need-returns
 returns c =
     let pre = c .before .before .pre in (
-      cc,
+      (λ i. record { session = c .before .before .args .session; presenting = c .before .empty .ensures i; receiving = c .empty2 .ensures i }),
       record {
         sound = pre .sound;
-        presenting = subst (Carried Direction.presenting (c .before .before .args .session)) (sym (c .before .empty .ensures)) (pre .carried Direction.presenting);
-        receiving = subst (Carried Direction.receiving (c .before .before .args .session)) (sym (c .empty2 .ensures)) (pre .carried Direction.receiving);
+        presenting = subst (Carried Direction.presenting (c .before .before .args .session)) (sym (c .before .empty .ensures)) (pre .presenting);
+        receiving = subst (Carried Direction.receiving (c .before .before .args .session)) (sym (c .empty2 .ensures)) (pre .receiving);
       },
     )
 

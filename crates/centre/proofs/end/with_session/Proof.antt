@@ -1,6 +1,6 @@
 -- `with_session`: what is carried in each direction still is.
 use mathlib.Core.Path.{refl}
-use Rattle.session.specs.Course.{Direction}
+use Rattle.session.specs.Parties.{Direction}
 use Rattle.centre.proofs.end.with_session.Statement.{statement}
 use Rattle.centre.proofs.end.with_session.Tie as tie
 

@@ -2,7 +2,7 @@
 use mathlib.Core.Path.{sym, _∙_}
 use native.Mathlib.Omega.{arith}
 use borrow.Author.Tests.{eqb-true, eqb-false}
-use Rattle.codes.specs.Reply.{codeNumber}
+use Rattle.codes.specs.Code.{codeNumber}
 use Rattle.codes.proofs.Laws.Chain.{ends, goes-on}
 use borrow.Author.Needs.{needs}
 use Rattle.codes.proofs.chain.or_else.Statement.{statement}

@@ -8,7 +8,7 @@ use Rattle.codes.proofs.Laws.Chain.{applies, passes}
 use Rattle.document.specs.Entities.{entitiesGood}
 use Rattle.detail.specs.Groups.{documents}
 use Rattle.detail.specs.Codes.{receiverCode, acceptedTotals}
-use Rattle.detail.specs.Checked.{checkedCode, numbers, checked}
+use Rattle.detail.specs.Checked.{checkedCode, fourNumbers, checked}
 use Rattle.detail.proofs.checked.line_check_detail.Statement.{statement}
 use Rattle.detail.proofs.checked.line_check_detail.Tie as tie
 
@@ -31,7 +31,7 @@ returns c =
     let good = sym e ∙ c .before .before .before .if1 .taken in
     let code = read .0 ∙ sym (passes 24 (not (entitiesGood (a .own) (a .represented .now))) (receiverCode (a .own) (a .represented .now) body) (ap not good)) in
     let totals = read .1 ∙ ap (λ (n : ℕ). acceptedTotals n (documents body)) code in
-    λ i. numbers ((c .code-number .ensures ∙ code) i) (totals i)
+    λ i. fourNumbers ((c .code-number .ensures ∙ code) i) (totals i)
 
 refusal-number-requires : tie.Need-refusal-number-requires
 refusal-number-requires c κs = search needs
@@ -43,7 +43,7 @@ returns-2 c =
     let body = a .body .now in
     let bad = sym (c .before .before .entities-good .ensures) ∙ c .before .if1 .left in
     let code = sym (applies 24 (not (entitiesGood (a .own) (a .represented .now))) (receiverCode (a .own) (a .represented .now) body) (lit< tt) (ap not bad)) in
-    (λ i. numbers (c .refusal-number .ensures i) (acceptedTotals 24 (documents body))) ∙ ap (λ (n : ℕ). numbers n (acceptedTotals n (documents body))) code
+    (λ i. fourNumbers (c .refusal-number .ensures i) (acceptedTotals 24 (documents body))) ∙ ap (λ (n : ℕ). fourNumbers n (acceptedTotals n (documents body))) code
 
 pub line-check-detail-spec : {M : Type 1} → statement M
 line-check-detail-spec =

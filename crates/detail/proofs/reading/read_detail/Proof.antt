@@ -8,13 +8,12 @@ use borrow.Author.Tests.{ltb-false}
 use lib.Dec.{ltb}
 use lib.ListN.{length}
 use Rattle.packed.specs.Every.{every}
-use Rattle.codes.specs.Reply.{codeNumber}
+use Rattle.codes.specs.Code.{codeNumber}
 use Rattle.document.specs.declared.found.Found.{Found}
 use Rattle.document.specs.Inner.Found.{foundIn}
 use Rattle.codes.specs.Body.{longestBody}
 use Rattle.detail.specs.Groups.{shapeGood, groups, groupGood, documents}
-use Rattle.detail.specs.Inner.Verdict.{judged}
-use Rattle.detail.specs.Codes.{ifAccepted}
+use Rattle.detail.specs.Inner.Verdict.{judged, ifAccepted}
 use Rattle.detail.proofs.Laws.Groups.{shape-told}
 use Rattle.detail.proofs.Laws.Codes.{misshapen, mixed, shaped-judged}
 use Rattle.detail.proofs.reading.read_detail.Statement.{statement}

@@ -5,12 +5,11 @@ use Prim.Native.Nat.{ℕ}
 use native.Mathlib.Omega.{arith}
 use borrow.Author.Needs.{needs}
 use Rattle.packed.specs.Pieces.{pieces}
-use Rattle.codes.specs.Reply.{codeNumber}
+use Rattle.codes.specs.Code.{codeNumber}
 use Rattle.document.specs.Limits.{documentBytes}
 use Rattle.document.specs.declared.found.Found.{Found}
 use Rattle.document.specs.Inner.Found.{foundIn}
-use Rattle.detail.specs.Inner.Verdict.{judged}
-use Rattle.detail.specs.Codes.{ifAccepted}
+use Rattle.detail.specs.Inner.Verdict.{judged, ifAccepted}
 use Rattle.detail.proofs.Laws.Codes.{sendable-part, unsendable, sendable-judged}
 use Rattle.detail.proofs.reading.read_part.Statement.{statement}
 use Rattle.detail.proofs.reading.read_part.Tie as tie

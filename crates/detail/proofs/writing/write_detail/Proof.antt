@@ -10,7 +10,7 @@ use lib.Seq.{sets}
 use Rattle.packed.specs.Part.{part}
 use Rattle.packed.proofs.Laws.Writing.{sets-append}
 use Rattle.detail.specs.Limits.{fillBytes}
-use Rattle.detail.specs.Writing.{writtenGroup, written}
+use Rattle.detail.specs.Writing.{writtenGroup, writtenDetail}
 use Rattle.detail.proofs.Laws.Writing.{rest, rest-step, rest-end, rest-length}
 use Rattle.detail.proofs.writing.write_detail.Statement.{statement}
 use Rattle.detail.proofs.writing.write_detail.Tie as tie
@@ -18,14 +18,14 @@ use Rattle.detail.proofs.writing.write_detail.Tie as tie
 abbrev Inv-loop : tie.InvT-loop
 Inv-loop out₀ operation part to₀ at₀ out to at =
     (length out ≡ length out₀)
-    × (to + length (rest operation at part) ≡ length (written operation part))
-    × (sets out to (rest operation at part) ≡ sets out₀ 0 (written operation part))
+    × (to + length (rest operation at part) ≡ length (writtenDetail operation part))
+    × (sets out to (rest operation at part) ≡ sets out₀ 0 (writtenDetail operation part))
 
 abbrev μ-loop : tie.MeasureT-loop
 μ-loop out₀ operation part to₀ at₀ out to at = length part - at
 
 loop-holds : tie.Need-loop-holds Inv-loop μ-loop
-unfolding written
+unfolding writtenDetail
 loop-holds c = (refl, zero-add _, refl)
 
 piece-at-requires : tie.Need-piece-at-requires Inv-loop μ-loop

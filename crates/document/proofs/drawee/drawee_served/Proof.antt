@@ -4,7 +4,7 @@ use mathlib.Core.Bool.{Bool, not, _||_, or-assoc}
 use borrow.Author.Needs.{needs}
 use lib.Dec.{eqb}
 use Rattle.document.specs.Operation.{presented}
-use Rattle.document.specs.Entities.{member}
+use Rattle.packed.specs.Every.{member}
 use Rattle.document.specs.Drawee.{drawee, draweeServed}
 use Rattle.document.proofs.drawee.drawee_served.Statement.{statement}
 use Rattle.document.proofs.drawee.drawee_served.Tie as tie

@@ -8,7 +8,7 @@ use native.Mathlib.Omega.{arith}
 use borrow.Author.Needs.{needs}
 use lib.ListN.{length, drop, drop-of-length-le}
 use lib.Seq.{drop-cons}
-use Rattle.document.specs.Entities.{member}
+use Rattle.packed.specs.Every.{member}
 use Rattle.document.proofs.Laws.Entities.{member-none, member-step}
 use Rattle.document.proofs.entities.is_member.Statement.{statement}
 use Rattle.document.proofs.entities.is_member.Tie as tie

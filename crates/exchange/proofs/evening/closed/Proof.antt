@@ -2,7 +2,7 @@
 use mathlib.Core.Path.{ap, _∙_}
 use mathlib.Core.List.{[]}
 use Rattle.session.specs.Report.{report}
-use Rattle.centre.specs.Turn.{Turned}
+use Rattle.session.specs.Engine.{Performed}
 use Rattle.exchange.specs.Evening.{sideOf, closedSide}
 use borrow.Author.Needs.{needs}
 use Rattle.exchange.proofs.evening.closed.Statement.{statement}
@@ -19,7 +19,7 @@ side-of-requires c κs = search needs
 
 returns : tie.Need-returns
 unfolding closedSide
-returns c = c .side-of .ensures ∙ ap sideOf (c .before .report .ensures ∙ ap (λ (t : Turned). report (t .engine .session)) (c .before .before .before .clock-call .ensures .0 []))
+returns c = c .side-of .ensures ∙ ap sideOf (c .before .report .ensures ∙ ap (λ (t : Performed). report (t .engine .session)) (c .before .before .before .clock-call .ensures .0 []))
 
 pub closed-spec : {M : Type 1} → statement M
 closed-spec = tie.close (tie.spec clock-call-requires report-requires side-of-requires returns)

@@ -1,6 +1,6 @@
 -- `tray_code`: the number of the answer.
 use mathlib.Core.Path.{ap, sym, _∙_}
-use Rattle.outgoing.specs.Outgoing.{answerNumber}
+use Rattle.outgoing.specs.Outgoing.{checkNumber}
 use borrow.Author.Needs.{needs}
 use Rattle.exchange.proofs.evening.tray_code.Statement.{statement}
 use Rattle.exchange.proofs.evening.tray_code.Tie as tie
@@ -18,10 +18,10 @@ refusal-number-requires : tie.Need-refusal-number-requires
 refusal-number-requires c κs = search needs
 
 returns : tie.Need-returns
-returns c = sym (ap answerNumber (c .enum-told .given .1)) ∙ c .before .before .check .ensures
+returns c = sym (ap checkNumber (c .enum-told .given .1)) ∙ c .before .before .check .ensures
 
 returns-2 : tie.Need-returns-2
-returns-2 c = c .refusal-number .ensures ∙ sym (ap answerNumber (c .before .before .answer .given .1)) ∙ c .before .before .before .before .check .ensures
+returns-2 c = c .refusal-number .ensures ∙ sym (ap checkNumber (c .before .before .answer .given .1)) ∙ c .before .before .before .before .check .ensures
 
 pub tray-code-spec : {M : Type 1} → statement M
 tray-code-spec =

@@ -1,5 +1,5 @@
 -- `send_part`: the round and the cursors, put together.
-use Rattle.exchange.specs.Cursors.{documentsOf}
+use Rattle.document.specs.Part.{countIn}
 use Rattle.exchange.specs.Course.{standingOf}
 use Rattle.exchange.proofs.Laws.Cursors.{past-within}
 use Rattle.exchange.proofs.Laws.Course.{part-sent}
@@ -34,7 +34,7 @@ returns c =
     let a = s .args in
     let made = c .before .before .before .before .before .before .one-more .ensures in (
       part-sent (a .presentations .now) (a .part .now) (standingOf (a .p) (a .message .now) (a .reply .now)) _ _ _ _ _ (c .before .before .before .before .before .before .before .before .before .operation .ensures) (c .before .before .before .before .before .before .before .before .before .before .documents-in .ensures) (made .0) (c .before .documents-in2 .ensures) (c .past-part .ensures),
-      record { ready = made .1; good = past-within (a .presentations .now) (a .returns .now) (a .p .cursors) (s .pre .0 .good) (documentsOf (a .part .now)) (c .before .before .before .before .before .before .before .before .before .before .documents-in .result) (c .before .documents-in2 .result) _ (s .pre .1) (c .past-part .ensures) },
+      record { ready = made .1; good = past-within (a .presentations .now) (a .returns .now) (a .p .cursors) (s .pre .0 .good) (countIn (a .part .now)) (c .before .before .before .before .before .before .before .before .before .before .documents-in .result) (c .before .documents-in2 .result) _ (s .pre .1) (c .past-part .ensures) },
     )
 
 pub send-part-spec : {M : Type 1} → statement M

@@ -3,12 +3,7 @@
 use denote.Builtin.{unit}
 use denote.Signature.{plain}
 use Rattle.session.specs.Reply.{presentingCourse}
-use Rattle.lent.proofs.InPlace.{ℕ, Bool, _≡_, refl, List, [], _∷_, URA, named, Val, vunit, vptr, SProp, ent, emp, id⊢, GName, Lft, Share, ftrue, flft, Memory, Routine, Heap}
-use Rattle.lent.proofs.InPlace.{Calls, Loops, WpFn, Atoms, Fun, givenOf, FmC, Given, ‵, raw, _⊛_, ⋆, _$_, _∵_, !, qed, by, move, keep, drop, use0, split, join, fsplit}
-use Rattle.lent.proofs.InPlace.{fsplit3, fjoin, feqI, suffices, frame, done, look, init, unit-lit, of-opd, and-then, no-more, returns, enter, alloc1, alloc0, params1, pass1}
-use Rattle.lent.proofs.InPlace.{pass0, free0, owns, Is, RefT, MutRef, only, nothing, Contract, Triple, onEntry, tripleOf, cited, says, walkOf, ends-at, Session, Running}
-use Rattle.lent.proofs.InPlace.{Direction, Sound, Carried, session, totals, truth, typed, Param, by-value, lent, stays, premise, Lent, has, settled, promised, gone, here}
-use Rattle.lent.proofs.InPlace.{hears, sets, into, reads, writes, asks, concluded}
+use Rattle.lent.proofs.InPlace.{ℕ, Bool, _≡_, refl, List, [], _∷_, URA, named, Val, vunit, vptr, SProp, ent, emp, id⊢, GName, Lft, Share, ftrue, flft, Memory, Routine, Heap, Calls, Loops, WpFn, Atoms, Fun, givenOf, FmC, Given, ‵, raw, _⊛_, ⋆, _$_, _∵_, !, qed, by, move, keep, drop, use0, split, join, fsplit, fsplit3, fjoin, feqI, suffices, frame, done, look, init, unit-lit, of-opd, and-then, no-more, returns, enter, alloc1, alloc0, params1, pass1, pass0, free0, owns, Is, RefT, MutRef, only, nothing, Contract, Triple, onEntry, tripleOf, cited, says, walkOf, ends-at, Session, Running, Direction, Sound, Carried, session, totals, truth, typed, Param, by-value, lent, stays, premise, Lent, has, settled, promised, gone, here, hears, sets, into, reads, writes, asks, concluded}
 use Rattle.lent.proofs.adding.with_accepted as step
 use Rattle.lent.proofs.adding.with_accepted.Symbol as step-def
 use Rattle.lent.proofs.adding.with_accepted.Symbol.{name as #step}

@@ -4,13 +4,7 @@ use mir.Val.{vstruct, vnil, vcons}
 use types.Run.{fld}
 use denote.Signature.{plain}
 use Rattle.receiving.specs.declared.receive.ReceiveOutcome.{ReceiveOutcome}
-use Rattle.lent.proofs.InPlace.{u8, ℕ, _≡_, refl, List, [], _∷_, length, URA, fullShare, named, Val, vptr, SProp, ent, id⊢, GName, Lft, Share, ftrue, flft, Memory, Routine}
-use Rattle.lent.proofs.InPlace.{Heap, Calls, Loops, WpFn, Atoms, Fun, givenOf, FmC, Given, Item, ‵, raw, _⊛_, ⋆, _$_, _∵_, !, qed, by, move, keep, drop, group, use1, split3}
-use Rattle.lent.proofs.InPlace.{join, fsplit, fjoin, feqL, suffices, frame, done, look, init, stop, hop, from, load, addr, of-opd, and-then, no-more, returns, enter, alloc1}
-use Rattle.lent.proofs.InPlace.{alloc0, params1, pass1, pass0, free0, agg, whole, sub, look-in, owns, Is, RefT, MutRef, sliceVal, slice-vals, ShrSlice, MutSlice, finally}
-use Rattle.lent.proofs.InPlace.{shr-slice-lawful, mut-slice-lawful, only, nothing, Contract, Triple, onEntry, tripleOf, cited, says, walkOf, ends-at, Session, Running}
-use Rattle.lent.proofs.InPlace.{Direction, Sound, Carried, Received, session, totals, number, received, outcome, typed, Param, by-value, shared, lent-on, stays, premise}
-use Rattle.lent.proofs.InPlace.{ReceivedSo, has, lends, takes-back, promised, gone, here, hears, sets, into, asks, concluded}
+use Rattle.lent.proofs.InPlace.{u8, ℕ, _≡_, refl, List, [], _∷_, length, URA, fullShare, named, Val, vptr, SProp, ent, id⊢, GName, Lft, Share, ftrue, flft, Memory, Routine, Heap, Calls, Loops, WpFn, Atoms, Fun, givenOf, FmC, Given, Item, ‵, raw, _⊛_, ⋆, _$_, _∵_, !, qed, by, move, keep, drop, group, use1, split3, join, fsplit, fjoin, feqL, suffices, frame, done, look, init, stop, hop, from, load, addr, of-opd, and-then, no-more, returns, enter, alloc1, alloc0, params1, pass1, pass0, free0, agg, whole, sub, look-in, owns, Is, RefT, MutRef, sliceVal, slice-vals, ShrSlice, MutSlice, finally, shr-slice-lawful, mut-slice-lawful, only, nothing, Contract, Triple, onEntry, tripleOf, cited, says, walkOf, ends-at, Session, Running, Direction, Sound, Carried, Received, session, totals, number, received, outcome, typed, Param, by-value, shared, lent-on, stays, premise, ReceivedSo, has, lends, takes-back, promised, gone, here, hears, sets, into, asks, concluded}
 use Rattle.lent.proofs.receive.receive as step
 use Rattle.lent.proofs.receive.receive.Symbol as step-def
 use Rattle.lent.proofs.receive.receive.Symbol.{name as #step}

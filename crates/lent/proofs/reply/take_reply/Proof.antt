@@ -7,7 +7,8 @@ use denote.Struct.Laws as LL
 use Rattle.session.specs.Reply.{takeReply}
 use Rattle.session.specs.Premise.{KeptBeside}
 use Rattle.calls.specs.declared.called.Called.{Called}
-use Rattle.calls.specs.Said.{held, calledSaid}
+use Rattle.session.specs.Outcome.{held}
+use Rattle.calls.specs.Said.{calledSaid}
 use Rattle.calls.proofs.called.Called as R
 use Rattle.calls.proofs.called.Called.Laws as R′
 use Rattle.presenting.proofs.reply.ReplyOutcome as O
@@ -16,12 +17,7 @@ use Rattle.presenting.proofs.reply.take_reply as step
 use Rattle.presenting.proofs.reply.take_reply.Symbol as step-def
 use Rattle.presenting.proofs.reply.take_reply.Symbol.{name as #step}
 use Rattle.presenting.proofs.reply.take_reply.Met as step-thm
-use Rattle.lent.proofs.InPlace.{u8, ℕ, _≡_, refl, ap, List, [], _∷_, URA, named, Val, vptr, SProp, ent, id⊢, GName, Lft, Share, ftrue, flft, Memory, Routine, Heap, Calls}
-use Rattle.lent.proofs.InPlace.{Loops, WpFn, Atoms, Fun, givenOf, FmC, Given, ‵, raw, _⊛_, ⋆, _$_, _∵_, !, qed, by, move, keep, drop, group, use1, split, split3, join}
-use Rattle.lent.proofs.InPlace.{fsplit, fsplit3, fjoin, suffices, frame, done, look, init, and-then, no-more, returns, enter, alloc1, alloc0, params1, pass1, pass0, free0}
-use Rattle.lent.proofs.InPlace.{owns, Is, RefT, MutRef, slice-vals, ShrSlice, shr-slice-lawful, only, nothing, Contract, Triple, onEntry, tripleOf, cited, says, walkOf}
-use Rattle.lent.proofs.InPlace.{ends-at, Session, Running, Direction, Sound, Carried, Plain, declared, session, totals, number, typed, Param, by-value, lent, shared, stays}
-use Rattle.lent.proofs.InPlace.{all-said, premise, Lent, has, settled, promised, gone, here, apart, hears, into, reads, asks, gives, concluded}
+use Rattle.lent.proofs.InPlace.{u8, ℕ, _≡_, refl, ap, List, [], _∷_, URA, named, Val, vptr, SProp, ent, id⊢, GName, Lft, Share, ftrue, flft, Memory, Routine, Heap, Calls, Loops, WpFn, Atoms, Fun, givenOf, FmC, Given, ‵, raw, _⊛_, ⋆, _$_, _∵_, !, qed, by, move, keep, drop, group, use1, split, split3, join, fsplit, fsplit3, fjoin, suffices, frame, done, look, init, and-then, no-more, returns, enter, alloc1, alloc0, params1, pass1, pass0, free0, owns, Is, RefT, MutRef, slice-vals, ShrSlice, shr-slice-lawful, only, nothing, Contract, Triple, onEntry, tripleOf, cited, says, walkOf, ends-at, Session, Running, Direction, Sound, Carried, Plain, declared, session, totals, number, typed, Param, by-value, lent, shared, stays, all-said, premise, Lent, has, settled, promised, gone, here, apart, hears, into, reads, asks, gives, concluded}
 use Rattle.lent.proofs.reply.take_reply.Key.{name as #take}
 use Rattle.lent.proofs.reply.take_reply as take
 use Rattle.lent.proofs.reply.take_reply.Statement as stated

@@ -12,14 +12,8 @@ enum-told c = search needs
 add-result : tie.Need-add-result
 add-result c = search needs
 
-add-result-2 : tie.Need-add-result-2
-add-result-2 c = search needs
-
 enum-told-2 : tie.Need-enum-told-2
 enum-told-2 c = search needs
-
-add-result-3 : tie.Need-add-result-3
-add-result-3 c = search needs
 
 returns : tie.Need-returns
 returns c = ap (λ (k : Kind). lengthGood k (c .before .before .args .n)) (sym (c .enum-told .given .1))
@@ -30,4 +24,4 @@ returns-2 c = ap (λ (k : Kind). lengthGood k (c .before .before .args .n)) (sym
 pub length-good-spec : {M : Type 1} → statement M
 length-good-spec =
     tie.close
-    (tie.spec enum-told add-result add-result-2 enum-told-2 add-result-3 returns returns-2)
+    (tie.spec enum-told add-result enum-told-2 returns returns-2)

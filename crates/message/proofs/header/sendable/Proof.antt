@@ -2,7 +2,7 @@
 use mathlib.Core.Bool.{_&&_}
 use borrow.Author.Needs.{needs}
 use lib.Dec.{leb}
-use Rattle.message.specs.Limits.{largestNumber}
+use Rattle.message.specs.Limits.{largestOrderNumber}
 use Rattle.message.specs.Header.{sendable}
 use Rattle.message.proofs.header.sendable.Statement.{statement}
 use Rattle.message.proofs.header.sendable.Tie as tie
@@ -15,7 +15,7 @@ order-number-requires c κs = search needs
 
 returns : tie.Need-returns
 unfolding sendable
-returns c = λ i. c .before .time-of-day .ensures i && leb (c .before .before .args .centre) largestNumber && c .order-number .ensures i
+returns c = λ i. c .before .time-of-day .ensures i && leb (c .before .before .args .centre) largestOrderNumber && c .order-number .ensures i
 
 pub sendable-spec : {M : Type 1} → statement M
 sendable-spec = tie.close (tie.spec time-of-day-requires order-number-requires returns)

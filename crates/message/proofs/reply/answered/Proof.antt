@@ -6,7 +6,7 @@ use borrow.Author.Needs.{needs}
 use borrow.Author.Tests.{ne-eqb}
 use lib.Dec.{eqb}
 use Rattle.codes.specs.Chain.{_when_}
-use Rattle.codes.specs.Reply.{codeNumber}
+use Rattle.codes.specs.Code.{codeNumber}
 use Rattle.message.specs.declared.reply.Operation.{Operation}
 use Rattle.message.specs.Reply.{operationByte}
 use Rattle.message.proofs.Laws.Reply.{said-operation}

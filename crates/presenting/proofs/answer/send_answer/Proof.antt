@@ -5,7 +5,7 @@ use native.Mathlib.Omega.{arith}
 use borrow.Author.Tests.{ne-eqb}
 use Rattle.codes.specs.Chain.{_when_, _orelse_}
 use Rattle.codes.specs.Refusal.{refusalNumber}
-use Rattle.codes.specs.Reply.{codeNumber}
+use Rattle.codes.specs.Code.{codeNumber}
 use Rattle.codes.proofs.Laws.Chain.{ends, goes-on}
 use Rattle.codes.proofs.Laws.Refusal.{never-none}
 use Rattle.session.specs.Outcome.{answerNumber, noRoom}

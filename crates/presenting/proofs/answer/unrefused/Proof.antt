@@ -4,7 +4,7 @@ use mathlib.Core.Bool.{Bool, cond}
 use native.Mathlib.Omega.{arith}
 use borrow.Author.Tests.{lt-ltb, le-ltb, eqb-true, eqb-false}
 use Rattle.codes.specs.Chain.{_when_}
-use Rattle.codes.specs.Reply.{codeNumber}
+use Rattle.codes.specs.Code.{codeNumber}
 use Rattle.codes.proofs.Laws.Chain.{ends, goes-on}
 use Rattle.session.specs.Outcome.{noRoom}
 use borrow.Author.Needs.{needs}

@@ -8,10 +8,10 @@ use Rattle.packed.specs.Part.{byteAt}
 use Rattle.packed.specs.Number.{byteValue}
 use Rattle.codes.specs.Chain.{_when_}
 use Rattle.codes.specs.Body.{operationOf}
-use Rattle.codes.specs.Reply.{codeNumber}
+use Rattle.codes.specs.Code.{codeNumber}
 use Rattle.codes.specs.declared.refusal.Refusal.{Refusal}
 use Rattle.codes.proofs.Laws.Chain.{applies}
-use Rattle.codes.proofs.Laws.Reply.{code-value}
+use Rattle.codes.proofs.Laws.Code.{code-value}
 use Rattle.message.specs.Reply.{operationNumber, replyGood, replySaid}
 use Rattle.message.proofs.Laws.Reading.{told}
 use Rattle.message.proofs.Laws.Reply.{read-told, unknown-told}

@@ -4,7 +4,7 @@ use mathlib.Core.Bool.{true, _||_}
 use mathlib.Core.List.{List}
 use Prim.Native.Nat.{ℕ}
 use Rattle.session.specs.declared.effect.Effect.{Effect}
-use Rattle.calls.specs.Said.{held}
+use Rattle.session.specs.Outcome.{held}
 use borrow.Author.Needs.{needs}
 use Rattle.presenting.proofs.reply.replied.Statement.{statement}
 use Rattle.presenting.proofs.reply.replied.Tie as tie

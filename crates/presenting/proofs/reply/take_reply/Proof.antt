@@ -11,13 +11,14 @@ use Rattle.message.specs.declared.route.Route.{Route}
 use Rattle.message.specs.Route.{sameRoute}
 use Rattle.message.specs.Envelope.{serialOf, envelopeOf, envelopeGood, bodyOf}
 use Rattle.message.specs.Reply.{replyGood}
-use Rattle.session.specs.Course.{Direction}
-use Rattle.session.specs.Outcome.{answerNumber, timeRefusal, silent}
+use Rattle.session.specs.Parties.{Direction}
+use Rattle.session.specs.Outcome.{answerNumber, silent, held}
+use Rattle.session.specs.Time.{timeRefusal}
 use Rattle.session.specs.Reply.{isAwaited, isAccepted, replyRefusal, replied, takeReply}
 use Rattle.session.specs.Engine.{Call, meaning}
 use Rattle.session.proofs.Laws.EveryCall.{kept-beside}
 use Rattle.calls.specs.Inner.Arrival.{Told}
-use Rattle.calls.specs.Said.{held, calledSaid}
+use Rattle.calls.specs.Said.{calledSaid}
 use Rattle.calls.proofs.Laws.Said.{said-done, said-refused, so-kept-beside}
 use borrow.Author.Needs.{needs}
 use Rattle.presenting.proofs.reply.take_reply.Statement.{statement}

@@ -10,19 +10,18 @@ use Rattle.packed.proofs.Laws.Part.{part-tail}
 use Rattle.packed.specs.Writing.{packedByte}
 use Rattle.codes.proofs.Laws.Chain.{none-both}
 use Rattle.detail.specs.Codes.{presenterCode}
-use Rattle.detail.specs.Writing.{written}
+use Rattle.detail.specs.Writing.{writtenDetail}
 use Rattle.detail.proofs.Laws.Codes.{sendable-part, accepted-part}
 use Rattle.message.specs.declared.envelope.Kind.{Kind}
 use Rattle.message.specs.Limits.{envelopeBytes}
 use Rattle.message.proofs.Laws.Envelope.{whole-length}
 use Rattle.session.specs.declared.effect.Effect.{Effect}
 use Rattle.session.specs.Running.{Running}
-use Rattle.session.specs.Course.{Direction}
-use Rattle.session.specs.Outcome.{Outcome}
+use Rattle.session.specs.Parties.{Direction}
+use Rattle.session.specs.Outcome.{Outcome, held}
 use Rattle.session.specs.Sending.{partAdds, nextEnvelope, detailStop, sendRefusal, sent, sendDetail}
 use Rattle.session.specs.Engine.{Call, meaning}
 use Rattle.session.proofs.Laws.EveryCall.{kept-beside}
-use Rattle.calls.specs.Said.{held}
 use Rattle.calls.proofs.Laws.Said.{so-kept-beside}
 use Rattle.presenting.specs.declared.answer.SendOutcome.{SendOutcome}
 use Rattle.presenting.specs.Said.{sendNumber, sendSaid}
@@ -48,7 +47,7 @@ send-number-requires c κs = search needs
 
 -- the answer is there
 abbrev body : tie.After-send-number → List ℕ
-body k = let a = k .before .before .before .before .before .before .before .before .args in written (packedByte (a .operation)) (a .part .now)
+body k = let a = k .before .before .before .before .before .before .before .before .args in writtenDetail (packedByte (a .operation)) (a .part .now)
 
 abbrev code : tie.After-send-number → ℕ
 code k = let a = k .before .before .before .before .before .before .before .before .args in detailStop (a .operation) (a .session .parties .partner) (a .part .now) (a .running) (a .session .presenting)
@@ -108,7 +107,7 @@ write-detail-requires c κs =
     let first = c .before .before .before .before .post .last .1 .1 .1 .0 in
     let tail = ap length (part-tail envelopeBytes first) ∙ length-drop envelopeBytes first in
     let t = c .before .before .before .before .before .before in
-    let same = ap (λ (o : ℕ). length (written o (t .before .before .before .before .before .before .before .before .before .args .part .now))) (c .packed-byte .ensures) in
+    let same = ap (λ (o : ℕ). length (writtenDetail o (t .before .before .before .before .before .before .before .before .before .args .part .now))) (c .packed-byte .ensures) in
     omega (arith, fits t, c .before .before .before .before .post .kept .1 .1 .1 .0, tail, same)
 
 outcome-requires : tie.Need-outcome-requires
@@ -128,7 +127,7 @@ returns c =
     let writing = c .before .before .before .write-detail in
     let answer = k .before .send-answer .result in
     let next = posting .ensures .0 ∙ ap (λ (x : Running). sent (a .time) (Effect.Detail x) (a .session)) (k .before .before .before .before .detail-stop .ensures .1 (k .before .before .before .before .detail-stop .ensures .0 ∙ unstopped (a .time) (code k) (effect k) (body k) (a .session) (a .running) (a .line .now) answer (answered k) (none t))) in
-    let tail = writing .ensures .1 ∙ ap (λ (o : ℕ). sets (midOf envelopeBytes (length first - envelopeBytes) first) 0 (written o (a .part .now))) (c .before .before .before .before .packed-byte .ensures) in
+    let tail = writing .ensures .1 ∙ ap (λ (o : ℕ). sets (midOf envelopeBytes (length first - envelopeBytes) first) 0 (writtenDetail o (a .part .now))) (c .before .before .before .before .packed-byte .ensures) in
     let after = putMid envelopeBytes (length first - envelopeBytes) first (writing .last .0) in
     let whole : sendSaid (c .outcome .result) (a .running) after ≡ meant k = ap (λ (x : SendOutcome). sendSaid x (a .running) after) (c .outcome .ensures) ∙ posted-so (a .time) (code k) (effect k) (body k) (a .session) (a .running) (a .line .now) answer (answered k) (none t) (posting .result) first (writing .last .0) next (posting .ensures .1) tail in
     (whole, so-kept-beside (a .session) _ _ whole Direction.presenting (kept-beside (Call.detail (a .time) (a .operation) (a .part .now)) (held (a .session) (a .running) (a .line .now)) (record { sound = k .before .before .before .before .before .before .before .before .pre .0; carried = k .before .before .before .before .before .before .before .before .pre .1 })))

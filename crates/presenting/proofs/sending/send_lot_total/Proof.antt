@@ -11,14 +11,12 @@ use Rattle.message.specs.Limits.{lotTotalBytes, envelopeBytes}
 use Rattle.message.specs.Line.{Body, bodyBytes}
 use Rattle.message.proofs.Laws.Line.{body-length}
 use Rattle.session.specs.declared.effect.Effect.{Effect}
-use Rattle.session.specs.Parties.{presentingRoute}
+use Rattle.session.specs.Parties.{presentingRoute, Direction}
 use Rattle.session.specs.Running.{stated}
-use Rattle.session.specs.Course.{Direction}
-use Rattle.session.specs.Outcome.{Outcome}
+use Rattle.session.specs.Outcome.{Outcome, held}
 use Rattle.session.specs.Sending.{openNumber, endingLot, lotTotalStop, sendRefusal, sent, sendLotTotal}
 use Rattle.session.specs.Engine.{Call, meaning}
 use Rattle.session.proofs.Laws.EveryCall.{kept-beside}
-use Rattle.calls.specs.Said.{held}
 use Rattle.calls.proofs.Laws.Said.{so-kept-beside}
 use Rattle.presenting.specs.declared.answer.SendOutcome.{SendOutcome}
 use Rattle.presenting.specs.Said.{sendNumber, sendSaid}

@@ -14,10 +14,9 @@ use Rattle.amounts.specs.declared.Totals.{Totals}
 use Rattle.session.specs.declared.effect.Effect.{Effect}
 use Rattle.session.specs.Parties.{presentingRoute}
 use Rattle.session.specs.Running.{Running, empty, stated}
-use Rattle.session.specs.Outcome.{Outcome}
+use Rattle.session.specs.Outcome.{Outcome, held}
 use Rattle.session.specs.Sending.{sessionTotalStop, sendRefusal, sendSessionTotal}
 use Rattle.session.proofs.Laws.EveryCall.{session-total-kept}
-use Rattle.calls.specs.Said.{held}
 use Rattle.calls.proofs.Laws.Said.{so-kept}
 use Rattle.presenting.specs.declared.answer.SendOutcome.{SendOutcome}
 use Rattle.presenting.specs.Said.{sendNumber, sendSaid}

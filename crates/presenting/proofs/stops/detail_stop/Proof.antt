@@ -2,7 +2,7 @@
 use mathlib.Core.Path.{ap, _∙_}
 use Prim.Native.Nat.{ℕ, _+_}
 use Rattle.codes.specs.Chain.{_when_, _orelse_}
-use Rattle.codes.specs.Reply.{codeNumber}
+use Rattle.codes.specs.Code.{codeNumber}
 use Rattle.session.specs.Limits.{passesLot}
 use Rattle.session.specs.Running.{documentsIn}
 use Rattle.session.specs.Sequence.{lotSequence}

@@ -5,7 +5,7 @@ use Prim.Native.Nat.{ℕ, suc, _+_}
 use native.Mathlib.Omega.{arith}
 use lib.Dec.{eqb}
 use Rattle.codes.specs.Chain.{_when_, _orelse_}
-use Rattle.message.specs.Limits.{envelopeBytes, replyBytes}
+use Rattle.message.specs.Limits.{replyRoom}
 use Rattle.message.specs.Route.{sameRoute}
 use Rattle.session.specs.Outcome.{noRoom}
 use borrow.Author.Needs.{needs}
@@ -24,9 +24,6 @@ refused-when-requires c κs = search needs
 refused-when-requires-2 : tie.Need-refused-when-requires-2
 refused-when-requires-2 c κs = search needs
 
-add-refused-when : tie.Need-add-refused-when
-add-refused-when c = search needs
-
 refused-when-requires-3 : tie.Need-refused-when-requires-3
 refused-when-requires-3 c κs = search needs
 
@@ -43,7 +40,7 @@ returns c =
     let one-more : a .last + 1 ≡ suc (a .last) = omega arith in
     let way = k .refused-when .ensures ∙ ap (λ (b : Bool). 33 when not b) (k .before .same-route .ensures) in
     let serial = c .before .before .before .refused-when2 .ensures ∙ ap (λ (n : ℕ). 35 when not (eqb (a .e .serial) (a .last) || eqb (a .e .serial) n)) one-more in
-    record { number = c .or-refused2 .ensures ∙ (λ i. way i orelse (c .before .or-refused .ensures ∙ λ j. serial j orelse c .before .before .refused-when3 .ensures j) i); finding = λ (z : (33 when not (sameRoute (a .e .route) (a .route)) orelse 35 when not (eqb (a .e .serial) (a .last) || eqb (a .e .serial) (suc (a .last))) orelse 23 when noRoom (envelopeBytes + replyBytes) (a .room)) ≡ 0). ap (eqb (a .e .serial)) one-more }
+    record { number = c .or-refused2 .ensures ∙ (λ i. way i orelse (c .before .or-refused .ensures ∙ λ j. serial j orelse c .before .before .refused-when3 .ensures j) i); finding = λ (z : (33 when not (sameRoute (a .e .route) (a .route)) orelse 35 when not (eqb (a .e .serial) (a .last) || eqb (a .e .serial) (suc (a .last))) orelse 23 when noRoom replyRoom (a .room)) ≡ 0). ap (eqb (a .e .serial)) one-more }
 
 pub by-envelope-spec : {M : Type 1} → statement M
 by-envelope-spec =
@@ -53,7 +50,6 @@ by-envelope-spec =
     same-route-requires
     refused-when-requires
     refused-when-requires-2
-    add-refused-when
     refused-when-requires-3
     or-refused-requires
     or-refused-requires-2

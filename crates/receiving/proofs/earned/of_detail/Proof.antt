@@ -5,14 +5,14 @@ use native.Mathlib.Omega.{arith}
 use lib.ListN.{length, length-take}
 use Rattle.codes.specs.Chain.{_when_, _orelse_}
 use Rattle.codes.specs.Body.{operationOf}
-use Rattle.codes.specs.Reply.{codeNumber}
+use Rattle.codes.specs.Code.{codeNumber}
 use Rattle.document.specs.Limits.{mostRepresented}
 use Rattle.detail.specs.Groups.{documents}
 use Rattle.session.specs.declared.effect.Effect.{Effect}
 use Rattle.session.specs.Limits.{passesLot}
 use Rattle.session.specs.Running.{detailAdds, documentsIn}
 use Rattle.session.specs.Sequence.{lotSequence}
-use Rattle.session.specs.Receiving.{detailCode, codeBy, effectBy}
+use Rattle.session.specs.Receiving.{detailCode, receivedCode, receivedEffect}
 use Rattle.calls.proofs.Laws.Detail.{detail-chain, detail-adds}
 use Rattle.receiving.proofs.Laws.Earned.{stands-if}
 use borrow.Author.Needs.{needs}
@@ -32,7 +32,7 @@ detail-code-requires : tie.Need-detail-code-requires
 detail-code-requires c κs = search needs
 
 returns : tie.Need-returns
-unfolding codeBy detailCode effectBy
+unfolding receivedCode detailCode receivedEffect
 returns c =
     let t = c .before .before in
     let a = t .before .before .before .before .before .args in

@@ -4,7 +4,7 @@ use mathlib.Core.Bool.{Bool}
 use Prim.Native.Nat.{ℕ}
 use native.Mathlib.Omega.{arith}
 use Rattle.codes.specs.Chain.{_when_, _orelse_}
-use Rattle.codes.specs.Reply.{codeNumber}
+use Rattle.codes.specs.Code.{codeNumber}
 use Rattle.codes.specs.Field.{tableNumbers}
 use Rattle.codes.proofs.Laws.Chain.{goes-on}
 use Rattle.message.specs.declared.header.Header.{Header}
@@ -19,7 +19,7 @@ use Rattle.session.specs.Limits.{lotsUsed}
 use Rattle.session.specs.Hours.{receiverLate}
 use Rattle.session.specs.Parties.{receivingRoute}
 use Rattle.session.specs.Sequence.{headerSequence}
-use Rattle.session.specs.Receiving.{acceptedLots, numberUsed, headerCode, codeBy, effectBy}
+use Rattle.session.specs.Receiving.{acceptedLots, numberUsed, headerCode, receivedCode, receivedEffect}
 use Rattle.receiving.proofs.Laws.Earned.{stands-if, wrong-ends}
 use borrow.Author.Needs.{needs}
 use Rattle.receiving.proofs.earned.of_header.Statement.{statement}
@@ -71,7 +71,7 @@ enum-told : tie.Need-enum-told
 enum-told c = search needs
 
 returns : tie.Need-returns
-unfolding codeBy headerCode effectBy
+unfolding receivedCode headerCode receivedEffect
 returns c =
     let n = c .before .before .before .before .before in
     let q = n .before .before .before .before .before in
@@ -95,7 +95,7 @@ returns c =
     record { code = chain ∙ ap late same ∙ sym (goes-on (bodyCode (header route) body) (late (headerOf body)) good); effect = stands-if (codeNumber (c .or-else3 .result)) (Effect.Header (h .number)) (Effect.Header (headerOf body .number)) (λ (e : codeNumber (c .or-else3 .result) ≡ 0). ap (λ (x : Header). Effect.Header (x .number)) same) refl }
 
 returns-2 : tie.Need-returns-2
-unfolding codeBy headerCode effectBy
+unfolding receivedCode headerCode receivedEffect
 returns-2 c =
     let t = c .before .before in
     let a = t .before .before .before .args in

@@ -3,7 +3,7 @@ use mathlib.Core.Path.{_≡_, refl, ap, sym, _∙_}
 use mathlib.Core.Bool.{Bool, not}
 use Prim.Native.Nat.{ℕ}
 use Rattle.codes.specs.Chain.{_when_, _orelse_}
-use Rattle.codes.specs.Reply.{codeNumber}
+use Rattle.codes.specs.Code.{codeNumber}
 use Rattle.codes.specs.Field.{tableNumbers}
 use Rattle.codes.proofs.Laws.Chain.{goes-on}
 use Rattle.amounts.specs.declared.Totals.{Totals}
@@ -16,7 +16,7 @@ use Rattle.message.proofs.Laws.Total.{read-told}
 use Rattle.session.specs.declared.effect.Effect.{Effect}
 use Rattle.session.specs.Running.{stated}
 use Rattle.session.specs.Sequence.{lotTotalSequence}
-use Rattle.session.specs.Receiving.{acceptedLots, totalsUsed, lotTotalCode, codeBy, effectBy}
+use Rattle.session.specs.Receiving.{acceptedLots, totalsUsed, lotTotalCode, receivedCode, receivedEffect}
 use Rattle.receiving.proofs.Laws.Earned.{stands-if, wrong-read, wrong-ends}
 use borrow.Author.Needs.{needs}
 use Rattle.receiving.proofs.earned.of_lot_total.Statement.{statement}
@@ -56,7 +56,7 @@ enum-known-code : tie.Need-enum-known-code
 enum-known-code c = search needs
 
 returns : tie.Need-returns
-unfolding codeBy lotTotalCode effectBy
+unfolding receivedCode lotTotalCode receivedEffect
 returns c =
     let m = c .before .before .before .before .before .before .before .before .before .before .before .before in
     let t = m .before .before in
@@ -76,7 +76,7 @@ returns c =
     record { code = chain ∙ ap late same-total ∙ sym (goes-on (bodyCode lotTotal body) (late (totalOf lotTotalFields body)) good); effect = stands-if code (Effect.LotTotal (record { number = x .number; gathered = a .running })) (Effect.LotTotal (record { number = totalOf lotTotalFields body .number; gathered = a .running })) (λ (e : code ≡ 0). ap (λ (y : Total). Effect.LotTotal (record { number = y .number; gathered = a .running })) same-total) refl }
 
 returns-2 : tie.Need-returns-2
-unfolding codeBy lotTotalCode effectBy lotTotalFields
+unfolding receivedCode lotTotalCode receivedEffect lotTotalFields
 returns-2 c =
     let t = c .before .before .before in
     let a = t .before .before .args in

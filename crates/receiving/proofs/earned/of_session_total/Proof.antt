@@ -4,7 +4,7 @@ use mathlib.Core.Bool.{Bool, not, _&&_}
 use Prim.Native.Nat.{ℕ}
 use lib.Dec.{eqb}
 use Rattle.codes.specs.Chain.{_when_, _orelse_}
-use Rattle.codes.specs.Reply.{codeNumber}
+use Rattle.codes.specs.Code.{codeNumber}
 use Rattle.codes.specs.Field.{tableNumbers}
 use Rattle.codes.proofs.Laws.Chain.{goes-on}
 use Rattle.amounts.specs.declared.Totals.{Totals}
@@ -17,7 +17,7 @@ use Rattle.message.proofs.Laws.Total.{read-told}
 use Rattle.session.specs.declared.effect.Effect.{Effect}
 use Rattle.session.specs.Running.{stated}
 use Rattle.session.specs.Sequence.{sessionTotalSequence}
-use Rattle.session.specs.Receiving.{sessionTotalCode, codeBy, effectBy}
+use Rattle.session.specs.Receiving.{sessionTotalCode, receivedCode, receivedEffect}
 use Rattle.receiving.proofs.Laws.Earned.{stands-if, wrong-read, wrong-ends}
 use borrow.Author.Needs.{needs}
 use Rattle.receiving.proofs.earned.of_session_total.Statement.{statement}
@@ -51,7 +51,7 @@ enum-known-code : tie.Need-enum-known-code
 enum-known-code c = search needs
 
 returns : tie.Need-returns
-unfolding codeBy sessionTotalCode effectBy
+unfolding receivedCode sessionTotalCode receivedEffect
 returns c =
     let m = c .before .before .before .before .before .before .before .before .before .before .before in
     let t = m .before .before in
@@ -69,7 +69,7 @@ returns c =
     record { code = chain ∙ ap late same-total ∙ sym (goes-on (bodyCode sessionTotal body) (late (totalOf sessionTotalFields body)) good); effect = stands-if code (Effect.SessionTotal) (Effect.SessionTotal) (λ (e : code ≡ 0). ap (λ (y : Total). Effect.SessionTotal) same-total) refl }
 
 returns-2 : tie.Need-returns-2
-unfolding codeBy sessionTotalCode effectBy sessionTotalFields
+unfolding receivedCode sessionTotalCode receivedEffect sessionTotalFields
 returns-2 c =
     let t = c .before .before .before in
     let a = t .before .before .args in

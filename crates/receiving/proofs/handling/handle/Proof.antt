@@ -4,14 +4,14 @@ use mathlib.Core.Bool.{Bool, _||_}
 use Prim.Native.Nat.{ℕ, suc, _+_}
 use native.Mathlib.Omega.{arith}
 use lib.Dec.{eqb}
-use Rattle.codes.specs.Reply.{codeNumber, codeOf}
-use Rattle.codes.proofs.Laws.Reply.{number-told}
+use Rattle.codes.specs.Code.{codeNumber, codeNumbered}
+use Rattle.codes.proofs.Laws.Code.{number-told}
 use Rattle.message.specs.declared.content.Content.{Content}
 use Rattle.message.specs.Content.{contentOf}
 use Rattle.message.specs.Reply.{replyOperation}
 use Rattle.session.specs.declared.counters.Course.{Course}
 use Rattle.session.specs.Course.{course, advance, ends, kept}
-use Rattle.session.specs.Receiving.{codeBy, effectBy, receivingAfter}
+use Rattle.session.specs.Receiving.{receivedCode, receivedEffect, receivingAfter}
 use Rattle.calls.specs.Inner.Course.{Countable}
 use Rattle.receiving.specs.Inner.Earned.{Earns}
 use Rattle.receiving.proofs.Laws.Earned.{alike, countable, free-place}
@@ -67,15 +67,15 @@ returns c =
     let r = a .r in
     let found = k .before .earned .result in
     let e = found-so k in
-    let code = codeBy (contentOf body) (a .time) body (a .p) (a .running) r in
-    let meant = effectBy (contentOf body) body (a .running) in
+    let code = receivedCode (contentOf body) (a .time) body (a .p) (a .running) r in
+    let meant = receivedEffect (contentOf body) body (a .running) in
     let here = course (r .counters) (a .running) in
     let accepted = k .is-accepted .ensures in
     let same = alike (eqb (codeNumber (found .code)) 0) (found .effect) meant (e .effect) in
     let told = ap (λ (n : ℕ). eqb n 0) (e .code) in
     let one-more : r .serial + 1 ≡ suc (r .serial) = omega arith in
     let operation = c .before .before .before .reply-operation .ensures ∙ ap replyOperation (k .before .before .content-of .ensures) in
-    let kept-code = sym (number-told (found .code)) ∙ ap codeOf (e .code) in
+    let kept-code = sym (number-told (found .code)) ∙ ap codeNumbered (e .code) in
     let moved = c .before .before .before .before .before .before .advance .ensures ∙ ap (λ (x : Bool). advance (found .effect) x here) accepted ∙ same .moves here ∙ ap (λ (x : Bool). advance meant x here) told in
     let ended = c .before .before .ends .ensures ∙ ap (ends (found .effect)) accepted ∙ same .ends-so ∙ ap (ends meant) told in
     let places = c .kept .ensures ∙ ap (λ (x : Bool). kept (found .effect) x (r .counters .lots) (r .lots)) accepted ∙ same .keeps-so (r .counters .lots) (r .lots) ∙ ap (λ (x : Bool). kept meant x (r .counters .lots) (r .lots)) told in

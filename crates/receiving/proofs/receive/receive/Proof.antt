@@ -1,28 +1,25 @@
 -- `receive`: the chain refuses, or the direction goes on and the kept reply is written.
 use mathlib.Core.Path.{_≡_, ap, sym, subst, _∙_}
-use mathlib.Core.Bool.{not, cond, _||_}
+use mathlib.Core.Bool.{cond}
 use mathlib.Core.List.{List}
-use Prim.Native.Nat.{ℕ, suc, _+_}
-use lib.Dec.{eqb}
+use Prim.Native.Nat.{ℕ}
 use lib.ListN.{length}
 use Rattle.packed.proofs.Laws.Part.{part-tail}
-use Rattle.codes.specs.Chain.{_when_, _orelse_}
+use Rattle.codes.specs.Chain.{_orelse_}
 use Rattle.codes.proofs.Laws.Chain.{none-both}
 use Rattle.message.specs.declared.envelope.Kind.{Kind}
 use Rattle.message.specs.declared.route.Route.{Route}
-use Rattle.message.specs.Limits.{envelopeBytes, replyBytes}
-use Rattle.message.specs.Route.{sameRoute}
-use Rattle.message.specs.Envelope.{serialOf, envelopeGood, envelopeOf}
+use Rattle.message.specs.Limits.{envelopeBytes, replyRoom}
 use Rattle.message.specs.Content.{contentOf}
 use Rattle.message.proofs.Laws.Envelope.{enough}
-use Rattle.session.specs.Course.{Direction}
-use Rattle.session.specs.Outcome.{answerNumber, noRoom, timeRefusal}
-use Rattle.session.specs.Receiving.{codeBy, receivingCourse, receivingAfter, withReceiving, isNext, receiveRefusal, receive, afterMessage, replying}
+use Rattle.session.specs.Parties.{Direction}
+use Rattle.session.specs.Outcome.{answerNumber, held, seenAt, withReceiving}
+use Rattle.session.specs.Time.{timeRefusal}
+use Rattle.session.specs.Receiving.{receivedCode, receivingCourse, receivingAfter, isNext, receiveRefusal, receive, afterMessage, replying, receivingOrder}
 use Rattle.session.specs.Engine.{Call, meaning}
 use Rattle.session.proofs.Laws.EveryCall.{kept-beside}
 use Rattle.session.proofs.Laws.Refusals.{ReceiveTold}
 use Rattle.calls.specs.Inner.Arrival.{Told}
-use Rattle.calls.specs.Said.{held}
 use Rattle.calls.proofs.Laws.Said.{said-refused, so-kept-beside}
 use Rattle.receiving.specs.declared.receive.ReceiveOutcome.{ReceiveOutcome}
 use Rattle.receiving.specs.Said.{receivedSaid}
@@ -47,14 +44,14 @@ answer-number-requires : tie.Need-answer-number-requires
 answer-number-requires c κs = search needs
 
 -- the chain, and whether a message that it lets pass is the next one
-arrived : (w : tie.After-or-refused) → let a = w .before .before .before .before .before .before .before .before .args in let answer = answerNumber (w .or-refused .result) in (answer ≡ receiveRefusal (a .time) (a .message .now) (length (a .line .now)) (a .session)) × (answer ≡ 0 → w .before .before .read-message .result .next ≡ isNext (a .message .now) (a .session .receiving))
+arrived : (w : tie.After-or-refused) → let a = w .before .before .before .before .before .before .before .before .args in let answer = answerNumber (w .or-refused .result) in (answer ≡ receiveRefusal (a .time) (a .message .now) (length (a .line .now)) (a .session)) × (answer ≡ 0 → w .before .before .read-message .result .next ≡ isNext (a .message .now) (a .session .receiving .serial))
 unfolding receiveRefusal
 arrived w =
     let a = w .before .before .before .before .before .before .before .before .args in
     let bytes = a .message .now in
     let last = a .session .receiving .serial in
     let r = w .before .before .read-message .result in
-    let found = subst (λ (route : Route). Told (21 when not (envelopeGood Kind.Message bytes) orelse 33 when not (sameRoute (envelopeOf bytes .route) route) orelse 35 when not (eqb (serialOf bytes) last || eqb (serialOf bytes) (suc last)) orelse 23 when noRoom (envelopeBytes + replyBytes) (length (a .line .now))) (eqb (serialOf bytes) (suc last)) (r .answer) (r .next)) (w .before .before .before .receiving-route .ensures) (w .before .before .read-message .ensures) in
+    let found = subst (λ (route : Route). Told (receivingOrder bytes last (length (a .line .now)) route) (isNext bytes last) (r .answer) (r .next)) (w .before .before .before .receiving-route .ensures) (w .before .before .read-message .ensures) in
     let chain = w .or-refused .ensures ∙ (λ i. w .before .time-refusal .ensures i orelse found .number i) in
     (chain, λ (e : answerNumber (w .or-refused .result) ≡ 0). found .finding (none-both (timeRefusal (a .time) (a .session .seen) (a .session .close)) _ (sym chain ∙ e) .1))
 
@@ -96,13 +93,13 @@ returns c =
     let next = w .before .before .read-message .result .next in
     let handled = c .before .before .before .before .handle-if in
     let body = part-tail envelopeBytes bytes in
-    let after = handled .ensures .0 ∙ ap (λ (x : List ℕ). cond next (receivingAfter (codeBy (contentOf x) (a .time) x (s .parties) (a .running) (s .receiving)) x (a .running) (s .receiving)) (s .receiving)) body in
-    let running = handled .ensures .1 ∙ ap (λ (x : List ℕ). cond next (receivingCourse (codeBy (contentOf x) (a .time) x (s .parties) (a .running) (s .receiving)) x (a .running) (s .receiving) .running) (a .running)) body in
+    let after = handled .ensures .0 ∙ ap (λ (x : List ℕ). cond next (receivingAfter (receivedCode (contentOf x) (a .time) x (s .parties) (a .running) (s .receiving)) x (a .running) (s .receiving)) (s .receiving)) body in
+    let running = handled .ensures .1 ∙ ap (λ (x : List ℕ). cond next (receivingCourse (receivedCode (contentOf x) (a .time) x (s .parties) (a .running) (s .receiving)) x (a .running) (s .receiving) .running) (a .running)) body in
     let given = c .before .before .replying in
     let line = given .last .1 .1 .1 .0 in
     let said : receivedSaid (given .result .received) (given .result .running) line ≡ receive (a .time) bytes lent =
     ap (λ (x : ReceiveOutcome). receivedSaid (x .received) (x .running) line) (given .ensures .0)
-    ∙ (λ i. record { number = sym (none t) i; written = envelopeBytes + replyBytes; left = held (withReceiving (a .time) (handled .result .receiving) s) (handled .result .running) line })
+    ∙ (λ i. record { number = sym (none t) i; written = replyRoom; left = held (seenAt (a .time) (withReceiving (handled .result .receiving) s)) (handled .result .running) line })
     ∙ replied-so (a .time) bytes s (a .running) (a .line .now) (answerNumber (w .or-refused .result)) (arrived w .0) (none t) next (handled .result .receiving) (handled .result .running) line (arrived w .1 (none t)) after running (given .ensures .1) in
     (said, so-kept-beside s _ _ said Direction.receiving (kept-beside (Call.receive (a .time) bytes) lent (record { sound = w .before .before .before .before .before .before .before .before .pre .0; carried = w .before .before .before .before .before .before .before .before .pre .1 })))
 

@@ -13,9 +13,6 @@ receiving-route-requires c κs = search needs
 write-reply-requires : tie.Need-write-reply-requires
 write-reply-requires c κs = search needs
 
-add-t17 : tie.Need-add-t17
-add-t17 c = search needs
-
 same-length : tie.Need-same-length
 same-length c = search needs
 
@@ -28,4 +25,4 @@ returns c =
 
 pub replying-spec : {M : Type 1} → statement M
 replying-spec =
-    tie.close (tie.spec receiving-route-requires write-reply-requires add-t17 same-length returns)
+    tie.close (tie.spec receiving-route-requires write-reply-requires same-length returns)

@@ -5,16 +5,16 @@ use Prim.Native.Nat.{ℕ, _+_, _-_, _≤_}
 use native.Mathlib.Omega.{arith}
 use borrow.Author.Tests.{lt-ltb, le-ltb, ltb-true, ltb-false}
 use lib.Dec.{ltb}
-use Rattle.session.specs.Limits.{lotDocuments}
+use Rattle.session.specs.Limits.{mostLotDocuments}
 use Rattle.session.proofs.limits.passes_lot.Statement.{statement}
 use Rattle.session.proofs.limits.passes_lot.Tie as tie
 
 returns : tie.Need-returns
-returns c = let a = c .before .args in sym (lt-ltb lotDocuments (a .gathered + a .more) (omega (arith, c .if1 .taken)))
+returns c = let a = c .before .args in sym (lt-ltb mostLotDocuments (a .gathered + a .more) (omega (arith, c .if1 .taken)))
 
-left-over : (g m : ℕ) → g ≤ lotDocuments → (t : Bool) → ltb (lotDocuments - g) m ≡ t → t ≡ ltb lotDocuments (g + m)
-left-over g m h true e = sym (lt-ltb lotDocuments (g + m) (omega (arith, ltb-true (lotDocuments - g) m e)))
-left-over g m h false e = sym (le-ltb lotDocuments (g + m) (omega (arith, ltb-false (lotDocuments - g) m e)))
+left-over : (g m : ℕ) → g ≤ mostLotDocuments → (t : Bool) → ltb (mostLotDocuments - g) m ≡ t → t ≡ ltb mostLotDocuments (g + m)
+left-over g m h true e = sym (lt-ltb mostLotDocuments (g + m) (omega (arith, ltb-true (mostLotDocuments - g) m e)))
+left-over g m h false e = sym (le-ltb mostLotDocuments (g + m) (omega (arith, ltb-false (mostLotDocuments - g) m e)))
 
 returns-2 : tie.Need-returns-2
 returns-2 c = let a = c .before .args in left-over (a .gathered) (a .more) (omega (arith, c .if1 .left)) _ refl

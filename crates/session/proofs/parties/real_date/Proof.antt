@@ -4,8 +4,7 @@ use mathlib.Core.Bool.{not, _&&_, _||_}
 use Prim.Native.Nat.{_/_, _%_}
 use lib.Dec.{eqb}
 use borrow.Author.Tests.{le-leb, lt-leb}
-use Rattle.session.specs.Limits.{largestDate, leapDay}
-use Rattle.session.specs.Parties.{realDate}
+use Rattle.session.specs.Parties.{largestDate, leapDay, realDate}
 use borrow.Author.Needs.{needs}
 use Rattle.session.proofs.parties.real_date.Statement.{statement}
 use Rattle.session.proofs.parties.real_date.Tie as tie

@@ -7,7 +7,7 @@ use Rattle.session.specs.declared.session.Close.{Close}
 use Rattle.session.specs.declared.session.Session.{Session}
 use Rattle.session.specs.Parties.{partiesGood, nobody}
 use Rattle.session.specs.Start.{StartOutcome, fresh, started, start}
-use Rattle.session.specs.Premise.{Begun}
+use Rattle.session.specs.Engine.{withEmpty, Ready}
 use Rattle.session.proofs.Laws.Parties.{told}
 use Rattle.session.proofs.Laws.Sound.{begun}
 use borrow.Author.Needs.{needs}
@@ -34,7 +34,7 @@ returns c =
     let good : partiesGood (a .date) (a .own) (a .partner) (a .represented .now) ≡ true = sym (c .before .before .before .parties-good .ensures) ∙ c .before .before .if1 .taken in
     let made : c .fresh .result ≡ started (a .date) (a .own) (a .partner) (a .represented .now) = c .fresh .ensures ∙ ap (λ (p : Parties). fresh p Close.Open) (c .before .parties-of .ensures) in
     let said : record { number = 0; session = c .fresh .result } ≡ start (a .date) (a .own) (a .partner) (a .represented .now) = ap (λ (s : Session). chosen true s (fresh nobody Close.Forced)) made ∙ ap (λ (t : Bool). chosen t (started (a .date) (a .own) (a .partner) (a .represented .now)) (fresh nobody Close.Forced)) (sym good) in
-    (said, subst Begun (sym (ap (λ (o : StartOutcome). o .session) said)) (begun (a .date) (a .own) (a .partner) (a .represented .now)))
+    (said, subst (λ (s : Session). Ready (withEmpty s)) (sym (ap (λ (o : StartOutcome). o .session) said)) (begun (a .date) (a .own) (a .partner) (a .represented .now)))
 
 nobody-requires : tie.Need-nobody-requires
 nobody-requires c κs = search needs
@@ -49,7 +49,7 @@ returns-2 c =
     let wrong : partiesGood (a .date) (a .own) (a .partner) (a .represented .now) ≡ false = sym (c .before .before .before .parties-good .ensures) ∙ c .before .before .if1 .left in
     let made : c .fresh2 .result ≡ fresh nobody Close.Forced = c .fresh2 .ensures ∙ ap (λ (p : Parties). fresh p Close.Forced) (c .before .nobody .ensures) in
     let said : record { number = 24; session = c .fresh2 .result } ≡ start (a .date) (a .own) (a .partner) (a .represented .now) = ap (chosen false (started (a .date) (a .own) (a .partner) (a .represented .now))) made ∙ ap (λ (t : Bool). chosen t (started (a .date) (a .own) (a .partner) (a .represented .now)) (fresh nobody Close.Forced)) (sym wrong) in
-    (said, subst Begun (sym (ap (λ (o : StartOutcome). o .session) said)) (begun (a .date) (a .own) (a .partner) (a .represented .now)))
+    (said, subst (λ (s : Session). Ready (withEmpty s)) (sym (ap (λ (o : StartOutcome). o .session) said)) (begun (a .date) (a .own) (a .partner) (a .represented .now)))
 
 pub start-spec : {M : Type 1} → statement M
 start-spec =

@@ -1,9 +1,9 @@
 // What a receiver answers to a message; some of the codes also stop a send. A new code is a variant, its number, its row
-// and the count here, its number and its row in specs/Reply.antt, a clause of `written-then-read` and a byte of
+// and the count here, its number and its row in specs/Code.antt, a clause of `written-then-read` and a byte of
 // `known-bytes`; the check refuses while one of them is missing.
 use packed::writing::packed_byte;
 ghost use mathlib.Core.Path.{_≡_};
-ghost use Rattle.codes.specs.Reply.{codeNumber, codeByte, readCode};
+ghost use Rattle.codes.specs.Code.{codeNumber, codeByte, readCode};
 
 pub enum Code {
     Accepted,

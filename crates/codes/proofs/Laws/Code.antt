@@ -10,10 +10,10 @@ use borrow.Author.Tests.{ltb-true, ne-eqb}
 use Rattle.packed.specs.Every.{every}
 use Rattle.packed.specs.Number.{byteValue}
 use Rattle.packed.specs.Writing.{packedByte}
-use Rattle.codes.specs.declared.reply.Code.{Code}
-use Rattle.codes.specs.declared.reply.ReadCode.{ReadCode}
+use Rattle.codes.specs.declared.code.Code.{Code}
+use Rattle.codes.specs.declared.code.ReadCode.{ReadCode}
 use Rattle.codes.specs.Numbered.{numbered}
-use Rattle.codes.specs.Reply.{codeNumber, codes, codeByte, readCode, isKnown, knownCode, codeOf}
+use Rattle.codes.specs.Code.{codeNumber, codes, codeByte, readCode, isKnown, knownCode, codeNumbered}
 use Rattle.packed.proofs.Laws.Writing.{packed-byte-value}
 use Rattle.codes.proofs.Laws.Numbered.{found-told}
 
@@ -53,8 +53,8 @@ pub same-byte : (c d : Code) → codeByte c ≡ codeByte d → c ≡ d
 same-byte c d e = let known : ReadCode.Known c ≡ ReadCode.Known d = sym (written-then-read c) ∙ ap readCode e ∙ written-then-read d in cc
 
 -- a code is found by its number
-pub number-told : (c : Code) → codeOf (codeNumber c) ≡ c
-unfolding codeOf numbered codes
+pub number-told : (c : Code) → codeNumbered (codeNumber c) ≡ c
+unfolding codeNumbered numbered codes
 number-told Code.Accepted = refl
 number-told Code.WrongField = refl
 number-told Code.WrongAmount = refl
@@ -68,8 +68,8 @@ number-told Code.TooManyLots = refl
 number-told Code.TooManyDocuments = refl
 
 -- and the code of a number accepts where the number is 0, and nowhere else
-pub accepts : (n : ℕ) → eqb (codeNumber (codeOf n)) 0 ≡ eqb n 0
-unfolding codeOf numbered codes every
+pub accepts : (n : ℕ) → eqb (codeNumber (codeNumbered n)) 0 ≡ eqb n 0
+unfolding codeNumbered numbered codes every
 accepts zero = refl
 accepts (suc n) =
     found-told codeNumber (λ (c : Code). c) Code.WrongField (suc n) (λ (c : Code). true) (λ (c : Code). eqb (codeNumber c) 0 ≡ false)

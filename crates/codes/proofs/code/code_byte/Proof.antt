@@ -2,9 +2,9 @@
 use mathlib.Core.Path.{ap, _∙_}
 use borrow.Author.Needs.{needs}
 use Rattle.packed.specs.Writing.{packedByte}
-use Rattle.codes.specs.Reply.{codeByte}
-use Rattle.codes.proofs.reply.code_byte.Statement.{statement}
-use Rattle.codes.proofs.reply.code_byte.Tie as tie
+use Rattle.codes.specs.Code.{codeByte}
+use Rattle.codes.proofs.code.code_byte.Statement.{statement}
+use Rattle.codes.proofs.code.code_byte.Tie as tie
 
 code-number-requires : tie.Need-code-number-requires
 code-number-requires c κs = search needs

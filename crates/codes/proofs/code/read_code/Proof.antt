@@ -5,13 +5,13 @@ use Prim.Native.Nat.{_-_, _≤_}
 use native.Mathlib.Omega.{arith}
 use borrow.Author.Needs.{needs}
 use lib.ListN.{length, drop}
-use Rattle.codes.specs.declared.reply.Code.{Code}
-use Rattle.codes.specs.declared.reply.ReadCode.{ReadCode}
+use Rattle.codes.specs.declared.code.Code.{Code}
+use Rattle.codes.specs.declared.code.ReadCode.{ReadCode}
 use Rattle.codes.specs.Numbered.{numbered}
-use Rattle.codes.specs.Reply.{codes, codeByte, readCode}
+use Rattle.codes.specs.Code.{codes, codeByte, readCode}
 use Rattle.codes.proofs.Laws.Numbered.{found-at, passed-at, none-at}
-use Rattle.codes.proofs.reply.read_code.Statement.{statement}
-use Rattle.codes.proofs.reply.read_code.Tie as tie
+use Rattle.codes.proofs.code.read_code.Statement.{statement}
+use Rattle.codes.proofs.code.read_code.Tie as tie
 
 abbrev Inv-loop : tie.InvT-loop
 Inv-loop byte table i₀ i = (i ≤ length codes) × (numbered codeByte ReadCode.Known ReadCode.Unknown (drop i codes) byte ≡ readCode byte)

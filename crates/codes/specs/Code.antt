@@ -3,8 +3,8 @@ use Prim.Native.Nat.{ℕ}
 use mathlib.Core.Bool.{Bool, true, false}
 use mathlib.Core.List.{List, [], _∷_}
 use Rattle.packed.specs.Writing.{packedByte}
-use Rattle.codes.specs.declared.reply.Code.{Code}
-use Rattle.codes.specs.declared.reply.ReadCode.{ReadCode}
+use Rattle.codes.specs.declared.code.Code.{Code}
+use Rattle.codes.specs.declared.code.ReadCode.{ReadCode}
 use Rattle.codes.specs.Numbered.{numbered}
 
 -- the paper's number of each, and in short what it says
@@ -45,14 +45,15 @@ codeByte c = packedByte (codeNumber c)
 unfoldable pub readCode : ℕ → ReadCode
 readCode b = numbered codeByte ReadCode.Known ReadCode.Unknown codes b
 
--- whether a byte carries a code
+-- whether there is one
 abbrev pub isKnown : ReadCode → Bool
 isKnown (ReadCode.Known c) = true
 isKnown ReadCode.Unknown = false
 
+-- 22 otherwise: the byte carries a listed code
 unfoldable pub knownCode : ℕ → Bool
 knownCode b = isKnown (readCode b)
 
 -- the code of a number; 01 where no code has it, so that nothing but 0 accepts
-unfoldable pub codeOf : ℕ → Code
-codeOf n = numbered codeNumber (λ (c : Code). c) Code.WrongField codes n
+unfoldable pub codeNumbered : ℕ → Code
+codeNumbered n = numbered codeNumber (λ (c : Code). c) Code.WrongField codes n
