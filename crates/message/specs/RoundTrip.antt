@@ -19,17 +19,19 @@ use Rattle.message.specs.Envelope.{envelopeFields, envelopeValues, readE
 use Rattle.message.specs.Reply.{readReply, replySaid}
 use Rattle.message.specs.Line.{Body, layoutOf, valuesOf, bodyBytes, wholeMessage, wholeReply}
 
--- numbers that the fields of an envelope take, and those of a body in a direction
+-- its numbers are such as the fields of an envelope take
 abbrev pub EnvelopeFits : Envelope → Type 0
 EnvelopeFits e = tableTakes envelopeFields (envelopeValues e) ≡ true
 
+-- and those of a body in its direction
 abbrev pub BodyFits : Envelope → Body → Type 0
 BodyFits e x = tableTakes (layoutOf (e .route) x .fields) (valuesOf (e .route) x) ≡ true
 
--- some bytes are read as this envelope; a body is read as this one
+-- some bytes are read as this envelope
 abbrev pub EnvelopeRead : Kind → Envelope → (bytes : List ℕ) → Type 0
 EnvelopeRead kind e bytes = readEnvelope kind bytes ≡ envelopeSaid (ReadEnvelope.Read e)
 
+-- a body is read as this one
 abbrev pub BodyRead : Envelope → Body → (body : List ℕ) → Type 0
 BodyRead e x body = readBody (layoutOf (e .route) x) body ≡ reading 0 (valuesOf (e .route) x)
 
@@ -37,14 +39,18 @@ BodyRead e x body = readBody (layoutOf (e .route) x) body ≡ reading 0 (valuesO
 abbrev pub clearedBody : (bytes : List ℕ) → List ℕ
 clearedBody bytes = take envelopeBytes bytes ++ cleared (bodyOf bytes)
 
+-- a message that is written and read
 abbrev pub MessageWrittenThenRead : Type 0
 MessageWrittenThenRead = (e : Envelope) (x : Body) → EnvelopeFits e → BodyFits e x → let bytes = wholeMessage e (bodyBytes (e .route) x) in EnvelopeRead Kind.Message e bytes × BodyRead e x (bodyOf bytes)
 
+-- a message that is read and written
 abbrev pub MessageReadThenWritten : Type 0
 MessageReadThenWritten = (e : Envelope) (x : Body) (bytes : List ℕ) → EnvelopeRead Kind.Message e bytes → BodyRead e x (bodyOf bytes) → wholeMessage e (bodyBytes (e .route) x) ≡ clearedBody bytes
 
+-- a reply that is written and read
 abbrev pub ReplyWrittenThenRead : Type 0
 ReplyWrittenThenRead = (e : Envelope) (r : Reply) → EnvelopeFits e → EnvelopeRead Kind.Reply e (wholeReply e r) × (readReply (bodyOf (wholeReply e r)) ≡ replySaid (ReadReply.Read r))
 
+-- a reply that is read and written
 abbrev pub ReplyReadThenWritten : Type 0
 ReplyReadThenWritten = (e : Envelope) (r : Reply) (bytes : List ℕ) → EnvelopeRead Kind.Reply e bytes → readReply (bodyOf bytes) ≡ replySaid (ReadReply.Read r) → wholeReply e r ≡ clearedBody bytes

@@ -8,11 +8,13 @@ use Rattle.session.specs.Outcome.{Outcome, held}
 use Rattle.presenting.specs.declared.answer.SendAnswer.{SendAnswer}
 use Rattle.presenting.specs.declared.answer.SendOutcome.{SendOutcome}
 
+-- the paper's number: of a code that stopped it, or of a refusal
 abbrev pub sendNumber : SendAnswer → ℕ
 sendNumber (SendAnswer.Written bytes) = 0
 sendNumber (SendAnswer.Stopped code) = codeNumber code
 sendNumber (SendAnswer.Refused r) = refusalNumber r
 
+-- how many bytes it wrote
 abbrev pub sendWritten : SendAnswer → ℕ
 sendWritten (SendAnswer.Written bytes) = bytes
 sendWritten (SendAnswer.Stopped code) = 0

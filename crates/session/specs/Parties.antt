@@ -21,10 +21,11 @@ abbrev pub opposite : Direction → Direction
 opposite Direction.presenting = Direction.receiving
 opposite Direction.receiving = Direction.presenting
 
--- the largest number of six digits, as DDMMYY is; and 29 February as DDMM
+-- the largest number of six digits, as DDMMYY is
 abbrev pub largestDate : ℕ
 largestDate = 999999
 
+-- 29 February as DDMM
 abbrev pub leapDay : ℕ
 leapDay = 2902
 

@@ -51,7 +51,9 @@ numberUsed number lots = anyOf (λ (l : Lot). eqb number (l .number)) lots
 abbrev pub totalsUsed : Totals → List Lot → Bool
 totalsUsed t lots = anyOf (λ (l : Lot). same (stated (l .gathered)) t) lots
 
--- 'Codes': of each message those that it can earn, in the paper's order
+-- 'Codes': of each message those that it can earn, in the paper's order.
+
+-- a header
 unfoldable pub headerCode : (time : ℕ) (body : List ℕ) → Parties → Receiving → ℕ
 headerCode time body p r =
     bodyCode (header (receivingRoute p)) body
@@ -60,12 +62,14 @@ headerCode time body p r =
     orelse 4 when numberUsed (headerOf body .number) (acceptedLots r)
     orelse 11 when lotsUsed (r .counters .lots)
 
+-- a detail
 unfoldable pub detailCode : (body : List ℕ) → Parties → Running → Receiving → ℕ
 detailCode body p running r =
     receiverCode (p .own) (representedBy p) body
     orelse lotSequence (r .ended) (r .counters .current)
     orelse 12 when passesLot (documentsIn running + documentsIn (detailAdds (operationOf body) (documents body)))
 
+-- a lot total
 unfoldable pub lotTotalCode : (body : List ℕ) → Running → Receiving → ℕ
 lotTotalCode body running r =
     let read = totalOf lotTotalFields body in
@@ -74,6 +78,7 @@ lotTotalCode body running r =
     orelse 4 when totalsUsed (read .stated) (acceptedLots r)
     orelse 8 when not (same (stated running) (read .stated))
 
+-- a session total
 unfoldable pub sessionTotalCode : (body : List ℕ) → Receiving → ℕ
 sessionTotalCode body r =
     let read = totalOf sessionTotalFields body in
@@ -147,6 +152,7 @@ receivingOrder bytes last room route =
     orelse 35 when not (isLast bytes last || isNext bytes last)
     orelse 23 when noRoom replyRoom room
 
+-- after the refusals by the clock
 unfoldable pub receiveRefusal : (time : ℕ) (bytes : List ℕ) (room : ℕ) → Session → ℕ
 receiveRefusal time bytes room s =
     timeRefusal time (s .seen) (s .close)

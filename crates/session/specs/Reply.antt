@@ -52,6 +52,7 @@ replyOrder bytes route p =
     orelse 22 when not (replyGood (bodyOf bytes))
     orelse 35 when not (isAwaited (serialOf bytes) (operationOf (bodyOf bytes)) p)
 
+-- after the refusals by the clock
 unfoldable pub replyRefusal : (time : ℕ) (bytes : List ℕ) → Session → ℕ
 replyRefusal time bytes s =
     timeRefusal time (s .seen) (s .close)

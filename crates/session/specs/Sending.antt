@@ -47,6 +47,7 @@ sendingOrder code bytes room p =
     orelse code
     orelse 23 when noRoom bytes room
 
+-- after the refusals by the clock
 unfoldable pub sendRefusal : (time code bytes room : ℕ) → Session → ℕ
 sendRefusal time code bytes room s =
     timeRefusal time (s .seen) (s .close)
@@ -67,7 +68,9 @@ unfoldable pub send : (time code : ℕ) → Effect → (body : List ℕ) → Hel
 send time code effect body h =
     decided (sendRefusal time code (length (wholeMessage (nextEnvelope (h .session)) body)) (length (h .line)) (h .session)) h (posted time effect body h)
 
--- the codes that a presenter applies to itself, of each message: never 04, 06, 08, nor that no detail was accepted
+-- The codes that a presenter applies to itself: never 04, 06, 08, nor that no detail was accepted.
+
+-- to a header
 unfoldable pub headerStop : (time moment centre number : ℕ) → Presenting → ℕ
 headerStop time moment centre number p =
     1 when not (sendable moment centre number)
@@ -79,15 +82,18 @@ headerStop time moment centre number p =
 abbrev pub partAdds : (operation : ℕ) (part : List ℕ) → Running
 partAdds operation part = detailAdds (packedByte operation) (documentsOf part)
 
+-- to a detail
 unfoldable pub detailStop : (operation partner : ℕ) (part : List ℕ) → Running → Presenting → ℕ
 detailStop operation partner part running p =
     presenterCode operation partner part
     orelse lotSequence (p .ended) (p .counters .current)
     orelse 12 when passesLot (documentsIn running + documentsIn (partAdds operation part))
 
+-- to a lot total, which may be one of zeros
 unfoldable pub lotTotalStop : Presenting → ℕ
 lotTotalStop p = lotSequence (p .ended) (p .counters .current)
 
+-- to a session total
 unfoldable pub sessionTotalStop : Presenting → ℕ
 sessionTotalStop p = sessionTotalSequence (p .ended) (p .counters .current)
 
@@ -112,7 +118,7 @@ sendDetail time operation part h =
     send time (detailStop operation (h .session .parties .partner) part (h .running) (h .session .presenting)) (Effect.Detail (partAdds operation part))
     (writtenDetail (packedByte operation) part) h
 
--- totals are what this end has counted; the lot's number is that of the open one
+-- 'The presenter writes totals from its own counters, and a lot total with the open lot's number'
 unfoldable pub sendLotTotal : (time : ℕ) → Held → Outcome
 sendLotTotal time h =
     let lot = endingLot (h .session .presenting .counters) (h .running) in

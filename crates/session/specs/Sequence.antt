@@ -7,6 +7,7 @@ use Rattle.codes.specs.Chain.{_when_, _orelse_}
 use Rattle.session.specs.declared.counters.OpenLot.{OpenLot}
 use Rattle.session.specs.Running.{Running, documentsIn}
 
+-- a lot is open
 abbrev pub isOpen : OpenLot → Bool
 isOpen OpenLot.None = false
 isOpen (OpenLot.Numbered n) = true

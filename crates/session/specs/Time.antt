@@ -6,7 +6,7 @@ use Rattle.codes.specs.Chain.{_when_, _orelse_}
 use Rattle.session.specs.declared.session.Close.{Close}
 use Rattle.session.specs.Hours.{pastDay, withinHours}
 
--- 32
+-- 32: closed, in whatever way
 abbrev pub isClosed : Close → Bool
 isClosed Close.Open = false
 isClosed Close.Ordered = true
