@@ -1,5 +1,5 @@
 -- One file a notion.
-pub mod Hex
 pub mod Answer
+pub mod Reading
 pub mod Player
 pub mod Play

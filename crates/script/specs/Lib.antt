@@ -1,6 +1,4 @@
 -- What a line of a script does.
-pub mod Within
-pub mod Hex
 pub mod Reading
 pub mod Answer
 pub mod Player

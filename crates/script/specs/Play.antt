@@ -3,11 +3,14 @@ use Prim.Native.Nat.{ℕ, _+_, _^_, _≤_, _<_}
 use mathlib.Core.Path.{_≡_}
 use mathlib.Core.Bool.{true, cond}
 use mathlib.Core.List.{List}
-use lib.ListN.{length, drop, replicate}
+use lib.ListN.{length, take, drop, replicate}
 use Rattle.script.specs.declared.player.Player.{Player}
 use Rattle.script.specs.declared.play.Cut.{Cut}
 use Rattle.script.specs.declared.play.LinePlayed.{LinePlayed}
-use Rattle.script.specs.Player.{endsOf, played, ReadyPlayer}
+use Rattle.script.specs.declared.play.Played.{Played}
+use Rattle.script.specs.declared.play.Stop.{Stop}
+use Rattle.script.specs.Reading.{Meant}
+use Rattle.script.specs.Player.{Ends, endsOf, playedAt, ReadyPlayer}
 
 -- the bytes of a line buffer, before a call
 unfoldable pub filled : List ℕ
@@ -17,11 +20,15 @@ filled = replicate 10412 238
 abbrev pub longestAnswer : ℕ
 longestAnswer = 21225
 
--- A line was played: the two ends, each session with its running totals, are as the call that was read leaves them, or as they were where the
--- output has no room for the answer, which it has wherever the longest would fit. Of the output only the answer is written. The text of the
--- answer is left open.
-pub record Done (player : Player) (bytes line before after : List ℕ) (r : LinePlayed) : Type 0 where
-  pub ends : endsOf (r .player) ≡ cond (r .full) (endsOf player) (played (r .reading) bytes line (endsOf player))
+-- both ends after a line that means this
+abbrev pub played : Meant → Ends → Ends
+played m e = playedAt (m .near) (m .named) (take (m .room) filled) e
+
+-- A line was played: the two ends, each session with its running totals, are as they are to be next, or as they were where the output has no
+-- room for the answer, which it has wherever the longest would fit. Of the output only the answer is written. The text of the answer is left
+-- open.
+pub record Done (player : Player) (next : Ends) (before after : List ℕ) (r : LinePlayed) : Type 0 where
+  pub ends : endsOf (r .player) ≡ cond (r .full) (endsOf player) next
   pub full : r .full ≡ true → length before < longestAnswer
   pub written : r .written ≤ length before
   pub kept : drop (r .written) after ≡ drop (r .written) before
@@ -40,3 +47,8 @@ pub record CutWithin (at : ℕ) (text : List ℕ) (r : Cut) : Type 0 where
   pub to : r .to ≤ length text
   pub on : at < r .next
   pub next : r .next ≤ length text
+
+-- how much of a text was played: all of it, where nothing stopped it
+pub record ReadOf (size : ℕ) (r : Played) : Type 0 where
+  pub most : r .read ≤ size
+  pub all : r .stop ≡ Stop.Done → r .read ≡ size

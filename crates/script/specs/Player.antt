@@ -8,8 +8,7 @@ use Rattle.session.specs.Engine.{Call, Engine, withEmpty, Ready, performed}
 use Rattle.centre.specs.Turn.{engineOf}
 use Rattle.script.specs.declared.player.Seat.{Seat}
 use Rattle.script.specs.declared.player.Player.{Player}
-use Rattle.script.specs.declared.reading.Reading.{Reading}
-use Rattle.script.specs.Reading.{Named, namedBy}
+use Rattle.script.specs.Reading.{Named}
 
 -- an end: whether a start there has succeeded, and its engine
 pub record Seated : Type 0 where
@@ -48,9 +47,9 @@ seatAt near e = cond near (e .near) (e .far)
 abbrev pub withSeat : (near : Bool) → Seated → Ends → Ends
 withSeat near s e = cond near (record { near = s; far = e .far }) (record { near = e .near; far = s })
 
--- both ends after a line that was read, with the bytes that stand in it and the line buffer of its call
-abbrev pub played : Reading → (bytes line : List ℕ) → Ends → Ends
-played r bytes line e = withSeat (r .near) (done (namedBy (r .asked) r bytes) line (seatAt (r .near) e)) e
+-- both ends after what a line names was done at one of them, with this line buffer
+abbrev pub playedAt : (near : Bool) → Named → (line : List ℕ) → Ends → Ends
+playedAt near named line e = withSeat near (done named line (seatAt near e)) e
 
 -- the premise of every call, at each end
 abbrev pub ReadySeat : Seat → Type 0

@@ -1,12 +1,10 @@
 // The answer to a line that was read: its words, then the bytes that the call wrote, and a line feed.
-use crate::hex::write_hex;
 use crate::player::Seat;
-use crate::reading::Kind;
-use crate::text::put_code;
-use crate::text::put_decimal;
-use crate::text::put_number;
-use crate::text::put_signed;
-use crate::text::put_text;
+use crate::wording::put_code;
+use crate::wording::put_decimal;
+use crate::wording::put_number;
+use crate::wording::put_signed;
+use crate::wording::put_text;
 use calls::report::report;
 use packed::writing::copy;
 use session::counters::Running;
@@ -14,6 +12,8 @@ use session::report::Awaited;
 use session::report::Report;
 use session::report::Tally;
 use session::session::Close;
+use text::hex::write_hex;
+use text::kind::Kind;
 ghost use mathlib.Core.Path.{_≡_};
 ghost use Prim.Native.Nat.{_+_, _*_, _≤_};
 ghost use lib.ListN.{length, drop};

@@ -1,14 +1,10 @@
 // Scripts of evenings (docs/SCRIPTS.md): a text that names calls at two ends, a line each, is read and played on two
-// centres, and each call is answered by a line. Everything is over lent slices. The contracts say what a line that was read
-// does to the two sessions and their running totals, and which bytes of the output keep their values; how a line is read
-// and the text of an answer they leave open.
+// centres, and each call is answered by a line. Everything is over lent slices. The contracts say what each line means, what
+// it does to the two sessions and their running totals, and which bytes of the output keep their values; the text of an answer
+// they leave open.
 
 pub mod answer;
-pub mod hex;
-pub mod number;
 pub mod play;
 pub mod player;
 pub mod reading;
-pub mod text;
-pub mod wire;
-pub mod word;
+pub mod wording;

@@ -5,32 +5,34 @@ use crate::answer::write_answer;
 use crate::player::Player;
 use crate::player::Seat;
 use crate::player::act;
-use crate::reading::LONGEST_LINE;
-use crate::reading::MOST_ROOM;
 use crate::reading::Reading;
-use crate::reading::read_line;
-use crate::text::blank;
-use crate::text::least;
-use crate::wire::Memory;
-use crate::wire::next_number;
-use crate::wire::remember;
-use crate::word::find_byte;
+use crate::reading::reading_of;
+use crate::wording::blank;
+use crate::wording::least;
+use text::line::LONGEST_LINE;
+use text::line::MOST_ROOM;
+use text::line::read_line;
+use text::wire::Memory;
+use text::wire::next_number;
+use text::wire::remember;
+use text::word::find_byte;
 ghost use mathlib.Core.Path.{_≡_};
 ghost use mathlib.Core.Bool.{true};
 ghost use Prim.Native.Nat.{_≤_, _<_};
-ghost use lib.ListN.{length, take, drop};
-ghost use Rattle.script.specs.Reading.{namedBy};
-ghost use Rattle.script.specs.Player.{seatOf, done, endsOf, seatAt, withSeat, ReadySeat, ReadyPlayer};
-ghost use Rattle.script.specs.Play.{filled, longestAnswer, Done, Behind, CutWithin};
+ghost use lib.ListN.{length, drop};
+ghost use Rattle.text.specs.Memory.{recalled};
+ghost use Rattle.text.specs.Line.{readLine};
+ghost use Rattle.script.specs.Reading.{namedBy, meant};
+ghost use Rattle.script.specs.Player.{seatOf, done, endsOf, seatAt, withSeat, playedAt, ReadySeat, ReadyPlayer};
+ghost use Rattle.script.specs.Play.{filled, played, longestAnswer, Done, Behind, ReadOf, CutWithin};
 
 // The most bytes that stand in a line.
 const MOST_BYTES: usize = LONGEST_LINE / 2;
 
-// A line that was played: what it was read as, how many bytes answer it, and the player that it leaves; or that the answer
-// does not fit, and then nothing was done.
+// A line that was played: how many bytes answer it, and the player that it leaves; or that the answer does not fit, and then
+// nothing was done.
 pub struct LinePlayed {
     pub player: Player,
-    pub reading: Reading,
     pub written: usize,
     pub full: bool,
 }
@@ -168,8 +170,7 @@ fn play_reading(
     requires { ⌜ ReadyPlayer player ⌝ }
     requires { ⌜ reading .more ≤ length (reading .entities) ⌝ }
     requires { ⌜ length (now line) ≤ 10412 ⌝ }
-    ensures outcome { λ r. ⌜ Done player (now (bytes .entry)) (now (line .entry)) (now (output .entry)) (now (output .exit)) r ⌝ }
-    ensures same { λ r. ⌜ r .reading ≡ reading ⌝ }
+    ensures { λ r. ⌜ Done player (playedAt (reading .near) (namedBy (reading .asked) reading (now (bytes .entry))) (now (line .entry)) (endsOf player)) (now (output .entry)) (now (output .exit)) r ⌝ }
 {
     let near = reading.near;
     let memory = player.memory;
@@ -182,7 +183,6 @@ fn play_reading(
     if emitted.full {
         return LinePlayed {
             player: player,
-            reading: reading,
             written: emitted.count,
             full: true,
         };
@@ -190,7 +190,6 @@ fn play_reading(
     let kept = after_writing(memory, &line[..written], wire);
     LinePlayed {
         player: with_seat(player, near, seat, kept),
-        reading: reading,
         written: emitted.count,
         full: false,
     }
@@ -213,9 +212,10 @@ pub fn play_line(
     bytes: &mut [u8],
 ) -> LinePlayed
     requires { ⌜ ReadyPlayer player ⌝ }
-    ensures { λ r. ⌜ Done player (take (r .reading .bytes) (now (bytes .exit))) (take (r .reading .room) filled) (now (output .entry)) (now (output .exit)) r ⌝ }
+    ensures { λ r. ⌜ Done player (played (meant (readLine (recalled (player .memory) (now (wire .entry))) (length (now (bytes .entry))) (now (text .entry)))) (endsOf player)) (now (output .entry)) (now (output .exit)) r ⌝ }
 {
-    let reading = read_line(text, player.memory, wire, bytes);
+    let said = read_line(text, player.memory, wire, bytes);
+    let reading = reading_of(said);
     let count = reading.bytes;
     let room = reading.room;
     let mut line = filled();
@@ -331,7 +331,7 @@ fn spare() -> [u8; MOST_BYTES]
 }
 
 fn stopped(player: Player, read: usize, written: usize, stop: Stop) -> Played
-    ensures { λ r. ⌜ (r .player ≡ player) × (r .read ≡ read) × (r .written ≡ written) ⌝ }
+    ensures { λ r. ⌜ (r .player ≡ player) × (r .read ≡ read) × (r .written ≡ written) × (r .stop ≡ stop) ⌝ }
 {
     Played {
         player: player,
@@ -345,7 +345,7 @@ fn stopped(player: Player, read: usize, written: usize, stop: Stop) -> Played
 // not finished, unless the text is the last.
 pub fn play(player: Player, text: &[u8], last: bool, output: &mut [u8], wire: &mut [u8]) -> Played
     requires { ⌜ ReadyPlayer player ⌝ }
-    ensures read { λ r. ⌜ r .read ≤ length (now (text .entry)) ⌝ }
+    ensures read { λ r. ⌜ ReadOf (length (now (text .entry))) r ⌝ }
     ensures written { λ r. ⌜ r .written ≤ length (now (output .entry)) ⌝ }
     ensures kept { λ r. ⌜ drop (r .written) (now (output .exit)) ≡ drop (r .written) (now (output .entry)) ⌝ }
     ensures premise { λ r. ⌜ ReadyPlayer (r .player) ⌝ }

@@ -1,14 +1,14 @@
 // Two ends, and what a line that was read does to them.
 use crate::reading::Asked;
 use crate::reading::Reading;
-use crate::wire::Memory;
-use crate::wire::nothing;
 use calls::answer::answer_number;
 use centre::call::Order;
 use centre::call::perform;
 use centre::end::Centre;
 use centre::end::begun;
 use session::session::Session;
+use text::wire::Memory;
+use text::wire::nothing;
 ghost use mathlib.Core.Path.{_≡_};
 ghost use mathlib.Core.Bool.{true, false};
 ghost use Prim.Native.Nat.{_≤_};

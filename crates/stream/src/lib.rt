@@ -4,10 +4,9 @@ use script::play::Stop;
 use script::play::play;
 use script::player::Player;
 use script::player::fresh;
-use script::wire::WIRE_BYTES;
+use text::wire::WIRE_BYTES;
 ghost use Prim.Native.Nat.{_+_, _≤_};
 ghost use lib.ListN.{length};
-ghost use Rattle.script.specs.Player.{ReadyPlayer};
 ghost use Rattle.stream.specs.Stream.{Filled};
 
 // Between two pieces: the player, how many bytes wait in the input, whether no more will come, and whether all is done.

@@ -7,9 +7,9 @@ use native.Mathlib.Omega.{arith}
 use lib.ListN.{length, drop, set, length-append}
 use lib.Seq.{sets, sets-eq, drop-append-seam}
 use Rattle.packed.proofs.Laws.Writing.{sets-behind}
-use Rattle.script.specs.Hex.{hexText}
+use Rattle.text.specs.Hex.{hexText}
 use Rattle.script.specs.Answer.{answerBytes}
-use Rattle.script.proofs.Laws.Hex.{length-hex}
+use Rattle.text.proofs.Laws.Hex.{length-hex}
 
 -- where there are words
 pub some-words : (w s : ℕ) → (w ≡ 0 → ⊥) → w + 2 * s + 1 ≡ answerBytes w s

@@ -1,8 +1,8 @@
 -- A line that was played, and the output behind its answer.
 use mathlib.Core.Path.{_≡_, sym, subst, ap, _∙_}
+use mathlib.Core.Bool.{Bool, true, false, false≢true}
 use mathlib.Core.List.{List, [], _++_, append-nil}
 use Prim.Native.Nat.{ℕ, _+_, _-_, _≤_}
-use native.Mathlib.Omega.{arith}
 use borrow.Rule.Slice.PartMut.{midOf, putMid}
 use lib.ListN.{length, take, drop, length-drop}
 use lib.Seq.{drop-length, drop-drop, drop-append-seam, length-take-le}
@@ -10,15 +10,17 @@ use Rattle.packed.proofs.Laws.Part.{part-tail}
 use Rattle.script.specs.declared.player.Player.{Player}
 use Rattle.script.specs.declared.play.LinePlayed.{LinePlayed}
 use Rattle.script.specs.declared.play.Played.{Played}
+use Rattle.script.specs.declared.play.Stop.{Stop}
 use Rattle.script.specs.declared.reading.Reading.{Reading}
-use Rattle.script.specs.Player.{ReadyPlayer}
-use Rattle.script.specs.Play.{filled, Done}
+use Rattle.script.specs.Reading.{Meant, namedBy, meantBy}
+use Rattle.script.specs.Player.{endsOf, playedAt, ReadyPlayer}
+use Rattle.script.specs.Play.{filled, played, Done, ReadOf}
 
--- by the reading that it tells itself
-pub told : (player : Player) (reading : Reading) (last fill before after : List ℕ) (r : LinePlayed) → r .reading ≡ reading → fill ≡ filled → Done player (take (reading .bytes) last) (take (reading .room) fill) before after r → Done player (take (r .reading .bytes) last) (take (r .reading .room) filled) before after r
-told player reading last fill before after r same full done =
-    subst (λ (x : Reading). Done player (take (x .bytes) last) (take (x .room) filled) before after r) (sym same)
-    (subst (λ (l : List ℕ). Done player (take (reading .bytes) last) (take (reading .room) l) before after r) full done)
+-- a line that was played, by what it means
+pub told : (player : Player) (reading : Reading) (m : Meant) (buffer fill before after : List ℕ) (r : LinePlayed) → meantBy reading buffer ≡ m → fill ≡ filled → Done player (playedAt (reading .near) (namedBy (reading .asked) reading (take (reading .bytes) buffer)) (take (reading .room) fill) (endsOf player)) before after r → Done player (played m (endsOf player)) before after r
+told player reading m buffer fill before after r means full done =
+    subst (λ (x : Meant). Done player (played x (endsOf player)) before after r) means
+    (subst (λ (l : List ℕ). Done player (playedAt (reading .near) (namedBy (reading .asked) reading (take (reading .bytes) buffer)) (take (reading .room) l) (endsOf player)) before after r) full done)
 
 -- what stands behind an answer in a lent tail stands behind it in the whole
 pub behind-tail : (xs ys : List ℕ) (a w : ℕ) → a ≤ length xs → drop w ys ≡ drop w (midOf a (length xs - a) xs) → drop (a + w) (putMid a (length xs - a) xs ys) ≡ drop (a + w) xs
@@ -37,12 +39,21 @@ behind-tail xs ys a w h same =
 pub further : (xs ys : List ℕ) (a w : ℕ) → drop a xs ≡ drop a ys → drop (a + w) xs ≡ drop (a + w) ys
 further xs ys a w same = sym (drop-drop w a xs) ∙ ap (drop w) same ∙ drop-drop w a ys
 
+-- whether a text was played to its end
+abbrev isDone : Stop → Bool
+isDone Stop.Done = true
+isDone Stop.Unfinished = false
+isDone Stop.Full = false
+
 -- where playing stops
-pub stops : (player : Player) (read written : ℕ) (text before after : List ℕ) (r : Played) → (r .player ≡ player) × (r .read ≡ read) × (r .written ≡ written) → read ≤ length text → written ≤ length before → drop written after ≡ drop written before → ReadyPlayer player → (r .read ≤ length text) × ((r .written ≤ length before) × ((drop (r .written) after ≡ drop (r .written) before) × ReadyPlayer (r .player)))
-stops player read written text before after r e h w k y = (
-  subst (λ (n : ℕ). n ≤ length text) (sym (e .1)) h,
+pub stops : (player : Player) (read written : ℕ) (stop : Stop) (text before after : List ℕ) (r : Played) → (r .player ≡ player) × (r .read ≡ read) × (r .written ≡ written) × (r .stop ≡ stop) → read ≤ length text → (stop ≡ Stop.Done → read ≡ length text) → written ≤ length before → drop written after ≡ drop written before → ReadyPlayer player → ReadOf (length text) r × ((r .written ≤ length before) × ((drop (r .written) after ≡ drop (r .written) before) × ReadyPlayer (r .player)))
+stops player read written stop text before after r e h all w k y = (
+  record { most = subst (λ (n : ℕ). n ≤ length text) (sym (e .1)) h; all = λ done. e .1 ∙ all (sym (e .3) ∙ done) },
   (
     subst (λ (n : ℕ). n ≤ length before) (sym (e .2)) w,
     (subst (λ (n : ℕ). drop n after ≡ drop n before) (sym (e .2)) k, subst ReadyPlayer (sym (e .0)) y),
   ),
 )
+
+pub not-all : (stop : Stop) (read size : ℕ) → isDone stop ≡ false → stop ≡ Stop.Done → read ≡ size
+not-all stop read size e f = absurd (false≢true (sym e ∙ ap isDone f))

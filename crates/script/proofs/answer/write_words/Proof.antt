@@ -2,7 +2,7 @@
 use mathlib.Core.Path.{refl, ap, _∙_}
 use lib.ListN.{length, length-set}
 use lib.Seq.{length-sets}
-use Rattle.script.specs.Hex.{hexText}
+use Rattle.text.specs.Hex.{hexText}
 use Rattle.script.proofs.Laws.Answer.{all-behind}
 use borrow.Author.Needs.{needs}
 use Rattle.script.proofs.answer.write_words.Statement.{statement}

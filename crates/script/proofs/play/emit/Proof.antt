@@ -1,5 +1,5 @@
 -- An answer is written where it fits, and nothing else.
-use mathlib.Core.Path.{_≡_, refl, sym, subst}
+use mathlib.Core.Path.{refl, sym, subst}
 use Prim.Native.Nat.{ℕ, _≤_}
 use mathlib.Core.Bool.{false≢true}
 use lib.ListN.{length}

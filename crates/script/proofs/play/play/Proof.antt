@@ -1,9 +1,10 @@
 -- The lines are played one after another, each answered behind the answers so far. The measure is what is left of the text.
-use mathlib.Core.Path.{_≡_, refl, ap, sym, _∙_}
-use Prim.Native.Nat.{_+_, _-_, _≤_}
+use mathlib.Core.Path.{_≡_, refl, sym, _∙_}
+use Prim.Native.Nat.{_-_, _≤_}
 use lib.ListN.{length, drop}
+use Rattle.script.specs.declared.play.Stop.{Stop}
 use Rattle.script.specs.Player.{ReadyPlayer}
-use Rattle.script.proofs.Laws.Play.{further, stops}
+use Rattle.script.proofs.Laws.Play.{further, stops, not-all}
 use borrow.Author.Needs.{needs}
 use native.Mathlib.Omega.{arith}
 use Rattle.script.proofs.play.play.Statement.{statement}
@@ -36,7 +37,7 @@ same-length-2 c = search needs
 returns : tie.Need-returns Inv-loop μ-loop
 returns c =
     let inv = c .before .before .before .before .before .loop .inv in
-    stops _ _ _ (c .before .before .before .before .before .before .before .before .before .before .args .text .now) (c .before .before .before .before .before .before .before .before .before .before .args .output .now) (c .before .before .before .before .before .loop .output) (c .stopped .result) (c .stopped .ensures) (inv .0) (omega (arith, inv .1, inv .2)) (inv .4) (inv .5)
+    stops _ _ _ Stop.Unfinished (c .before .before .before .before .before .before .before .before .before .before .args .text .now) (c .before .before .before .before .before .before .before .before .before .before .args .output .now) (c .before .before .before .before .before .loop .output) (c .stopped .result) (c .stopped .ensures) (inv .0) (not-all Stop.Unfinished _ _ refl) (omega (arith, inv .1, inv .2)) (inv .4) (inv .5)
 
 sub-play-behind : tie.Need-sub-play-behind Inv-loop μ-loop
 sub-play-behind c = search needs
@@ -69,7 +70,7 @@ returns-2 : tie.Need-returns-2 Inv-loop μ-loop
 returns-2 c =
     let inv = c .before .before .before .before .before .before .before .before .before .before .before .before .before .before .before .before .before .before .loop .inv in
     let said = c .before .before .before .before .before .before .before .before .before .play-behind .ensures in
-    stops _ _ _ (c .before .before .before .before .before .before .before .before .before .before .before .before .before .before .before .before .before .before .before .before .before .before .before .args .text .now) (c .before .before .before .before .before .before .before .before .before .before .before .before .before .before .before .before .before .before .before .before .before .before .before .args .output .now) _ (c .stopped2 .result) (c .stopped2 .ensures) (inv .0) (omega (arith, said .written, inv .2)) (said .kept ∙ further _ _ (c .before .before .before .before .before .before .before .before .before .before .before .before .before .before .before .before .before .before .loop .count) _ (inv .4)) (said .ready)
+    stops _ _ _ Stop.Full (c .before .before .before .before .before .before .before .before .before .before .before .before .before .before .before .before .before .before .before .before .before .before .before .args .text .now) (c .before .before .before .before .before .before .before .before .before .before .before .before .before .before .before .before .before .before .before .before .before .before .before .args .output .now) _ (c .stopped2 .result) (c .stopped2 .ensures) (inv .0) (not-all Stop.Full _ _ refl) (omega (arith, said .written, inv .2)) (said .kept ∙ further _ _ (c .before .before .before .before .before .before .before .before .before .before .before .before .before .before .before .before .before .before .loop .count) _ (inv .4)) (said .ready)
 
 with-skipping-requires : tie.Need-with-skipping-requires Inv-loop μ-loop
 with-skipping-requires c κs = search needs
@@ -103,7 +104,7 @@ same-length-6 c = search needs
 returns-3 : tie.Need-returns-3 Inv-loop μ-loop
 returns-3 c =
     let inv = c .before .before .loop .inv in
-    stops _ _ _ (c .before .before .before .before .before .before .before .args .text .now) (c .before .before .before .before .before .before .before .args .output .now) (c .before .before .loop .output) (c .stopped3 .result) (c .stopped3 .ensures) (inv .0) (omega (arith, inv .1, inv .2)) (inv .4) (inv .5)
+    stops _ _ _ Stop.Done (c .before .before .before .before .before .before .before .args .text .now) (c .before .before .before .before .before .before .before .args .output .now) (c .before .before .loop .output) (c .stopped3 .result) (c .stopped3 .ensures) (inv .0) (λ e. omega (arith, inv .0, c .before .loop-test .left)) (omega (arith, inv .1, inv .2)) (inv .4) (inv .5)
 
 pub play-spec : {M : Type 1} → statement M
 play-spec =

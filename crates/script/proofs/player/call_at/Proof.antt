@@ -1,10 +1,7 @@
 -- By whether the end has a session.
-use mathlib.Core.Path.{sym, subst}
-use Rattle.script.specs.Player.{ReadySeat}
-use mathlib.Core.Path.{ap, _∙_}
+use mathlib.Core.Path.{sym, subst, ap, _∙_}
+use Rattle.script.specs.Player.{ReadySeat, seatOf}
 use Rattle.centre.specs.Turn.{callOf}
-use Rattle.script.specs.Player.{seatOf}
-use Rattle.script.specs.declared.player.Seat.{Seat}
 use Rattle.script.proofs.Laws.Player.{called-there, called-none}
 use borrow.Author.Needs.{needs}
 use Rattle.script.proofs.player.call_at.Statement.{statement}

@@ -1,0 +1,11 @@
+-- One file a notion.
+pub mod Told
+pub mod Digit
+pub mod Run
+pub mod Word
+pub mod Number
+pub mod Got
+pub mod Hex
+pub mod Memory
+pub mod Kind
+pub mod Line

@@ -1,0 +1,11 @@
+-- What the text of a script says.
+pub mod Ascii
+pub mod Within
+pub mod Word
+pub mod Digit
+pub mod Number
+pub mod Got
+pub mod Hex
+pub mod Memory
+pub mod Kind
+pub mod Line
