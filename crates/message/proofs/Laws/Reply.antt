@@ -13,7 +13,6 @@ use Rattle.packed.specs.Number.{byteValue}
 use Rattle.packed.specs.Writing.{packedByte}
 use Rattle.packed.proofs.Laws.Told.{both, three}
 use Rattle.codes.specs.Body.{free, mark, operationOf, cleared}
-use Rattle.codes.specs.Numbered.{numbered}
 use Rattle.codes.specs.Chain.{_when_}
 use Rattle.codes.specs.declared.code.Code.{Code}
 use Rattle.codes.specs.declared.code.ReadCode.{ReadCode}
@@ -139,16 +138,3 @@ pub read-then-written : (r : Reply) (body : List ℕ) → replySaid (ReadReply.R
 read-then-written r body e =
     let k = read-told r body e in
     (λ i. free ∷ sym (k .1) i ∷ sym (k .2) i ∷ sym (k .3) i ∷ []) ∙ sym (four body (k .0))
-
--- an operation's byte tells the operation
-operationFrom : ℕ → Operation
-operationFrom b = numbered operationByte (λ o. o) Operation.Other (Operation.LotTotal ∷ Operation.SessionTotal ∷ []) b
-
-from-byte : (o : Operation) → operationFrom (operationByte o) ≡ o
-unfolding operationFrom numbered operationByte packedByte
-from-byte Operation.Other = refl
-from-byte Operation.LotTotal = refl
-from-byte Operation.SessionTotal = refl
-
-pub same-operation : (o p : Operation) → operationByte o ≡ operationByte p → o ≡ p
-same-operation o p e = sym (from-byte o) ∙ ap operationFrom e ∙ from-byte p

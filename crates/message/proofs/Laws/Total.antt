@@ -1,25 +1,24 @@
--- Laws of the totals: their rows fill them, their tests in short, which numbers they carry, and what is read of written ones.
+-- Laws of the totals: their rows fill them, their tests in short in any widths, and what an answer tells of the body.
 use mathlib.Core.Path.{_≡_, refl, ap, sym, _∙_}
 use mathlib.Core.Bool.{Bool, true, _&&_, and-true}
 use mathlib.Core.List.{List}
-use Prim.Native.Nat.{ℕ, _+_, _-_, _^_, _<_}
+use Prim.Native.Nat.{ℕ, _+_, _-_}
 use native.Mathlib.Omega.{arith}
-use borrow.Author.Tests.{lt-ltb}
 use lib.ListN.{getD}
 use Rattle.packed.specs.Part.{part}
 use Rattle.packed.specs.Every.{every}
 use Rattle.packed.specs.Digits.{areDigits}
 use Rattle.packed.proofs.Laws.Digits.{digits-split}
-use Rattle.codes.specs.Field.{earning, tableGood, tableNumbers, tableTakes}
+use Rattle.codes.specs.Field.{earning, tableGood, tableNumbers}
 use Rattle.codes.proofs.Laws.Field.{adjoining}
 use Rattle.amounts.specs.Totals.{totals}
 use Rattle.message.specs.declared.total.Total.{Total}
 use Rattle.message.specs.declared.total.ReadTotal.{ReadTotal}
-use Rattle.message.specs.Layout.{Layout, bodyCode, readBody, writtenBody}
+use Rattle.message.specs.Layout.{Layout, bodyCode, readBody}
 use Rattle.message.specs.Total.{lotTotal, lotTotalFields, sessionTotal, sessionTotalFields, totalValues, totalOf, totalSaid}
 use Rattle.message.specs.Inner.Widths.{totalFields}
 use Rattle.message.proofs.Laws.Reading.{told}
-use Rattle.message.proofs.Laws.Layout.{Whole, written-then-read}
+use Rattle.message.proofs.Laws.Layout.{Whole}
 
 pub lot-whole : Whole lotTotal
 unfolding lotTotalFields adjoining every
@@ -52,27 +51,9 @@ module _ (d n c : ℕ) where
       ∙ (λ i. areDigits (part (nominal-at i) n s) && areDigits (part (commission-at i) c s))
       ∙ sym (digits-split (5 + d) n c s)
 
--- numbers that a total can carry, in any widths
-in-range : (d n c : ℕ) (t : Total) → t .number < 100 ^ 2 → t .stated .documents .0 < 100 ^ d → t .stated .nominal .0 < 100 ^ n → t .stated .commission .0 < 100 ^ c → tableTakes (totalFields d n c) (totalValues t) ≡ true
-unfolding totalFields tableTakes
-in-range d n c t a b e f = rw (lt-ltb (t .number) (100 ^ 2) a, lt-ltb (t .stated .documents .0) (100 ^ d) b, lt-ltb (t .stated .nominal .0) (100 ^ n) e, lt-ltb (t .stated .commission .0) (100 ^ c) f)
-
--- and in the printed ones
-pub lot-in-range : (t : Total) → t .number < 100 ^ 2 → t .stated .documents .0 < 100 ^ 3 → t .stated .nominal .0 < 100 ^ 8 → t .stated .commission .0 < 100 ^ 6 → tableTakes lotTotalFields (totalValues t) ≡ true
-unfolding totalFields lotTotalFields
-lot-in-range = in-range 3 8 6
-
-pub session-in-range : (t : Total) → t .number < 100 ^ 2 → t .stated .documents .0 < 100 ^ 4 → t .stated .nominal .0 < 100 ^ 9 → t .stated .commission .0 < 100 ^ 7 → tableTakes sessionTotalFields (totalValues t) ≡ true
-unfolding totalFields sessionTotalFields
-session-in-range = in-range 4 9 7
-
--- what an answer tells of the body, and what is told of a written one
-module _ (layout : Layout) (t : Total) where
-  pub read-told : (body : List ℕ) → totalSaid (ReadTotal.Read t) ≡ readBody layout body → t ≡ totalOf (layout .fields) body
-  read-told body e =
-      let read = told (bodyCode layout body) (tableNumbers 1 (layout .fields) body) (totalValues t) e .1 in
-      let at : (k : ℕ) → getD (totalValues t) k 0 ≡ getD (tableNumbers 1 (layout .fields) body) k 0 = λ (k : ℕ). ap (λ (vs : List ℕ). getD vs k 0) (sym read) in
-      λ i. record { number = at 0 i; stated = totals (at 1 i) (at 2 i) (at 3 i) }
-
-  pub total-told : Whole layout → tableTakes (layout .fields) (totalValues t) ≡ true → totalOf (layout .fields) (writtenBody layout (totalValues t)) ≡ t
-  total-told whole e = sym (read-told (writtenBody layout (totalValues t)) (sym (written-then-read layout whole (totalValues t) e)))
+-- what an answer tells of the body
+pub read-told : (layout : Layout) (t : Total) (body : List ℕ) → totalSaid (ReadTotal.Read t) ≡ readBody layout body → t ≡ totalOf (layout .fields) body
+read-told layout t body e =
+    let read = told (bodyCode layout body) (tableNumbers 1 (layout .fields) body) (totalValues t) e .1 in
+    let at : (k : ℕ) → getD (totalValues t) k 0 ≡ getD (tableNumbers 1 (layout .fields) body) k 0 = λ (k : ℕ). ap (λ (vs : List ℕ). getD vs k 0) (sym read) in
+    λ i. record { number = at 0 i; stated = totals (at 1 i) (at 2 i) (at 3 i) }

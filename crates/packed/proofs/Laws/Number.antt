@@ -1,5 +1,5 @@
--- Laws of the value of packed bytes: the step of a reading, the split of a run, the bounds, and that digits of one length and one value are
--- the same bytes.
+-- Laws of the value of packed bytes: the step of a reading, the value of two runs end to end, the bounds, and that digits of one length and
+-- one value are the same bytes.
 use mathlib.Core.Path.{_≡_, refl, ap, sym, _∙_}
 use mathlib.Core.Bool.{true}
 use mathlib.Core.List.{List, [], _∷_, _++_}
@@ -11,11 +11,9 @@ use lib.Arith.{digits-lt, digits-div, digits-mod}
 use lib.Dec.{lit<}
 use lib.Pow.{pow-add}
 use lib.ListN.{length, length-append}
-use Rattle.packed.specs.Part.{part}
 use Rattle.packed.specs.Every.{every}
 use Rattle.packed.specs.Digits.{isDigits, areDigits}
 use Rattle.packed.specs.Number.{byteValue, number}
-use Rattle.packed.proofs.Laws.Part.{part-length, part-split}
 use Rattle.packed.proofs.Laws.Every.{every-cons}
 use Rattle.packed.proofs.Laws.Digits.{halves}
 
@@ -44,12 +42,6 @@ pub number-append : (xs ys : List ℕ) → number (xs ++ ys) ≡ number xs * 100
 unfolding number
 number-append [] ys = rw (zero-mul, zero-add)
 number-append (x ∷ xs) ys = simp (number-append xs ys, length-append xs ys, pow-add, add-mul, mul-assoc, add-assoc)
-
-pub number-split : (at m n : ℕ) (s : List ℕ) → at + m + n ≤ length s → number (part at (m + n) s) ≡ number (part at m s) * 100 ^ n + number (part (at + m) n s)
-number-split at m n s h =
-    ap number (part-split at m n s)
-    ∙ number-append (part at m s) (part (at + m) n s)
-    ∙ ap (λ (k : ℕ). number (part at m s) * 100 ^ k + number (part (at + m) n s)) (part-length (at + m) n s h)
 
 -- a value is at most that of k bytes FF, each worth 165: 165 * (100 ^ k - 1) / 99, here without the division
 abbrev pub Grown : (k v : ℕ) → Type 0
