@@ -4,12 +4,14 @@ use mathlib.Core.Path.{_≡_, refl, ap, sym, subst, _∙_}
 use mathlib.Core.Bool.{Bool, cond}
 use mathlib.Core.List.{List}
 use Prim.Native.Nat.{ℕ, _+_, _-_, _≤_, _<_}
+use native.Mathlib.Omega.{arith}
 use lib.Dec.{eqb, leb}
-use lib.ListN.{length}
+use lib.ListN.{length, length-drop}
 use lib.Seq.{sets}
 use borrow.Author.Tests.{ne-eqb}
 use borrow.Rule.Slice.PartMut.{midOf, putMid}
 use Rattle.packed.specs.Writing.{packedBytes}
+use Rattle.packed.proofs.Laws.Part.{part-tail}
 use Rattle.codes.specs.Chain.{_when_, _orelse_}
 use Rattle.codes.specs.Field.{tableWritten}
 use Rattle.codes.proofs.Laws.Chain.{joins, rest-same}
@@ -23,14 +25,15 @@ use Rattle.message.proofs.Laws.Line.{body-length}
 use Rattle.session.specs.declared.effect.Effect.{Effect}
 use Rattle.session.specs.declared.session.Session.{Session}
 use Rattle.session.specs.Parties.{presentingRoute}
-use Rattle.session.specs.Running.{Running}
+use Rattle.session.specs.Running.{Running, empty}
 use Rattle.session.specs.Outcome.{Outcome, noRoom, held}
 use Rattle.session.specs.Time.{timeRefusal}
 use Rattle.session.specs.Sending.{isPending, nextEnvelope, sendRefusal, sent, posted, send}
 use Rattle.session.proofs.Laws.Refusals.{SendTold, send-told}
 use Rattle.calls.proofs.Laws.Said.{said-done, said-refused}
 use Rattle.presenting.specs.declared.answer.SendAnswer.{SendAnswer}
-use Rattle.presenting.specs.Said.{sendNumber, sendWritten}
+use Rattle.presenting.specs.declared.answer.SendOutcome.{SendOutcome}
+use Rattle.presenting.specs.Said.{sendNumber, sendWritten, sendSaid}
 
 -- the chain of a send, in the two parts that the code takes
 abbrev early : (time : ℕ) → Session → ℕ
@@ -52,51 +55,82 @@ refusal-same time code a b room s h =
     ∙ ap (λ (n : ℕ). early time s orelse n) (rest-same code (23 when noRoom a room) (23 when noRoom b room) (λ (e : code ≡ 0). ap (λ (n : ℕ). 23 when noRoom n room) (h e)))
     ∙ refusal-split time code b room s
 
--- what the code of a send knows once its answer is there: the answer's number and length, and how long the message is that no code stops
-pub record Answered (time code : ℕ) (body : List ℕ) (s : Session) (line : List ℕ) (answer : SendAnswer) : Type 0 where
+-- a send whose answer is there: what it was asked, what it would post, and the answer
+pub record Sending : Type 0 where
+  pub time : ℕ
+  pub code : ℕ
+  pub effect : Effect
+  pub body : List ℕ
+  pub session : Session
+  pub line : List ℕ
+  pub answer : SendAnswer
+
+abbrev wholeOf : Sending → List ℕ
+wholeOf x = wholeMessage (nextEnvelope (x .session)) (x .body)
+
+-- what it means, beside any running totals
+abbrev pub meant : Sending → Running → Outcome
+meant x t = send (x .time) (x .code) (x .effect) (x .body) (held (x .session) t (x .line))
+
+-- what is known of the answer: its number and length, and how long the message is that no code stops
+pub record Answered (x : Sending) : Type 0 where
   pub bytes : ℕ
-  pub number : sendNumber answer ≡ sendRefusal time code bytes (length line) s
-  pub written : sendWritten answer ≡ cond (eqb (sendNumber answer) 0) bytes 0
-  pub size : code ≡ 0 → bytes ≡ length (wholeMessage (nextEnvelope s) body)
+  pub number : sendNumber (x .answer) ≡ sendRefusal (x .time) (x .code) bytes (length (x .line)) (x .session)
+  pub written : sendWritten (x .answer) ≡ cond (eqb (sendNumber (x .answer)) 0) bytes 0
+  pub size : x .code ≡ 0 → bytes ≡ length (wholeOf x)
+
+pub answered : (x : Sending) (bytes code : ℕ) → sendNumber (x .answer) ≡ sendRefusal (x .time) code bytes (length (x .line)) (x .session) → sendWritten (x .answer) ≡ cond (eqb (sendNumber (x .answer)) 0) bytes 0 → code ≡ x .code → (x .code ≡ 0 → bytes ≡ length (wholeOf x)) → Answered x
+answered x bytes code number written same size =
+    record { bytes = bytes; number = number ∙ ap (λ (n : ℕ). sendRefusal (x .time) n bytes (length (x .line)) (x .session)) same; written = written; size = size }
 
 -- messages of a fixed length
 pub fixed-size : (s : Session) (x : Body) → envelopeBytes + layoutOf (presentingRoute (s .parties)) x .bytes ≡ length (wholeMessage (nextEnvelope s) (bodyBytes (presentingRoute (s .parties)) x))
 fixed-size s x = sym (whole-length Kind.Message (nextEnvelope s) (bodyBytes (presentingRoute (s .parties)) x) ∙ ap (λ (n : ℕ). envelopeBytes + n) (body-length (presentingRoute (s .parties)) x))
 
-module _ (time code : ℕ) (effect : Effect) (body : List ℕ) (s : Session) (t : Running) (line : List ℕ) (answer : SendAnswer) (k : Answered time code body s line answer) where
-  abbrev whole : List ℕ
-  whole = wholeMessage (nextEnvelope s) body
+module _ (x : Sending) (k : Answered x) where
+  chain : sendNumber (x .answer) ≡ sendRefusal (x .time) (x .code) (length (wholeOf x)) (length (x .line)) (x .session)
+  chain = k .number ∙ refusal-same (x .time) (x .code) (k .bytes) (length (wholeOf x)) (length (x .line)) (x .session) (k .size)
 
-  chain : sendNumber answer ≡ sendRefusal time code (length whole) (length line) s
-  chain = k .number ∙ refusal-same time code (k .bytes) (length whole) (length line) s (k .size)
+  abbrev outcomeOf : Session → SendOutcome
+  outcomeOf next = record { answer = x .answer; session = next }
 
-  abbrev said : (next : Session) (after : List ℕ) → Outcome
-  said next after = record { number = sendNumber answer; written = sendWritten answer; left = held next t after }
-
-  pub unposted : (sendNumber answer ≡ 0 → ⊥) → said s line ≡ send time code effect body (held s t line)
+  pub unposted : (sendNumber (x .answer) ≡ 0 → ⊥) → (t : Running) (o : SendOutcome) → o ≡ outcomeOf (x .session) → sendSaid o t (x .line) ≡ meant x t
   unfolding send
-  unposted h =
-      let none = k .written ∙ ap (λ (b : Bool). cond b (k .bytes) 0) (ne-eqb (sendNumber answer) 0 h) in
-      (λ i. record { number = sendNumber answer; written = none i; left = held s t line }) ∙ said-refused (sendNumber answer) (sendRefusal time code (length whole) (length line) s) (held s t line) (posted time effect body (held s t line)) chain h
+  unposted h t o same =
+      let before = held (x .session) t (x .line) in
+      let none = k .written ∙ ap (λ (b : Bool). cond b (k .bytes) 0) (ne-eqb (sendNumber (x .answer)) 0 h) in
+      ap (λ (r : SendOutcome). sendSaid r t (x .line)) same
+      ∙ (λ i. record { number = sendNumber (x .answer); written = none i; left = before })
+      ∙ said-refused (sendNumber (x .answer)) (sendRefusal (x .time) (x .code) (length (wholeOf x)) (length (x .line)) (x .session)) before (posted (x .time) (x .effect) (x .body) before) chain h
 
   -- nothing stops it: a serial is left, and there is room
-  module _ (e : sendNumber answer ≡ 0) where
-    told : SendTold code whole (held s t line)
-    told = send-told time code whole (held s t line) (sym chain ∙ e)
+  module _ (e : sendNumber (x .answer) ≡ 0) where
+    told : SendTold (x .code) (wholeOf x) (held (x .session) empty (x .line))
+    told = send-told (x .time) (x .code) (wholeOf x) (held (x .session) empty (x .line)) (sym chain ∙ e)
 
-    pub serial-left : s .presenting .serial < largestSerial
+    pub serial-left : x .session .presenting .serial < largestSerial
     serial-left = told .more
 
-    pub unstopped : code ≡ 0
+    pub unstopped : x .code ≡ 0
     unstopped = told .unstopped
 
-    pub room : envelopeBytes + length body ≤ length line
-    room = subst (λ (n : ℕ). n ≤ length line) (whole-length Kind.Message (nextEnvelope s) body) (told .room)
+    pub room : envelopeBytes + length (x .body) ≤ length (x .line)
+    room = subst (λ (n : ℕ). n ≤ length (x .line)) (whole-length Kind.Message (nextEnvelope (x .session)) (x .body)) (told .room)
 
-    -- an envelope was written, and then a body into the lent tail
-    pub posted-so : (next : Session) (first tail : List ℕ) → next ≡ sent time effect s → first ≡ sets line 0 (writtenEnvelope Kind.Message (nextEnvelope s)) → tail ≡ sets (midOf envelopeBytes (length first - envelopeBytes) first) 0 body → said next (putMid envelopeBytes (length first - envelopeBytes) first tail) ≡ send time code effect body (held s t line)
-    unfolding send tableWritten envelopeFields packedBytes
-    posted-so next first tail n f b =
-        let all = k .written ∙ ap (λ (m : ℕ). cond (eqb m 0) (k .bytes) 0) e ∙ k .size unstopped in
-        let after = both-written line first tail (writtenEnvelope Kind.Message (nextEnvelope s)) body envelopeBytes refl room f b in
-        (λ i. record { number = e i; written = all i; left = held (n i) t (after i) }) ∙ said-done (sendNumber answer) (sendRefusal time code (length whole) (length line) s) (held s t line) (posted time effect body (held s t line)) chain e
+    -- once the envelope is written, the rest of the line is lent for the body
+    module _ (first : List ℕ) where
+      abbrev rest : List ℕ
+      rest = midOf envelopeBytes (length first - envelopeBytes) first
+
+      pub rest-room : length first ≡ length (x .line) → length (x .body) ≤ length rest
+      rest-room h = omega (arith, room, ap length (part-tail envelopeBytes first) ∙ length-drop envelopeBytes first)
+
+      pub posted-so : (next : Session) (after : List ℕ) → next ≡ sent (x .time) (x .effect) (x .session) → first ≡ sets (x .line) 0 (writtenEnvelope Kind.Message (nextEnvelope (x .session))) → after ≡ sets rest 0 (x .body) → (t : Running) (o : SendOutcome) → o ≡ outcomeOf next → sendSaid o t (putMid envelopeBytes (length first - envelopeBytes) first after) ≡ meant x t
+      unfolding send tableWritten envelopeFields packedBytes
+      posted-so next after n f b t o same =
+          let before = held (x .session) t (x .line) in
+          let all = k .written ∙ ap (λ (m : ℕ). cond (eqb m 0) (k .bytes) 0) e ∙ k .size unstopped in
+          let line = both-written (x .line) first after (writtenEnvelope Kind.Message (nextEnvelope (x .session))) (x .body) envelopeBytes refl room f b in
+          ap (λ (r : SendOutcome). sendSaid r t (putMid envelopeBytes (length first - envelopeBytes) first after)) same
+          ∙ (λ i. record { number = e i; written = all i; left = held (n i) t (line i) })
+          ∙ said-done (sendNumber (x .answer)) (sendRefusal (x .time) (x .code) (length (wholeOf x)) (length (x .line)) (x .session)) before (posted (x .time) (x .effect) (x .body) before) chain e

@@ -3,10 +3,9 @@ use mathlib.Core.Path.{_≡_, ap, sym, _∙_}
 use mathlib.Core.List.{List}
 use Prim.Native.Nat.{ℕ, _+_, _-_, _≤_}
 use native.Mathlib.Omega.{arith}
-use lib.ListN.{length, length-drop}
+use lib.ListN.{length}
 use lib.Seq.{sets}
 use borrow.Rule.Slice.PartMut.{midOf, putMid}
-use Rattle.packed.proofs.Laws.Part.{part-tail}
 use Rattle.message.specs.declared.route.Route.{Route}
 use Rattle.message.specs.Limits.{headerBytes, envelopeBytes}
 use Rattle.message.specs.Line.{Body, bodyBytes}
@@ -14,13 +13,14 @@ use Rattle.message.proofs.Laws.Line.{body-length}
 use Rattle.session.specs.declared.effect.Effect.{Effect}
 use Rattle.session.specs.Parties.{presentingRoute}
 use Rattle.session.specs.Running.{Running, empty}
-use Rattle.session.specs.Outcome.{Outcome, held}
-use Rattle.session.specs.Sending.{headerStop, sendRefusal, sendHeader}
+use Rattle.session.specs.Outcome.{held}
+use Rattle.session.specs.Sending.{headerStop, sendHeader}
+use Rattle.session.specs.Premise.{Kept}
 use Rattle.session.proofs.Laws.EveryCall.{header-kept}
 use Rattle.calls.proofs.Laws.Said.{so-kept}
 use Rattle.presenting.specs.declared.answer.SendOutcome.{SendOutcome}
 use Rattle.presenting.specs.Said.{sendNumber, sendSaid}
-use Rattle.presenting.proofs.Laws.Send.{Answered, fixed-size, serial-left, room, posted-so, unposted}
+use Rattle.presenting.proofs.Laws.Send.{Sending, Answered, meant, answered, fixed-size, serial-left, room, rest-room, posted-so, unposted}
 use borrow.Author.Needs.{needs}
 use Rattle.presenting.proofs.sending.send_header.Statement.{statement}
 use Rattle.presenting.proofs.sending.send_header.Tie as tie
@@ -37,43 +37,42 @@ send-answer-requires c κs = search needs
 send-number-requires : tie.Need-send-number-requires
 send-number-requires c κs = search needs
 
+abbrev start : tie.After-send-number → tie.Start
+start k = k .before .before .before .before .before .before
+
+abbrev content : tie.Start → Body
+content s = let a = s .args in Body.opening (record { time = a .moment; centre = a .centre; number = a .number })
+
 -- the answer is there
-abbrev body : tie.After-send-number → List ℕ
-body k = let a = k .before .before .before .before .before .before .args in bodyBytes (presentingRoute (a .session .parties)) (Body.opening (record { time = a .moment; centre = a .centre; number = a .number }))
+abbrev sending : tie.After-send-number → Sending
+sending k =
+    let a = start k .args in
+    record {
+      time = a .time;
+      code = headerStop (a .time) (a .moment) (a .centre) (a .number) (a .session .presenting);
+      effect = Effect.Header (a .number);
+      body = bodyBytes (presentingRoute (a .session .parties)) (content (start k));
+      session = a .session;
+      line = a .line .now;
+      answer = k .before .send-answer .result;
+    }
 
-abbrev code : tie.After-send-number → ℕ
-code k = let a = k .before .before .before .before .before .before .args in headerStop (a .time) (a .moment) (a .centre) (a .number) (a .session .presenting)
-
-abbrev effect : tie.After-send-number → Effect
-effect k = let a = k .before .before .before .before .before .before .args in Effect.Header (a .number)
-
-abbrev meant : tie.After-send-number → Running → Outcome
-meant k u = let a = k .before .before .before .before .before .before .args in sendHeader (a .time) (a .moment) (a .centre) (a .number) (held (a .session) u (a .line .now))
-
-answered : (k : tie.After-send-number) → let a = k .before .before .before .before .before .before .args in Answered (a .time) (code k) (body k) (a .session) (a .line .now) (k .before .send-answer .result)
-answered k =
-    let a = k .before .before .before .before .before .before .args in
+known : (k : tie.After-send-number) → Answered (sending k)
+known k =
     let found = k .before .send-answer .ensures in
-    record { bytes = envelopeBytes + headerBytes; number = found .0 ∙ ap (λ (n : ℕ). sendRefusal (a .time) n (envelopeBytes + headerBytes) (length (a .line .now)) (a .session)) (k .before .before .header-stop .ensures); written = found .1; size = λ (e : code k ≡ 0). fixed-size (a .session) (Body.opening (record { time = a .moment; centre = a .centre; number = a .number })) }
+    answered (sending k) (envelopeBytes + headerBytes) _ (found .0) (found .1) (k .before .before .header-stop .ensures) (λ (e : sending k .code ≡ 0). fixed-size (sending k .session) (content (start k)))
 
-none : (t : tie.Then1) → sendNumber (t .before .before .send-answer .result) ≡ 0
+none : (t : tie.Then1) → sendNumber (sending (t .before) .answer) ≡ 0
 none t = sym (t .before .send-number .ensures) ∙ t .if1 .taken
 
-fits : (t : tie.Then1) → envelopeBytes + length (body (t .before)) ≤ length (t .before .before .before .before .before .before .before .args .line .now)
-fits t =
-    let k = t .before in
-    let a = k .before .before .before .before .before .before .args in
-    room (a .time) (code k) (effect k) (body k) (a .session) empty (a .line .now) (k .before .send-answer .result) (answered k) (none t)
+fits : (t : tie.Then1) → envelopeBytes + length (sending (t .before) .body) ≤ length (sending (t .before) .line)
+fits t = room (sending (t .before)) (known (t .before)) (none t)
 
 post-requires : tie.Need-post-requires
-post-requires c κs =
-    let t = c .before in
-    let k = t .before in
-    let a = k .before .before .before .before .before .before .args in
-    (serial-left (a .time) (code k) (effect k) (body k) (a .session) empty (a .line .now) (k .before .send-answer .result) (answered k) (none t), omega (arith, fits t))
+post-requires c κs = let t = c .before in (serial-left (sending (t .before)) (known (t .before)) (none t), omega (arith, fits t))
 
 sub-write-header : tie.Need-sub-write-header
-sub-write-header c = omega (arith, fits (c .before .before .before .before), c .before .before .post .kept .1 .1 .1 .0)
+sub-write-header c = let p = c .before .before in omega (arith, fits (p .before .before), p .post .kept .1 .1 .1 .0)
 
 part-write-header-start : tie.Need-part-write-header-start
 part-write-header-start c = let h = sub-write-header c in search needs
@@ -86,10 +85,17 @@ presenting-route-requires c κs = search needs
 
 write-header-requires : tie.Need-write-header-requires
 write-header-requires c κs =
-    let first = c .before .before .before .before .post .last .1 .1 .1 .0 in
-    let tail = ap length (part-tail envelopeBytes first) ∙ length-drop envelopeBytes first in
-    let a = c .before .before .before .before .before .before .before .before .before .before .before .before .before .args in
-    omega (arith, fits (c .before .before .before .before .before .before), c .before .before .before .before .post .kept .1 .1 .1 .0, tail, body-length (presentingRoute (a .session .parties)) (Body.opening (record { time = a .moment; centre = a .centre; number = a .number })))
+    let p = c .before .before .before .before in
+    let t = p .before .before in
+    let k = t .before in
+    omega (arith, rest-room (sending k) (known k) (none t) (p .post .last .1 .1 .1 .0) (p .post .kept .1 .1 .1 .0), body-length (presentingRoute (sending k .session .parties)) (content (start k)))
+
+-- what is said as meant keeps the premise
+with-premise : (k : tie.After-send-number) (o : SendOutcome) (after : List ℕ) → ((u : Running) → sendSaid o u after ≡ meant (sending k) u) → let a = start k .args in ((u : Running) → sendSaid o u after ≡ sendHeader (a .time) (a .moment) (a .centre) (a .number) (held (a .session) u (a .line .now))) × Kept (a .session) (o .session)
+unfolding sendHeader
+with-premise k o after whole =
+    let a = start k .args in
+    (whole, so-kept (a .session) _ _ (whole empty) (header-kept (a .time) (a .moment) (a .centre) (a .number) (held (a .session) empty (a .line .now)) (start k .pre)))
 
 outcome-requires : tie.Need-outcome-requires
 outcome-requires c κs = search needs
@@ -98,33 +104,25 @@ same-length : tie.Need-same-length
 same-length c = search needs
 
 returns : tie.Need-returns
-unfolding sendHeader bodyBytes
+unfolding bodyBytes
 returns c =
-    let t = c .before .before .before .before .before .before .before .before .before .before in
+    let w = c .before .before .before in
+    let p = w .before .before .before .before .before in
+    let t = p .before .before in
     let k = t .before in
-    let a = k .before .before .before .before .before .before .args in
-    let posting = c .before .before .before .before .before .before .before .before .post in
-    let first = posting .last .1 .1 .1 .0 in
-    let writing = c .before .before .before .write-header in
-    let answer = k .before .send-answer .result in
-    let next = posting .ensures .0 in
-    let tail = writing .ensures ∙ ap (λ (r : Route). sets (midOf envelopeBytes (length first - envelopeBytes) first) 0 (bodyBytes r (Body.opening (record { time = a .moment; centre = a .centre; number = a .number })))) (c .before .before .before .before .presenting-route .ensures) in
-    let after = putMid envelopeBytes (length first - envelopeBytes) first (writing .last .0) in
-    let whole : (u : Running) → sendSaid (c .outcome .result) u after ≡ meant k u = λ (u : Running). ap (λ (x : SendOutcome). sendSaid x u after) (c .outcome .ensures) ∙ posted-so (a .time) (code k) (effect k) (body k) (a .session) u (a .line .now) answer (answered k) (none t) (posting .result) first (writing .last .0) next (posting .ensures .1) tail in
-    (whole, so-kept (a .session) _ _ (whole empty) (header-kept (a .time) (a .moment) (a .centre) (a .number) (held (a .session) empty (a .line .now)) (k .before .before .before .before .before .before .pre)))
+    let first = p .post .last .1 .1 .1 .0 in
+    let body = w .write-header .ensures ∙ ap (λ (r : Route). sets (midOf envelopeBytes (length first - envelopeBytes) first) 0 (bodyBytes r (content (start k)))) (w .before .presenting-route .ensures) in
+    with-premise k (c .outcome .result) (putMid envelopeBytes (length first - envelopeBytes) first (w .write-header .last .0))
+    (λ (u : Running). posted-so (sending k) (known k) (none t) first (p .post .result) (w .write-header .last .0) (p .post .ensures .0) (p .post .ensures .1) body u (c .outcome .result) (c .outcome .ensures))
 
 outcome-requires-2 : tie.Need-outcome-requires-2
 outcome-requires-2 c κs = search needs
 
 returns-2 : tie.Need-returns-2
-unfolding sendHeader bodyBytes
 returns-2 c =
     let k = c .before .before in
-    let a = k .before .before .before .before .before .before .args in
-    let answer = k .before .send-answer .result in
-    let some : sendNumber answer ≡ 0 → ⊥ = λ (e : sendNumber answer ≡ 0). c .before .if1 .left (k .send-number .ensures ∙ e) in
-    let whole : (u : Running) → sendSaid (c .outcome2 .result) u (a .line .now) ≡ meant k u = λ (u : Running). ap (λ (x : SendOutcome). sendSaid x u (a .line .now)) (c .outcome2 .ensures) ∙ unposted (a .time) (code k) (effect k) (body k) (a .session) u (a .line .now) answer (answered k) some in
-    (whole, so-kept (a .session) _ _ (whole empty) (header-kept (a .time) (a .moment) (a .centre) (a .number) (held (a .session) empty (a .line .now)) (k .before .before .before .before .before .before .pre)))
+    let some : sendNumber (sending k .answer) ≡ 0 → ⊥ = λ (e : sendNumber (sending k .answer) ≡ 0). c .before .if1 .left (k .send-number .ensures ∙ e) in
+    with-premise k (c .outcome2 .result) (sending k .line) (λ (u : Running). unposted (sending k) (known k) some u (c .outcome2 .result) (c .outcome2 .ensures))
 
 pub send-header-spec : {M : Type 1} → statement M
 send-header-spec =

@@ -1,26 +1,26 @@
--- `send_lot_total`: the open lot, with what it gathered.
+-- `send_lot_total`: as `send_header`, with the open lot's number and what it gathered.
 use mathlib.Core.Path.{_≡_, ap, sym, _∙_}
 use mathlib.Core.List.{List}
 use Prim.Native.Nat.{ℕ, _+_, _-_, _≤_}
 use native.Mathlib.Omega.{arith}
-use lib.ListN.{length, length-drop}
+use lib.ListN.{length}
 use lib.Seq.{sets}
 use borrow.Rule.Slice.PartMut.{midOf, putMid}
-use Rattle.packed.proofs.Laws.Part.{part-tail}
 use Rattle.message.specs.Limits.{lotTotalBytes, envelopeBytes}
 use Rattle.message.specs.Line.{Body, bodyBytes}
 use Rattle.message.proofs.Laws.Line.{body-length}
 use Rattle.session.specs.declared.effect.Effect.{Effect}
 use Rattle.session.specs.Parties.{presentingRoute, Direction}
 use Rattle.session.specs.Running.{stated}
-use Rattle.session.specs.Outcome.{Outcome, held}
-use Rattle.session.specs.Sending.{openNumber, endingLot, lotTotalStop, sendRefusal, sent, sendLotTotal}
+use Rattle.session.specs.Outcome.{held}
+use Rattle.session.specs.Sending.{openNumber, endingLot, lotTotalStop, sent, sendLotTotal}
+use Rattle.session.specs.Premise.{KeptBeside}
 use Rattle.session.specs.Engine.{Call, meaning}
 use Rattle.session.proofs.Laws.EveryCall.{kept-beside}
 use Rattle.calls.proofs.Laws.Said.{so-kept-beside}
 use Rattle.presenting.specs.declared.answer.SendOutcome.{SendOutcome}
 use Rattle.presenting.specs.Said.{sendNumber, sendSaid}
-use Rattle.presenting.proofs.Laws.Send.{Answered, fixed-size, serial-left, room, posted-so, unposted}
+use Rattle.presenting.proofs.Laws.Send.{Sending, Answered, meant, answered, fixed-size, serial-left, room, rest-room, posted-so, unposted}
 use borrow.Author.Needs.{needs}
 use Rattle.presenting.proofs.sending.send_lot_total.Statement.{statement}
 use Rattle.presenting.proofs.sending.send_lot_total.Tie as tie
@@ -40,47 +40,46 @@ send-answer-requires c κs = search needs
 send-number-requires : tie.Need-send-number-requires
 send-number-requires c κs = search needs
 
+abbrev start : tie.After-send-number → tie.Start
+start k = k .before .before .before .before .before .before .before
+
+abbrev content : tie.Start → Body
+content s = let a = s .args in Body.lotEnding (record { number = openNumber (a .session .presenting .counters .current); stated = stated (a .running) })
+
 -- the answer is there
-abbrev body : tie.After-send-number → List ℕ
-body k = let a = k .before .before .before .before .before .before .before .args in bodyBytes (presentingRoute (a .session .parties)) (Body.lotEnding (record { number = openNumber (a .session .presenting .counters .current); stated = stated (a .running) }))
+abbrev sending : tie.After-send-number → Sending
+sending k =
+    let a = start k .args in
+    record {
+      time = a .time;
+      code = lotTotalStop (a .session .presenting);
+      effect = Effect.LotTotal (endingLot (a .session .presenting .counters) (a .running));
+      body = bodyBytes (presentingRoute (a .session .parties)) (content (start k));
+      session = a .session;
+      line = a .line .now;
+      answer = k .before .send-answer .result;
+    }
 
-abbrev code : tie.After-send-number → ℕ
-code k = let a = k .before .before .before .before .before .before .before .args in lotTotalStop (a .session .presenting)
-
-abbrev effect : tie.After-send-number → Effect
-effect k = let a = k .before .before .before .before .before .before .before .args in Effect.LotTotal (endingLot (a .session .presenting .counters) (a .running))
-
-abbrev meant : tie.After-send-number → Outcome
-meant k = let a = k .before .before .before .before .before .before .before .args in sendLotTotal (a .time) (held (a .session) (a .running) (a .line .now))
-
-answered : (k : tie.After-send-number) → let a = k .before .before .before .before .before .before .before .args in Answered (a .time) (code k) (body k) (a .session) (a .line .now) (k .before .send-answer .result)
+known : (k : tie.After-send-number) → Answered (sending k)
 unfolding lotTotalStop
-answered k =
-    let a = k .before .before .before .before .before .before .before .args in
+known k =
     let found = k .before .send-answer .ensures in
-    record { bytes = envelopeBytes + lotTotalBytes; number = found .0 ∙ ap (λ (n : ℕ). sendRefusal (a .time) n (envelopeBytes + lotTotalBytes) (length (a .line .now)) (a .session)) (k .before .before .lot-sequence .ensures); written = found .1; size = λ (e : code k ≡ 0). fixed-size (a .session) (Body.lotEnding (record { number = openNumber (a .session .presenting .counters .current); stated = stated (a .running) })) }
+    answered (sending k) (envelopeBytes + lotTotalBytes) _ (found .0) (found .1) (k .before .before .lot-sequence .ensures) (λ (e : sending k .code ≡ 0). fixed-size (sending k .session) (content (start k)))
 
-none : (t : tie.Then1) → sendNumber (t .before .before .send-answer .result) ≡ 0
+none : (t : tie.Then1) → sendNumber (sending (t .before) .answer) ≡ 0
 none t = sym (t .before .send-number .ensures) ∙ t .if1 .taken
 
-fits : (t : tie.Then1) → envelopeBytes + length (body (t .before)) ≤ length (t .before .before .before .before .before .before .before .before .args .line .now)
-fits t =
-    let k = t .before in
-    let a = k .before .before .before .before .before .before .before .args in
-    room (a .time) (code k) (effect k) (body k) (a .session) (a .running) (a .line .now) (k .before .send-answer .result) (answered k) (none t)
+fits : (t : tie.Then1) → envelopeBytes + length (sending (t .before) .body) ≤ length (sending (t .before) .line)
+fits t = room (sending (t .before)) (known (t .before)) (none t)
 
 post-requires : tie.Need-post-requires
-post-requires c κs =
-    let t = c .before in
-    let k = t .before in
-    let a = k .before .before .before .before .before .before .before .args in
-    (serial-left (a .time) (code k) (effect k) (body k) (a .session) (a .running) (a .line .now) (k .before .send-answer .result) (answered k) (none t), omega (arith, fits t))
+post-requires c κs = let t = c .before in (serial-left (sending (t .before)) (known (t .before)) (none t), omega (arith, fits t))
 
 stated-requires : tie.Need-stated-requires
 stated-requires c κs = search needs
 
 sub-write-lot-total : tie.Need-sub-write-lot-total
-sub-write-lot-total c = omega (arith, fits (c .before .before .before .before .before), c .before .before .before .post .kept .1 .1 .1 .0)
+sub-write-lot-total c = let p = c .before .before .before in omega (arith, fits (p .before .before), p .post .kept .1 .1 .1 .0)
 
 part-write-lot-total-start : tie.Need-part-write-lot-total-start
 part-write-lot-total-start c = let h = sub-write-lot-total c in search needs
@@ -90,10 +89,18 @@ part-write-lot-total-end c = search needs
 
 write-lot-total-requires : tie.Need-write-lot-total-requires
 write-lot-total-requires c κs =
-    let first = c .before .before .before .before .post .last .1 .1 .1 .0 in
-    let tail = ap length (part-tail envelopeBytes first) ∙ length-drop envelopeBytes first in
-    let a = c .before .before .before .before .before .before .before .before .before .before .before .before .before .before .args in
-    omega (arith, fits (c .before .before .before .before .before .before), c .before .before .before .before .post .kept .1 .1 .1 .0, tail, body-length (presentingRoute (a .session .parties)) (Body.lotEnding (record { number = openNumber (a .session .presenting .counters .current); stated = stated (a .running) })))
+    let p = c .before .before .before .before in
+    let t = p .before .before in
+    let k = t .before in
+    omega (arith, rest-room (sending k) (known k) (none t) (p .post .last .1 .1 .1 .0) (p .post .kept .1 .1 .1 .0), body-length (presentingRoute (sending k .session .parties)) (content (start k)))
+
+-- what is said as meant keeps the premise
+with-premise : (k : tie.After-send-number) (o : SendOutcome) (after : List ℕ) → let a = start k .args in sendSaid o (a .running) after ≡ meant (sending k) (a .running) → (sendSaid o (a .running) after ≡ sendLotTotal (a .time) (held (a .session) (a .running) (a .line .now))) × KeptBeside Direction.presenting (a .session) (o .session) (a .running)
+unfolding sendLotTotal meaning
+with-premise k o after whole =
+    let a = start k .args in
+    let pre = start k .pre in
+    (whole, so-kept-beside (a .session) _ _ whole Direction.presenting (kept-beside (Call.lotTotal (a .time)) (held (a .session) (a .running) (a .line .now)) (record { sound = pre .0; carried = pre .1 })))
 
 outcome-requires : tie.Need-outcome-requires
 outcome-requires c κs = search needs
@@ -102,33 +109,28 @@ same-length : tie.Need-same-length
 same-length c = search needs
 
 returns : tie.Need-returns
-unfolding sendLotTotal bodyBytes meaning
+unfolding bodyBytes
 returns c =
-    let t = c .before .before .before .before .before .before .before .before .before .before in
+    let w = c .before .before .before in
+    let p = w .before .before .before .before .before in
+    let t = p .before .before in
     let k = t .before in
-    let a = k .before .before .before .before .before .before .before .args in
-    let posting = c .before .before .before .before .before .before .before .before .post in
-    let first = posting .last .1 .1 .1 .0 in
-    let writing = c .before .before .before .write-lot-total in
-    let answer = k .before .send-answer .result in
-    let next = posting .ensures .0 ∙ ap (λ (n : ℕ). sent (a .time) (Effect.LotTotal (record { number = n; gathered = a .running })) (a .session)) (k .before .before .before .open-number .ensures) in
-    let tail = writing .ensures ∙ λ i. sets (midOf envelopeBytes (length first - envelopeBytes) first) 0 (bodyBytes (presentingRoute (a .session .parties)) (Body.lotEnding (record { number = k .before .before .before .open-number .ensures i; stated = c .before .before .before .before .before .stated .ensures i }))) in
-    let after = putMid envelopeBytes (length first - envelopeBytes) first (writing .last .0) in
-    let whole : sendSaid (c .outcome .result) (a .running) after ≡ meant k = ap (λ (x : SendOutcome). sendSaid x (a .running) after) (c .outcome .ensures) ∙ posted-so (a .time) (code k) (effect k) (body k) (a .session) (a .running) (a .line .now) answer (answered k) (none t) (posting .result) first (writing .last .0) next (posting .ensures .1) tail in
-    (whole, so-kept-beside (a .session) _ _ whole Direction.presenting (kept-beside (Call.lotTotal (a .time)) (held (a .session) (a .running) (a .line .now)) (record { sound = k .before .before .before .before .before .before .before .pre .0; carried = k .before .before .before .before .before .before .before .pre .1 })))
+    let a = start k .args in
+    let first = p .post .last .1 .1 .1 .0 in
+    let number = k .before .before .before .open-number .ensures in
+    let next = p .post .ensures .0 ∙ ap (λ (n : ℕ). sent (a .time) (Effect.LotTotal (record { number = n; gathered = a .running })) (a .session)) number in
+    let body = w .write-lot-total .ensures ∙ λ i. sets (midOf envelopeBytes (length first - envelopeBytes) first) 0 (bodyBytes (presentingRoute (a .session .parties)) (Body.lotEnding (record { number = number i; stated = w .before .before .stated .ensures i }))) in
+    with-premise k (c .outcome .result) (putMid envelopeBytes (length first - envelopeBytes) first (w .write-lot-total .last .0))
+    (posted-so (sending k) (known k) (none t) first (p .post .result) (w .write-lot-total .last .0) next (p .post .ensures .1) body (a .running) (c .outcome .result) (c .outcome .ensures))
 
 outcome-requires-2 : tie.Need-outcome-requires-2
 outcome-requires-2 c κs = search needs
 
 returns-2 : tie.Need-returns-2
-unfolding sendLotTotal bodyBytes meaning
 returns-2 c =
     let k = c .before .before in
-    let a = k .before .before .before .before .before .before .before .args in
-    let answer = k .before .send-answer .result in
-    let some : sendNumber answer ≡ 0 → ⊥ = λ (e : sendNumber answer ≡ 0). c .before .if1 .left (k .send-number .ensures ∙ e) in
-    let whole : sendSaid (c .outcome2 .result) (a .running) (a .line .now) ≡ meant k = ap (λ (x : SendOutcome). sendSaid x (a .running) (a .line .now)) (c .outcome2 .ensures) ∙ unposted (a .time) (code k) (effect k) (body k) (a .session) (a .running) (a .line .now) answer (answered k) some in
-    (whole, so-kept-beside (a .session) _ _ whole Direction.presenting (kept-beside (Call.lotTotal (a .time)) (held (a .session) (a .running) (a .line .now)) (record { sound = k .before .before .before .before .before .before .before .pre .0; carried = k .before .before .before .before .before .before .before .pre .1 })))
+    let some : sendNumber (sending k .answer) ≡ 0 → ⊥ = λ (e : sendNumber (sending k .answer) ≡ 0). c .before .if1 .left (k .send-number .ensures ∙ e) in
+    with-premise k (c .outcome2 .result) (sending k .line) (unposted (sending k) (known k) some (start k .args .running) (c .outcome2 .result) (c .outcome2 .ensures))
 
 pub send-lot-total-spec : {M : Type 1} → statement M
 send-lot-total-spec =
