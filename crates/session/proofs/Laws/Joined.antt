@@ -18,7 +18,8 @@ use Rattle.session.specs.declared.session.Receiving.{Receiving}
 use Rattle.session.specs.Running.{Running, empty}
 use Rattle.session.specs.Receiving.{acceptedLots}
 use Rattle.session.specs.Ledger.{LedgerLot, Ledger, Entry, enter, lotSum, numbers, Distinct}
-use Rattle.session.specs.Ends.{Event, WrittenBefore}
+use Rattle.session.specs.Engine.{Call}
+use Rattle.session.specs.Ends.{End, Event, WrittenBefore}
 use Rattle.session.specs.Entering.{PresenterLedger, ReceiverLedger}
 use Rattle.session.proofs.Laws.Ledger.{summary, effectOf}
 use Rattle.session.proofs.Laws.Foreign.{Foreign}
@@ -78,6 +79,10 @@ presentingEnd p t b = record { state = p; running = t; entered = b }
 
 abbrev pub receivingEnd : Receiving → Running → ReceiverLedger → ReceivingEnd
 receivingEnd r t b = record { state = r; running = t; entered = b }
+
+-- a call at an end, with what it said
+abbrev pub eventOf : End → Call → (number : ℕ) (bytes : List ℕ) → Event
+eventOf x call number bytes = record { at = x; call = call; said = record { number = number; bytes = bytes } }
 
 pub record Joined (route : Route) (p : PresentingEnd) (r : ReceivingEnd) (trace : List Event) : Type 0 where
   pub presenter : PresenterSide (p .state) (p .running) (p .entered)

@@ -49,7 +49,7 @@ use Rattle.session.proofs.Laws.Decided.{either, saidIn, first-bytes}
 use Rattle.session.proofs.Laws.Refusals.{SendTold, send-told, ReceiveTold, receive-told, ReplyTold, reply-told}
 use Rattle.session.proofs.Laws.Ledger.{summary, openOf, Finds, effectOf, detail-sum, mirrors}
 use Rattle.session.proofs.Laws.Line.{accepts, MessageFact, ReplyFact, message-no-reply, serial-read}
-use Rattle.session.proofs.Laws.Joined.{waitingEffect, Link, PresentingEnd, ReceivingEnd, presentingEnd, Joined, passed-by, refused-by, not-entered}
+use Rattle.session.proofs.Laws.Joined.{waitingEffect, eventOf, Link, PresentingEnd, ReceivingEnd, presentingEnd, Joined, passed-by, refused-by, not-entered}
 use Rattle.session.proofs.Laws.Foreign.{Foreign, nothing-foreign, next-fits, reply-foreign}
 use Rattle.session.proofs.Laws.Entries.{header-entry, detail-entry, lot-total-entry, session-total-entry, open-lot-same}
 
@@ -82,8 +82,8 @@ module _ (x : End) (e : Engine) (ready : Ready e) (different : e .session .parti
     abbrev After : Call → Running → Outcome → Type 0
     After call t o = Joined route (presentingEnd (o .left .session .presenting) t (cond (eqb (o .number) 0) (presenterEnters call bp) bp)) r (record { at = x; call = call; said = saidIn o } ∷ trace)
 
-    refused-after : (call : Call) (k : ℕ) → Joined route (presentingEnd p pt (cond (eqb (suc k) 0) (presenterEnters call bp) bp)) r (record { at = x; call = call; said = record { number = suc k; bytes = [] } } ∷ trace)
-    refused-after call k = subst (λ (b : PresenterLedger). Joined route (presentingEnd p pt b) r (record { at = x; call = call; said = record { number = suc k; bytes = [] } } ∷ trace)) (sym (not-entered k (presenterEnters call bp) bp)) (refused-by route here r trace j (record { at = x; call = call; said = record { number = suc k; bytes = [] } }) k refl)
+    refused-after : (call : Call) (k : ℕ) → Joined route (presentingEnd p pt (cond (eqb (suc k) 0) (presenterEnters call bp) bp)) r (eventOf x call (suc k) [] ∷ trace)
+    refused-after call k = subst (λ (b : PresenterLedger). Joined route (presentingEnd p pt b) r (eventOf x call (suc k) [] ∷ trace)) (sym (not-entered k (presenterEnters call bp) bp)) (refused-by route here r trace j (eventOf x call (suc k) []) k refl)
 
     module _ (call : Call) (time code : ℕ) (effect : Effect) (body line : List ℕ) (entry : Entry) where
       abbrev h : Held
@@ -93,7 +93,7 @@ module _ (x : End) (e : Engine) (ready : Ready e) (different : e .session .parti
       bytes = wholeMessage (nextEnvelope (e .session)) body
 
       abbrev event : Event
-      event = record { at = x; call = call; said = record { number = 0; bytes = bytes } }
+      event = eventOf x call 0 bytes
 
       -- the message is on the line, and waits
       sent-joined : SendTold code bytes h → effect ≡ waitingEffect (some entry) (bp .ledger) → bodyEntry body ≡ entry → Joined route (presentingEnd (sent time effect (e .session) .presenting) pt (waitingFor entry bp)) r (event ∷ trace)
@@ -140,7 +140,7 @@ module _ (x : End) (e : Engine) (ready : Ready e) (different : e .session .parti
           (λ (z : sendRefusal time code (length bytes) (length (h .line)) (h .session) ≡ 0).
           let told = send-told time code bytes h z in
           let fit = fits (told .unstopped) in
-          subst (λ (w : List ℕ). Joined route (presentingEnd (sent time effect (e .session) .presenting) pt (presenterEnters call bp)) r (record { at = x; call = call; said = record { number = 0; bytes = w } } ∷ trace)) (sym (first-bytes bytes line (told .room)))
+          subst (λ (w : List ℕ). Joined route (presentingEnd (sent time effect (e .session) .presenting) pt (presenterEnters call bp)) r (eventOf x call 0 w ∷ trace)) (sym (first-bytes bytes line (told .room)))
           (subst (λ (b : PresenterLedger). Joined route (presentingEnd (sent time effect (e .session) .presenting) pt b) r (event ∷ trace)) (sym books) (sent-joined told (fit .0) (fit .1))))
 
     -- a reply enters what waits, with the code that the receiver kept
@@ -205,7 +205,7 @@ module _ (x : End) (e : Engine) (ready : Ready e) (different : e .session .parti
           passed-by route (presentingEnd _ _ _) r trace (replied-joined brought (reply-told time bytes (e .session) z)) _ (λ (n : 0 ≡ 0). nothing-foreign route))
 
     -- what arrives here is of the other direction
-    foreign-reply : (time : ℕ) (bytes line : List ℕ) (reply : Reply) → ReceiveTold bytes (lent Direction.receiving line e) → Joined route here r (record { at = x; call = Call.receive time bytes; said = record { number = 0; bytes = take (length (wholeReply (envelopeOf bytes) reply)) (sets line 0 (wholeReply (envelopeOf bytes) reply)) } } ∷ trace)
+    foreign-reply : (time : ℕ) (bytes line : List ℕ) (reply : Reply) → ReceiveTold bytes (lent Direction.receiving line e) → Joined route here r (eventOf x (Call.receive time bytes) 0 (take (length (wholeReply (envelopeOf bytes) reply)) (sets line 0 (wholeReply (envelopeOf bytes) reply))) ∷ trace)
     foreign-reply time bytes line reply told =
         let whole = wholeReply (envelopeOf bytes) reply in
         let room : length whole ≤ length line = omega (arith, told .room, whole-length Kind.Reply (envelopeOf bytes) (writtenReplyBody reply)) in

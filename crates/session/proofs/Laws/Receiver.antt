@@ -42,7 +42,7 @@ use Rattle.session.proofs.Laws.Refusals.{send-told, ReceiveTold, receiv
 use Rattle.session.proofs.Laws.Allowed.{Allowed, received-allowed}
 use Rattle.session.proofs.Laws.Line.{accepts, MessageFact, ReplyFact, reply-no-message, serial-read, code-read}
 use Rattle.session.proofs.Laws.Lists.{next-unseen, up-to-next}
-use Rattle.session.proofs.Laws.Joined.{Mirrored, Link, Joined, passed-by, refused-by, not-entered, PresentingEnd, ReceivingEnd, receivingEnd}
+use Rattle.session.proofs.Laws.Joined.{eventOf, Mirrored, Link, Joined, passed-by, refused-by, not-entered, PresentingEnd, ReceivingEnd, receivingEnd}
 use Rattle.session.proofs.Laws.Mirror.{course-mirrors, lots-mirror, numbers-mirror, free-header}
 use Rattle.session.proofs.Laws.Foreign.{Foreign, nothing-foreign, message-foreign, reply-fits}
 
@@ -68,8 +68,8 @@ module _ (x : End) (e : Engine) (ready : Ready e) (different : e .session .parti
     abbrev After : Call → Running → Outcome → Type 0
     After call t o = Joined route p (receivingEnd (o .left .session .receiving) t (cond (eqb (o .number) 0) (receiverEnters call (saidIn o .bytes) br) br)) (record { at = x; call = call; said = saidIn o } ∷ trace)
 
-    refused-after : (call : Call) (k : ℕ) → Joined route p (receivingEnd r rt (cond (eqb (suc k) 0) (receiverEnters call [] br) br)) (record { at = x; call = call; said = record { number = suc k; bytes = [] } } ∷ trace)
-    refused-after call k = subst (λ (b : ReceiverLedger). Joined route p (receivingEnd r rt b) (record { at = x; call = call; said = record { number = suc k; bytes = [] } } ∷ trace)) (sym (not-entered k (receiverEnters call [] br) br)) (refused-by route p here trace j (record { at = x; call = call; said = record { number = suc k; bytes = [] } }) k refl)
+    refused-after : (call : Call) (k : ℕ) → Joined route p (receivingEnd r rt (cond (eqb (suc k) 0) (receiverEnters call [] br) br)) (eventOf x call (suc k) [] ∷ trace)
+    refused-after call k = subst (λ (b : ReceiverLedger). Joined route p (receivingEnd r rt b) (eventOf x call (suc k) [] ∷ trace)) (sym (not-entered k (receiverEnters call [] br) br)) (refused-by route p here trace j (eventOf x call (suc k) []) k refl)
 
     -- what is sent from here is of the other direction
     send-after : (call : Call) (time code : ℕ) (effect : Effect) (body line : List ℕ) → ((w : List ℕ) → receiverEnters call w br ≡ br) → After call rt (send time code effect body (lent Direction.presenting line e))
@@ -81,7 +81,7 @@ module _ (x : End) (e : Engine) (ready : Ready e) (different : e .session .parti
         (λ (k : ℕ). refused-after call k)
         (λ (z : sendRefusal time code (length bytes) (length (h .line)) (h .session) ≡ 0).
         let told = send-told time code bytes h z in
-        subst (λ (b : ReceiverLedger). Joined route p (receivingEnd r rt b) (record { at = x; call = call; said = record { number = 0; bytes = take (length bytes) (sets line 0 bytes) } } ∷ trace)) (sym (books _))
+        subst (λ (b : ReceiverLedger). Joined route p (receivingEnd r rt b) (eventOf x call 0 (take (length bytes) (sets line 0 bytes)) ∷ trace)) (sym (books _))
         (passed-by route p here trace j _ (λ (n : 0 ≡ 0). subst (Foreign route) (sym (first-bytes bytes line (told .room))) (message-foreign (e .session) (ready .sound) different body (told .more)))))
 
     reply-after : (time : ℕ) (bytes line : List ℕ) → After (Call.reply time bytes) rt (takeReply time bytes (lent Direction.presenting line e))
@@ -114,7 +114,7 @@ module _ (x : End) (e : Engine) (ready : Ready e) (different : e .session .parti
         whole = wholeReply (envelopeOf bytes) reply
 
         abbrev event : Event
-        event = record { at = x; call = Call.receive time bytes; said = record { number = 0; bytes = whole } }
+        event = eventOf x (Call.receive time bytes) 0 whole
 
         fits : length whole ≤ length line
         fits = omega (arith, told .room, whole-length Kind.Reply (envelopeOf bytes) (writtenReplyBody reply))
@@ -169,7 +169,7 @@ module _ (x : End) (e : Engine) (ready : Ready e) (different : e .session .parti
           let reads : bodyEntry body ≡ d = j .messages bytes brought (told .good) (told .way) .1 d (next ∙ sym s) w in
           Link.taken d w s (λ i. enter (reads i) (sym (code-accepts code) i) (sym b i))
 
-      taken-joined : serialOf bytes ≡ suc (r .serial) → Joined route p (receivingEnd (receivingAfter code body rt r) (receivingCourse code body rt r .running) entered) (record { at = x; call = Call.receive time bytes; said = record { number = 0; bytes = wholeReply (envelopeOf bytes) kept } } ∷ trace)
+      taken-joined : serialOf bytes ≡ suc (r .serial) → Joined route p (receivingEnd (receivingAfter code body rt r) (receivingCourse code body rt r .running) entered) (eventOf x (Call.receive time bytes) 0 (wholeReply (envelopeOf bytes) kept) ∷ trace)
       unfolding receivingAfter member
       taken-joined next =
           record {
@@ -196,7 +196,7 @@ module _ (x : End) (e : Engine) (ready : Ready e) (different : e .session .parti
       not-again : serialOf bytes ≡ r .serial → (accepted : Bool) → firstReceived (serialOf bytes) (bodyEntry body) accepted br ≡ br
       not-again same accepted = ap (λ (t : Bool). cond t br (record { ledger = enter (bodyEntry body) accepted (br .ledger); serials = serialOf bytes ∷ br .serials })) (seen-before same)
 
-      repeated-joined : serialOf bytes ≡ r .serial → Joined route p here (record { at = x; call = Call.receive time bytes; said = record { number = 0; bytes = wholeReply (envelopeOf bytes) (r .reply) } } ∷ trace)
+      repeated-joined : serialOf bytes ≡ r .serial → Joined route p here (eventOf x (Call.receive time bytes) 0 (wholeReply (envelopeOf bytes) (r .reply)) ∷ trace)
       repeated-joined same =
           record { presenter = j .presenter; receiver = j .receiver; seen = j .seen; link = j .link; messages = all-messages r (r .reply) same refl; replies = all-replies r (r .reply) same refl (j .replies) }
 
@@ -219,12 +219,12 @@ module _ (x : End) (e : Engine) (ready : Ready e) (different : e .session .parti
             let after = receivingAfter code (bodyOf bytes) rt r in
             let running = receivingCourse code (bodyOf bytes) rt r .running in
             let whole = wholeReply (envelopeOf bytes) (after .reply) in
-            subst (λ (w : List ℕ). Joined route p (receivingEnd after running (receiverEnters (Call.receive time bytes) w br)) (record { at = x; call = Call.receive time bytes; said = record { number = 0; bytes = w } } ∷ trace)) (sym (first-bytes whole line (fits time bytes line brought told after (after .reply) next refl)))
-            (subst (λ (b : ReceiverLedger). Joined route p (receivingEnd after running b) (record { at = x; call = Call.receive time bytes; said = record { number = 0; bytes = whole } } ∷ trace)) (sym (first-time time bytes line brought told next)) (taken-joined time bytes line brought told next))
+            subst (λ (w : List ℕ). Joined route p (receivingEnd after running (receiverEnters (Call.receive time bytes) w br)) (eventOf x (Call.receive time bytes) 0 w ∷ trace)) (sym (first-bytes whole line (fits time bytes line brought told after (after .reply) next refl)))
+            (subst (λ (b : ReceiverLedger). Joined route p (receivingEnd after running b) (eventOf x (Call.receive time bytes) 0 whole ∷ trace)) (sym (first-time time bytes line brought told next)) (taken-joined time bytes line brought told next))
         go false n told =
             let same = last-serial bytes n (told .known) in
             let whole = wholeReply (envelopeOf bytes) (r .reply) in
-            let event : List ℕ → Event = λ (w : List ℕ). record { at = x; call = Call.receive time bytes; said = record { number = 0; bytes = w } } in
+            let event : List ℕ → Event = λ (w : List ℕ). eventOf x (Call.receive time bytes) 0 w in
             subst (λ (w : List ℕ). Joined route p (receivingEnd r rt (receiverEnters (Call.receive time bytes) w br)) (event w ∷ trace)) (sym (first-bytes whole line (fits time bytes line brought told r (r .reply) same refl)))
             (subst (λ (b : ReceiverLedger). Joined route p (receivingEnd r rt b) (event whole ∷ trace)) (sym (not-again time bytes line brought told same (isAccepted whole))) (repeated-joined time bytes line brought told same))
 

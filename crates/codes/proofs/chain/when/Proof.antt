@@ -1,4 +1,4 @@
--- `when`: its test decides.
+-- `when`: the number where the test holds, else 0, in the code as in the definition.
 use Rattle.codes.specs.Chain.{_when_}
 use Rattle.codes.proofs.chain.when.Statement.{statement}
 use Rattle.codes.proofs.chain.when.Tie as tie

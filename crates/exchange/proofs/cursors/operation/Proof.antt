@@ -1,4 +1,4 @@
--- `operation`: by the test.
+-- `operation`: 30 while presentations remain, then 40, by the test that the definition has.
 use mathlib.Core.Path.{sym, _∙_}
 use borrow.Author.Needs.{needs}
 use Rattle.exchange.proofs.cursors.operation.Statement.{statement}

@@ -34,10 +34,11 @@ same-length-2 c = search needs
 
 returns : tie.Need-returns Inv-loop μ-loop
 returns c =
-    let below = c .before .before .before .before .before .before .before .before .before .before .loop-test .taken in
-    let t = c .before .before .before .before .before .before .before .before .before .before .before in
-    let a = c .before .before .before .before .before .before .before .before .before .before .before .before .before .before .before .before .args in
-    let step = c .before .before .before .before .before .before .send-lot .ensures in
+    let k = c .before .before .before .before .before .before in
+    let below = k .before .before .before .before .loop-test .taken in
+    let t = k .before .before .before .before .before in
+    let a = t .before .before .before .before .before .args in
+    let step = k .send-lot .ensures in
     (stays (lotMade (a .presentations .now) (a .returns .now)) (mostLots - t .loop .number) (suc mostLots - t .loop .number) (t .loop .number) _ _ (omega arith) (step .0) (sym (c .before .same .ensures) ∙ c .if1 .taken) ∙ t .loop .inv .0 .whole, step .1)
 
 add-number : tie.Need-add-number Inv-loop μ-loop
@@ -48,10 +49,11 @@ loop-less c = let below = c .before .before .before .before .before .before .bef
 
 loop-again : tie.Need-loop-again Inv-loop μ-loop
 loop-again c =
-    let below = c .before .before .before .before .before .before .before .before .before .before .loop-test .taken in
-    let t = c .before .before .before .before .before .before .before .before .before .before .before in
-    let a = c .before .before .before .before .before .before .before .before .before .before .before .before .before .before .before .before .args in
-    let next = c .before .before .before .before .before .before .send-lot in (
+    let k = c .before .before .before .before .before .before in
+    let below = k .before .before .before .before .loop-test .taken in
+    let t = k .before .before .before .before .before in
+    let a = t .before .before .before .before .before .args in
+    let next = k .send-lot in (
       record {
         message = next .kept .1 .1 .1 .1 .0 ∙ t .loop .inv .0 .message;
         reply = next .kept .1 .1 .1 .1 .1 .0 ∙ t .loop .inv .0 .reply;
@@ -71,7 +73,7 @@ returns-2 : tie.Need-returns-2 Inv-loop μ-loop
 returns-2 c =
     let above = c .loop-test .left in
     let t = c .before in
-    let a = c .before .before .before .before .before .before .args in
+    let a = t .before .before .before .before .before .args in
     (over (lotMade (a .presentations .now) (a .returns .now)) (suc mostLots - t .loop .number) (t .loop .number) _ (omega arith) ∙ t .loop .inv .0 .whole, t .loop .inv .0 .safe)
 
 pub send-lots-spec : {M : Type 1} → statement M

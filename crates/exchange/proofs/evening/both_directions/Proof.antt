@@ -1,4 +1,4 @@
--- `both_directions`: one after the other.
+-- `both_directions`: one direction, the ends exchanged, and the other on what the first left.
 use mathlib.Core.Path.{ap, _∙_}
 use Rattle.exchange.specs.Course.{across, directionMade, bothDirections}
 use borrow.Author.Needs.{needs}
@@ -15,7 +15,10 @@ present-requires-2 : tie.Need-present-requires-2
 present-requires-2 c κs = (c .before .before .across .ensures .1, c .before .before .before .before .before .before .before .before .before .before .before .before .before .before .before .before .pre .1 .1)
 
 same-length : tie.Need-same-length
-same-length c = c .before .before .before .before .present2 .kept .1 .1 .1 .0 ∙ c .before .before .before .before .before .before .before .before .before .before .before .before .present .kept .1 .1 .1 .0
+same-length c =
+    let second = c .before .before .before .before in
+    let first = second .before .before .before .before .before .before .before .before in
+    second .present2 .kept .1 .1 .1 .0 ∙ first .present .kept .1 .1 .1 .0
 
 same-length-2 : tie.Need-same-length-2
 same-length-2 c = search needs
@@ -23,9 +26,11 @@ same-length-2 c = search needs
 returns : tie.Need-returns
 unfolding bothDirections
 returns c =
-    let a = c .before .before .before .before .before .before .before .before .before .before .before .before .before .before .before .before .before .before .before .before .before .args in
-    let second = c .before .before .before .before .present2 .ensures in
-    (second .0 ∙ ap (directionMade (a .other-presentations .now) (a .other-returns .now)) (c .before .before .before .before .before .before .before .across .ensures .0 _ _ ∙ ap across (c .before .before .before .before .before .before .before .before .before .before .before .before .present .ensures .0)), second .1)
+    let second = c .before .before .before .before in
+    let turned = second .before .before .before in
+    let first = turned .before .before .before .before .before in
+    let a = first .before .before .before .before .before .before .before .before .before .args in
+    (second .present2 .ensures .0 ∙ ap (directionMade (a .other-presentations .now) (a .other-returns .now)) (turned .across .ensures .0 _ _ ∙ ap across (first .present .ensures .0)), second .present2 .ensures .1)
 
 pub both-directions-spec : {M : Type 1} → statement M
 both-directions-spec =

@@ -1,4 +1,4 @@
--- `exchange`: by the code of the trays.
+-- `exchange`: trays with a code are refused; the others are within their bounds, so that the evening can run.
 use mathlib.Core.Path.{_∙_}
 use Rattle.exchange.proofs.Laws.Evening.{trays-good, ran, refused}
 use borrow.Author.Needs.{needs}

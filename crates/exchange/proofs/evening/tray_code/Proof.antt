@@ -1,4 +1,4 @@
--- `tray_code`: the number of the answer.
+-- `tray_code`: 0 or the refusal's number, as the check of the tray answers.
 use mathlib.Core.Path.{ap, sym, _∙_}
 use Rattle.outgoing.specs.Outgoing.{checkNumber}
 use borrow.Author.Needs.{needs}

@@ -34,10 +34,11 @@ same-length-2 c = search needs
 
 returns : tie.Need-returns Inv-loop μ-loop
 returns c =
-    let below = c .before .before .before .before .before .before .before .before .before .before .loop-test .taken in
-    let t = c .before .before .before .before .before .before .before .before .before .before .before in
-    let a = c .before .before .before .before .before .before .before .before .before .before .before .before .before .before .before .before .args in
-    let step = c .before .before .before .before .before .before .send-next .ensures in
+    let k = c .before .before .before .before .before .before in
+    let below = k .before .before .before .before .loop-test .taken in
+    let t = k .before .before .before .before .before in
+    let a = t .before .before .before .before .before .args in
+    let step = k .send-next .ensures in
     (stays (nextPart (a .presentations .now) (a .returns .now)) (lotParts - suc (t .loop .parts)) (lotParts - t .loop .parts) (t .loop .parts) _ _ (omega arith) (step .0) (sym (c .before .same .ensures) ∙ c .if1 .taken) ∙ t .loop .inv .0 .whole, step .1)
 
 add-parts : tie.Need-add-parts Inv-loop μ-loop
@@ -48,10 +49,11 @@ loop-less c = omega arith
 
 loop-again : tie.Need-loop-again Inv-loop μ-loop
 loop-again c =
-    let below = c .before .before .before .before .before .before .before .before .before .before .loop-test .taken in
-    let t = c .before .before .before .before .before .before .before .before .before .before .before in
-    let a = c .before .before .before .before .before .before .before .before .before .before .before .before .before .before .before .before .args in
-    let next = c .before .before .before .before .before .before .send-next in (
+    let k = c .before .before .before .before .before .before in
+    let below = k .before .before .before .before .loop-test .taken in
+    let t = k .before .before .before .before .before in
+    let a = t .before .before .before .before .before .args in
+    let next = k .send-next in (
       record {
         message = next .kept .1 .1 .1 .0 ∙ t .loop .inv .0 .message;
         reply = next .kept .1 .1 .1 .1 .0 ∙ t .loop .inv .0 .reply;
@@ -70,7 +72,7 @@ same-length-4 c = search needs
 returns-2 : tie.Need-returns-2 Inv-loop μ-loop
 returns-2 c =
     let t = c .before in
-    let a = c .before .before .before .before .before .before .args in
+    let a = t .before .before .before .before .before .args in
     (over (nextPart (a .presentations .now) (a .returns .now)) (lotParts - t .loop .parts) (t .loop .parts) _ (omega arith) ∙ t .loop .inv .0 .whole, t .loop .inv .0 .safe)
 
 pub fill-spec : {M : Type 1} → statement M

@@ -1,4 +1,4 @@
--- `past_part`: by the test.
+-- `past_part`: the cursors stay where nothing was counted, and else move past the part.
 use mathlib.Core.Path.{_∙_}
 use borrow.Author.Tests.{eq-eqb, ne-eqb}
 use borrow.Author.Needs.{needs}

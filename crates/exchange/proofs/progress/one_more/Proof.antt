@@ -1,4 +1,4 @@
--- `one_more`: a round at the opening.
+-- `one_more`: `round` at the opening, told of both ends at once.
 use mathlib.Core.Path.{ap}
 use Rattle.exchange.specs.Course.{endsAfter, roundMade}
 use borrow.Author.Needs.{needs}

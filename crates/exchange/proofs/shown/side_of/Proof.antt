@@ -1,4 +1,4 @@
--- `side_of`: part by part.
+-- `side_of`: each part is what its own function says.
 use borrow.Author.Needs.{needs}
 use Rattle.exchange.proofs.shown.side_of.Statement.{statement}
 use Rattle.exchange.proofs.shown.side_of.Tie as tie

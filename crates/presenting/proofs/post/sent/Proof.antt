@@ -1,4 +1,4 @@
--- `sent`: every field.
+-- `sent`: field by field as the definition has them; the serial's `+ 1` is the successor.
 use mathlib.Core.Path.{_≡_}
 use Prim.Native.Nat.{suc, _+_}
 use native.Mathlib.Omega.{arith}

@@ -3,14 +3,13 @@ use mathlib.Core.Path.{_≡_, ap, sym, _∙_}
 use mathlib.Core.Bool.{Bool, not}
 use mathlib.Core.List.{[], _∷_}
 use Prim.Native.Nat.{ℕ}
-use lib.Dec.{eqb, lit<}
+use lib.Dec.{eqb}
 use Rattle.packed.specs.Part.{byteAt}
 use Rattle.packed.specs.Number.{byteValue}
 use Rattle.codes.specs.Chain.{_when_}
 use Rattle.codes.specs.Body.{operationOf}
 use Rattle.codes.specs.Code.{codeNumber}
 use Rattle.codes.specs.declared.refusal.Refusal.{Refusal}
-use Rattle.codes.proofs.Laws.Chain.{applies}
 use Rattle.codes.proofs.Laws.Code.{code-value}
 use Rattle.message.specs.Reply.{operationNumber, replyGood, replySaid}
 use Rattle.message.proofs.Laws.Reading.{told}
@@ -63,7 +62,7 @@ returns-2 c =
     let a = t .before .before .args in
     let body = a .body .now in
     let unknown = unknown-told body (ap replySaid (sym (c .before .enum-told .given .1)) ∙ t .read-reply .ensures) in
-    refused-so Refusal.UnknownReply _ (eqb (byteValue (byteAt 4 body)) 0) (c .refused .result) (c .refused .ensures) (applies 22 (not (replyGood body)) (35 when not (isAwaited (a .serial) (operationOf body) (a .p))) (lit< tt) (ap not unknown))
+    refused-so Refusal.UnknownReply (replyGood body) _ (eqb (byteValue (byteAt 4 body)) 0) (c .refused .result) (c .refused .ensures) unknown
 
 pub read-body-spec : {M : Type 1} → statement M
 read-body-spec =

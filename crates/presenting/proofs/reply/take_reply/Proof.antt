@@ -1,20 +1,15 @@
 -- `take_reply`: the chain refuses, or what is pending is counted.
 use mathlib.Core.Path.{_≡_, ap, sym, subst, _∙_}
-use mathlib.Core.Bool.{Bool, not}
+use mathlib.Core.Bool.{Bool}
 use mathlib.Core.List.{List, []}
 use Prim.Native.Nat.{ℕ}
-use Rattle.codes.specs.Chain.{_when_, _orelse_}
+use Rattle.codes.specs.Chain.{_orelse_}
 use Rattle.codes.proofs.Laws.Chain.{none-both}
-use Rattle.codes.specs.Body.{operationOf}
-use Rattle.message.specs.declared.envelope.Kind.{Kind}
 use Rattle.message.specs.declared.route.Route.{Route}
-use Rattle.message.specs.Route.{sameRoute}
-use Rattle.message.specs.Envelope.{serialOf, envelopeOf, envelopeGood, bodyOf}
-use Rattle.message.specs.Reply.{replyGood}
 use Rattle.session.specs.Parties.{Direction}
 use Rattle.session.specs.Outcome.{answerNumber, silent, held}
 use Rattle.session.specs.Time.{timeRefusal}
-use Rattle.session.specs.Reply.{isAwaited, isAccepted, replyRefusal, replied, takeReply}
+use Rattle.session.specs.Reply.{isAccepted, replyOrder, replyRefusal, replied, takeReply}
 use Rattle.session.specs.Engine.{Call, meaning}
 use Rattle.session.proofs.Laws.EveryCall.{kept-beside}
 use Rattle.calls.specs.Inner.Arrival.{Told}
@@ -49,7 +44,7 @@ arrived w =
     let a = w .before .before .before .before .before .before .before .args in
     let bytes = a .reply .now in
     let r = w .before .before .read-whole .result in
-    let told = subst (λ (route : Route). Told (21 when not (envelopeGood Kind.Reply bytes) orelse 33 when not (sameRoute (envelopeOf bytes .route) route) orelse 22 when not (replyGood (bodyOf bytes)) orelse 35 when not (isAwaited (serialOf bytes) (operationOf (bodyOf bytes)) (a .session .presenting))) (isAccepted bytes) (r .answer) (r .accepted)) (w .before .before .before .presenting-route .ensures) (w .before .before .read-whole .ensures) in
+    let told = subst (λ (route : Route). Told (replyOrder bytes route (a .session .presenting)) (isAccepted bytes) (r .answer) (r .accepted)) (w .before .before .before .presenting-route .ensures) (w .before .before .read-whole .ensures) in
     let chain = w .or-refused .ensures ∙ (λ i. w .before .time-refusal .ensures i orelse told .number i) in
     (chain, λ (e : answerNumber (w .or-refused .result) ≡ 0). told .finding (none-both (timeRefusal (a .time) (a .session .seen) (a .session .close)) _ (sym chain ∙ e) .1))
 

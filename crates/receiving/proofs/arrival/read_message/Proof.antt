@@ -1,11 +1,10 @@
 -- `read_message`: a wrong envelope ends the chain.
 use mathlib.Core.Path.{ap, sym, subst, _∙_}
-use mathlib.Core.Bool.{Bool, not, _||_}
+use mathlib.Core.Bool.{not, _||_}
 use Prim.Native.Nat.{suc}
-use lib.Dec.{eqb, lit<}
+use lib.Dec.{eqb}
 use Rattle.codes.specs.Chain.{_when_, _orelse_}
 use Rattle.codes.specs.declared.refusal.Refusal.{Refusal}
-use Rattle.codes.proofs.Laws.Chain.{applies}
 use Rattle.message.specs.declared.envelope.Kind.{Kind}
 use Rattle.message.specs.declared.envelope.Envelope.{Envelope}
 use Rattle.message.specs.Limits.{replyRoom}
@@ -14,7 +13,7 @@ use Rattle.message.specs.Envelope.{envelopeGood, envelopeSaid}
 use Rattle.message.proofs.Laws.Envelope.{read-told, wrong-told}
 use Rattle.session.specs.Outcome.{noRoom}
 use Rattle.calls.specs.Inner.Arrival.{Told}
-use Rattle.calls.proofs.Laws.Arrival.{told-refused, told-behind}
+use Rattle.calls.proofs.Laws.Arrival.{told-refused, told-past}
 use borrow.Author.Needs.{needs}
 use Rattle.receiving.proofs.arrival.read_message.Statement.{statement}
 use Rattle.receiving.proofs.arrival.read_message.Tie as tie
@@ -32,12 +31,11 @@ enum-told : tie.Need-enum-told
 enum-told c = search needs
 
 returns : tie.Need-returns
-unfolding _when_
 returns c =
     let m = c .before .before in
     let a = m .before .before .before .before .args in
     let read = read-told Kind.Message (a .message .now) (m .e .given .0 .0) (ap envelopeSaid (sym (m .e .given .1)) ∙ m .before .before .read-envelope .ensures) in
-    told-behind (21 when not (envelopeGood Kind.Message (a .message .now))) _ _ _ _ (ap (λ (b : Bool). 21 when not b) (read .0))
+    told-past 21 (envelopeGood Kind.Message (a .message .now)) _ _ _ _ (read .0)
     (subst (λ (e : Envelope). Told (33 when not (sameRoute (e .route) (a .route)) orelse 35 when not (eqb (e .serial) (a .last) || eqb (e .serial) (suc (a .last))) orelse 23 when noRoom replyRoom (a .room)) (eqb (e .serial) (suc (a .last))) (c .by-envelope .result .answer) (c .by-envelope .result .next)) (read .1) (c .by-envelope .ensures))
 
 returns-2 : tie.Need-returns-2
@@ -45,7 +43,7 @@ returns-2 c =
     let t = c .before .before in
     let bytes = t .before .before .args .message .now in
     let wrong = wrong-told Kind.Message bytes (ap envelopeSaid (sym (c .enum-told .given .1)) ∙ t .read-envelope .ensures) in
-    told-refused Refusal.WrongEnvelope _ _ _ (applies 21 (not (envelopeGood Kind.Message bytes)) _ (lit< tt) (ap not wrong))
+    told-refused Refusal.WrongEnvelope (envelopeGood Kind.Message bytes) _ _ _ wrong
 
 pub read-message-spec : {M : Type 1} → statement M
 read-message-spec =
