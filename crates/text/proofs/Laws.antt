@@ -7,5 +7,6 @@ pub mod Number
 pub mod Got
 pub mod Hex
 pub mod Memory
+pub mod Held
 pub mod Kind
 pub mod Line

@@ -1,4 +1,5 @@
--- The memory of what was written: where the lent bytes keep it, and what is found there under a number.
+-- The memory of what was written: where the lent bytes keep it, and what is found there under a number, whatever stands in them. Held.antt
+-- says when that is what was written.
 use Prim.Native.Nat.{ℕ, zero, suc, _+_, _*_, _-_, min}
 use mathlib.Core.Bool.{cond}
 use mathlib.Core.List.{List}

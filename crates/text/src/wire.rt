@@ -1,17 +1,20 @@
 // The memory of what unrefused calls wrote. The first MiB of the lent bytes holds what was written, one after another; behind
 // it stands an entry for each that fitted: its number, and where it ends, as packed numbers. What did not fit has a number
-// and no entry. Nothing is believed of the lent bytes: whatever stands there, a place outside them is never reached.
+// and no entry. Nothing is believed of the lent bytes: whatever stands there, a place outside them is never reached. Where they
+// hold what was remembered, it is found under its number, and what is remembered is held as well.
 use crate::hex::Bytes;
 use crate::hex::no_bytes;
 use packed::number::number;
 use packed::writing::copy;
 use packed::writing::put;
-use std::num::wrapping_add_u64;
 ghost use mathlib.Core.Path.{_≡_};
-ghost use Prim.Native.Nat.{_≤_, _<_};
+ghost use mathlib.Core.Bool.{true};
+ghost use mathlib.Core.List.{List, [], _∷_, _++_};
+ghost use Prim.Native.Nat.{ℕ, _+_, _≤_, _<_};
 ghost use lib.ListN.{length};
 ghost use Rattle.text.specs.Got.{fitting, gotOf};
 ghost use Rattle.text.specs.Memory.{entryNumber, endOf, placeBelow, lastPlace, betweenPlaces, recalled};
+ghost use Rattle.text.specs.Held.{Written, Holds, nextNumber, hasRoom, remembered};
 
 // How much is remembered.
 const CONTENTS: usize = 1_048_576;
@@ -26,6 +29,9 @@ const NUMBER_BYTES: usize = 8;
 
 const ENTRY_BYTES: usize = 2 * NUMBER_BYTES;
 
+// The largest number that fits an entry.
+const LAST_NUMBER: u64 = 9_999_999_999_999_999;
+
 // With fewer lent bytes nothing is remembered.
 pub const WIRE_BYTES: usize = CONTENTS + MOST_ENTRIES * ENTRY_BYTES;
 
@@ -36,7 +42,9 @@ pub struct Memory {
     pub used: usize,
 }
 
-pub fn nothing() -> Memory {
+pub fn nothing() -> Memory
+    ensures { λ r. ⌜ ((wire : List ℕ) → Holds r wire []) ⌝ }
+{
     Memory {
         numbered: 0,
         kept: 0,
@@ -45,12 +53,19 @@ pub fn nothing() -> Memory {
 }
 
 // The number that the next one takes.
-pub fn next_number(m: Memory) -> u64 {
-    wrapping_add_u64(m.numbered, 1)
+pub fn next_number(m: Memory) -> u64
+    ensures { λ r. ⌜ r ≡ nextNumber (m .numbered) ⌝ }
+{
+    if m.numbered < u64::MAX {
+        return m.numbered + 1;
+    }
+    m.numbered
 }
 
 // As much as before is kept, with one number more.
-fn forgotten(m: Memory) -> Memory {
+fn forgotten(m: Memory) -> Memory
+    ensures { λ r. ⌜ ((wire : List ℕ) (ws : List Written) → Holds m wire ws → Holds r wire ws) ⌝ }
+{
     Memory {
         numbered: next_number(m),
         kept: m.kept,
@@ -58,33 +73,47 @@ fn forgotten(m: Memory) -> Memory {
     }
 }
 
-// With one more written, kept if it fits.
-pub fn remember(m: Memory, written: &[u8], wire: &mut [u8]) -> Memory {
-    let kept = m.kept;
+// Whether so many bytes are kept.
+fn has_room(m: Memory, size: usize, lent: usize) -> bool
+    ensures { λ r. ⌜ r ≡ hasRoom m size lent ⌝ }
+{
     let used = m.used;
-    if wire.len() < WIRE_BYTES {
-        return forgotten(m);
-    }
-    if MOST_ENTRIES <= kept {
-        return forgotten(m);
-    }
     if CONTENTS < used {
-        return forgotten(m);
+        return false;
     }
-    if CONTENTS - used < written.len() {
-        return forgotten(m);
-    }
-    let numbered = next_number(m);
+    (WIRE_BYTES <= lent)
+        & (m.kept < MOST_ENTRIES)
+        & (size <= CONTENTS - used)
+        & (m.numbered < LAST_NUMBER)
+}
+
+// With one more written and kept.
+fn kept(m: Memory, written: &[u8], wire: &mut [u8]) -> Memory
+    requires { ⌜ hasRoom m (length (now written)) (length (now wire)) ≡ true ⌝ }
+    ensures { λ r. ⌜ ((ws : List Written) → Holds m (now (wire .entry)) ws → Holds r (now (wire .exit)) (ws ++ record { number = m .numbered + 1; bytes = now (written .entry) } ∷ [])) ⌝ }
+{
+    let used = m.used;
+    let numbered = m.numbered + 1;
     let end = used + written.len();
-    let entry = CONTENTS + kept * ENTRY_BYTES;
+    let entry = CONTENTS + m.kept * ENTRY_BYTES;
     copy(wire, used, written);
     put(wire, entry, NUMBER_BYTES, numbered);
     put(wire, entry + NUMBER_BYTES, NUMBER_BYTES, end as u64);
     Memory {
         numbered: numbered,
-        kept: kept + 1,
+        kept: m.kept + 1,
         used: end,
     }
+}
+
+// With one more written, kept if there is room for it.
+pub fn remember(m: Memory, written: &[u8], wire: &mut [u8]) -> Memory
+    ensures { λ r. ⌜ ((ws : List Written) → Holds m (now (wire .entry)) ws → Holds r (now (wire .exit)) (remembered m (now (written .entry)) (length (now (wire .entry))) ws)) ⌝ }
+{
+    if has_room(m, written.len(), wire.len()) {
+        return kept(m, written, wire);
+    }
+    forgotten(m)
 }
 
 // The number of an entry.
