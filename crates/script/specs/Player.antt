@@ -1,8 +1,9 @@
 -- Two ends of a line, each with a session or none yet, and what a line of a script does to them.
 use Prim.Native.Nat.{ℕ}
 use mathlib.Core.Bool.{Bool, true, cond}
-use mathlib.Core.List.{List}
+use mathlib.Core.List.{List, []}
 use lib.Dec.{eqb}
+use lib.ListN.{take}
 use Rattle.session.specs.Start as Start
 use Rattle.session.specs.Engine.{Call, Engine, withEmpty, Ready, performed}
 use Rattle.centre.specs.Turn.{engineOf}
@@ -35,11 +36,21 @@ begunAt date own partner represented s =
     let o = Start.start date own partner represented in
     cond (eqb (o .number) 0) (record { started = true; engine = withEmpty (o .session) }) s
 
+-- the bytes that a call at an end writes; none without a session
+unfoldable pub wroteAt : Call → (line : List ℕ) → Seated → List ℕ
+wroteAt call line s = let t = turned call line (s .engine) in cond (s .started) (take (t .written) (t .line)) []
+
 -- what a line names is done at its end
 abbrev pub done : Named → (line : List ℕ) → Seated → Seated
 done Named.nothing line s = s
 done (Named.start date own partner represented) line s = begunAt date own partner represented s
 done (Named.call call) line s = called call line s
+
+-- and what is written there
+abbrev pub wrote : Named → (line : List ℕ) → Seated → List ℕ
+wrote Named.nothing line s = []
+wrote (Named.start date own partner represented) line s = []
+wrote (Named.call call) line s = wroteAt call line s
 
 abbrev pub seatAt : (near : Bool) → Ends → Seated
 seatAt near e = cond near (e .near) (e .far)

@@ -19,12 +19,14 @@ use text::word::find_byte;
 ghost use mathlib.Core.Path.{_≡_};
 ghost use mathlib.Core.Bool.{true};
 ghost use Prim.Native.Nat.{_≤_, _<_};
-ghost use lib.ListN.{length, drop};
+ghost use mathlib.Core.List.{List};
+ghost use lib.ListN.{length, take, drop};
 ghost use Rattle.text.specs.Memory.{recalled};
+ghost use Rattle.text.specs.Held.{Written, Holds};
 ghost use Rattle.text.specs.Line.{readLine};
 ghost use Rattle.script.specs.Reading.{namedBy, meant};
-ghost use Rattle.script.specs.Player.{seatOf, done, endsOf, seatAt, withSeat, playedAt, ReadySeat, ReadyPlayer};
-ghost use Rattle.script.specs.Play.{filled, played, longestAnswer, Done, Behind, ReadOf, CutWithin};
+ghost use Rattle.script.specs.Player.{seatOf, done, endsOf, seatAt, withSeat, wrote, playedAt, ReadySeat, ReadyPlayer};
+ghost use Rattle.script.specs.Play.{filled, played, heldAfter, heldBy, Remembers, longestAnswer, Done, Behind, ReadOf, CutWithin};
 
 // The most bytes that stand in a line.
 const MOST_BYTES: usize = LONGEST_LINE / 2;
@@ -52,7 +54,7 @@ fn with_seat(player: Player, near: bool, seat: Seat, memory: Memory) -> Player
     requires { ⌜ ReadyPlayer player ⌝ }
     requires { ⌜ ReadySeat seat ⌝ }
     ensures outcome { λ r. ⌜ endsOf r ≡ withSeat near (seatOf seat) (endsOf player) ⌝ }
-    ensures premise { λ r. ⌜ ReadyPlayer r ⌝ }
+    ensures premise { λ r. ⌜ (ReadyPlayer r) × (r .memory ≡ memory) ⌝ }
 {
     let here = player.near;
     let there = player.far;
@@ -73,7 +75,9 @@ fn with_seat(player: Player, near: bool, seat: Seat, memory: Memory) -> Player
 }
 
 // What was written is remembered, if something was.
-fn after_writing(memory: Memory, written: &[u8], wire: &mut [u8]) -> Memory {
+fn after_writing(memory: Memory, written: &[u8], wire: &mut [u8]) -> Memory
+    ensures { λ r. ⌜ ((ws : List Written) → Holds memory (now (wire .entry)) ws → Holds r (now (wire .exit)) (heldAfter memory (now (written .entry)) (length (now (wire .entry))) ws)) ⌝ }
+{
     if written.len() == 0 {
         return memory;
     }
@@ -109,7 +113,7 @@ fn answer_at(
     requires { ⌜ 400 ≤ length (now head) ⌝ }
     ensures outcome { λ r. ⌜ seatOf (r .seat) ≡ done (namedBy (reading .asked) reading (now (bytes .entry))) (now (line .entry)) (seatOf seat) ⌝ }
     ensures premise { λ r. ⌜ ReadySeat (r .seat) ⌝ }
-    ensures sizes { λ r. ⌜ (r .words ≤ 400) × (r .written ≤ length (now (line .entry))) ⌝ }
+    ensures sizes { λ r. ⌜ (r .words ≤ 400) × (r .written ≤ length (now (line .entry))) × (take (r .written) (now (line .exit)) ≡ wrote (namedBy (reading .asked) reading (now (bytes .entry))) (now (line .entry)) (seatOf seat)) ⌝ }
 {
     let kind = reading.kind;
     let step = act(seat, reading, bytes, line);
@@ -171,6 +175,7 @@ fn play_reading(
     requires { ⌜ reading .more ≤ length (reading .entities) ⌝ }
     requires { ⌜ length (now line) ≤ 10412 ⌝ }
     ensures { λ r. ⌜ Done player (playedAt (reading .near) (namedBy (reading .asked) reading (now (bytes .entry))) (now (line .entry)) (endsOf player)) (now (output .entry)) (now (output .exit)) r ⌝ }
+    ensures memory { λ r. ⌜ Remembers player (heldAfter (player .memory) (wrote (namedBy (reading .asked) reading (now (bytes .entry))) (now (line .entry)) (seatAt (reading .near) (endsOf player))) (length (now (wire .entry)))) (now (wire .entry)) (now (wire .exit)) r ⌝ }
 {
     let near = reading.near;
     let memory = player.memory;
@@ -213,6 +218,7 @@ pub fn play_line(
 ) -> LinePlayed
     requires { ⌜ ReadyPlayer player ⌝ }
     ensures { λ r. ⌜ Done player (played (meant (readLine (recalled (player .memory) (now (wire .entry))) (length (now (bytes .entry))) (now (text .entry)))) (endsOf player)) (now (output .entry)) (now (output .exit)) r ⌝ }
+    ensures memory { λ r. ⌜ Remembers player (heldBy player (meant (readLine (recalled (player .memory) (now (wire .entry))) (length (now (bytes .entry))) (now (text .entry)))) (length (now (wire .entry)))) (now (wire .entry)) (now (wire .exit)) r ⌝ }
 {
     let said = read_line(text, player.memory, wire, bytes);
     let reading = reading_of(said);

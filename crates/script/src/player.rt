@@ -11,11 +11,13 @@ use text::wire::Memory;
 use text::wire::nothing;
 ghost use mathlib.Core.Path.{_≡_};
 ghost use mathlib.Core.Bool.{true, false};
-ghost use Prim.Native.Nat.{_≤_};
-ghost use lib.ListN.{length};
+ghost use mathlib.Core.List.{List, []};
+ghost use Prim.Native.Nat.{ℕ, _≤_};
+ghost use lib.ListN.{length, take};
 ghost use Rattle.centre.specs.Turn.{callOf};
+ghost use Rattle.text.specs.Held.{Holds};
 ghost use Rattle.script.specs.Reading.{namedBy};
-ghost use Rattle.script.specs.Player.{seatOf, ReadySeat, ReadyPlayer, called, begunAt, done};
+ghost use Rattle.script.specs.Player.{seatOf, ReadySeat, ReadyPlayer, called, begunAt, done, wroteAt, wrote};
 
 // An end. Until a start there succeeds it has no session, and a closed one stands in its place, which no call reaches.
 pub struct Seat {
@@ -53,7 +55,7 @@ fn unstarted() -> Seat
 
 // Two ends with no session, and nothing written.
 pub fn fresh() -> Player
-    ensures outcome { λ r. ⌜ (r .near .started ≡ false) × (r .far .started ≡ false) ⌝ }
+    ensures outcome { λ r. ⌜ (r .near .started ≡ false) × (r .far .started ≡ false) × ((wire : List ℕ) → Holds (r .memory) wire []) ⌝ }
     ensures premise { λ r. ⌜ ReadyPlayer r ⌝ }
 {
     Player {
@@ -69,6 +71,7 @@ fn call_at(seat: Seat, order: Order, bytes: &[u8], line: &mut [u8]) -> Step
     requires { ⌜ ReadySeat seat ⌝ }
     ensures outcome { λ r. ⌜ seatOf (r .seat) ≡ called (callOf order (now (bytes .entry))) (now (line .entry)) (seatOf seat) ⌝ }
     ensures premise { λ r. ⌜ ReadySeat (r .seat) ⌝ }
+    ensures written { λ r. ⌜ take (r .written) (now (line .exit)) ≡ wroteAt (callOf order (now (bytes .entry))) (now (line .entry)) (seatOf seat) ⌝ }
 {
     if seat.started {
         let centre = seat.centre;
@@ -88,7 +91,7 @@ fn call_at(seat: Seat, order: Order, bytes: &[u8], line: &mut [u8]) -> Step
 
 // A seat that stays as it is.
 fn untouched(seat: Seat) -> Step
-    ensures { λ r. ⌜ r .seat ≡ seat ⌝ }
+    ensures { λ r. ⌜ (r .seat ≡ seat) × (r .written ≡ 0) ⌝ }
 {
     Step {
         number: 0,
@@ -102,6 +105,7 @@ fn start_at(seat: Seat, date: u32, own: u16, partner: u16, represented: &[u16]) 
     requires { ⌜ ReadySeat seat ⌝ }
     ensures outcome { λ r. ⌜ seatOf (r .seat) ≡ begunAt date own partner (now (represented .entry)) (seatOf seat) ⌝ }
     ensures premise { λ r. ⌜ ReadySeat (r .seat) ⌝ }
+    ensures written { λ r. ⌜ r .written ≡ 0 ⌝ }
 {
     let start = Session::start(date, own, partner, represented);
     let answer = start.answer;
@@ -130,6 +134,7 @@ pub fn act(seat: Seat, reading: Reading, bytes: &[u8], line: &mut [u8]) -> Step
     requires { ⌜ reading .more ≤ length (reading .entities) ⌝ }
     ensures outcome { λ r. ⌜ seatOf (r .seat) ≡ done (namedBy (reading .asked) reading (now (bytes .entry))) (now (line .entry)) (seatOf seat) ⌝ }
     ensures premise { λ r. ⌜ ReadySeat (r .seat) ⌝ }
+    ensures written { λ r. ⌜ take (r .written) (now (line .exit)) ≡ wrote (namedBy (reading .asked) reading (now (bytes .entry))) (now (line .entry)) (seatOf seat) ⌝ }
 {
     let asked = reading.asked;
     let entities = reading.entities;

@@ -3,7 +3,7 @@
 use amounts::difference::magnitude;
 use packed::writing::copy;
 ghost use mathlib.Core.Path.{_≡_};
-ghost use Prim.Native.Nat.{_+_, _≤_};
+ghost use Prim.Native.Nat.{_+_, _≤_, min};
 ghost use lib.ListN.{length};
 
 // An answer without the bytes that it shows: the longest is a report with twelve numbers.
@@ -18,7 +18,7 @@ pub fn blank() -> [u8; HEAD_BYTES]
 
 // The smaller of two.
 pub fn least(a: usize, b: usize) -> usize
-    ensures { λ r. ⌜ (r ≤ a) × (r ≤ b) ⌝ }
+    ensures { λ r. ⌜ (r ≤ a) × (r ≤ b) × (r ≡ min a b) ⌝ }
 {
     if a < b {
         return a;

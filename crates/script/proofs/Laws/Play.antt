@@ -1,20 +1,25 @@
 -- A line that was played, and the output behind its answer.
-use mathlib.Core.Path.{_≡_, sym, subst, ap, _∙_}
+use mathlib.Core.Path.{_≡_, refl, sym, subst, ap, _∙_}
 use mathlib.Core.Bool.{Bool, true, false, false≢true}
 use mathlib.Core.List.{List, [], _++_, append-nil}
-use Prim.Native.Nat.{ℕ, _+_, _-_, _≤_}
+use Prim.Native.Nat.{ℕ, _+_, _-_, _≤_, min}
+use native.Mathlib.Omega.{arith}
 use borrow.Rule.Slice.PartMut.{midOf, putMid}
+use borrow.Author.Tests.{leb-true, leb-false}
+use lib.Dec.{leb}
 use lib.ListN.{length, take, drop, length-drop}
-use lib.Seq.{drop-length, drop-drop, drop-append-seam, length-take-le}
+use lib.Seq.{take-all, drop-length, drop-drop, drop-append-seam, length-take-le}
 use Rattle.packed.proofs.Laws.Part.{part-tail}
+use Rattle.text.specs.declared.wire.Memory.{Memory}
+use Rattle.text.specs.Held.{Written, Holds}
 use Rattle.script.specs.declared.player.Player.{Player}
 use Rattle.script.specs.declared.play.LinePlayed.{LinePlayed}
 use Rattle.script.specs.declared.play.Played.{Played}
 use Rattle.script.specs.declared.play.Stop.{Stop}
 use Rattle.script.specs.declared.reading.Reading.{Reading}
 use Rattle.script.specs.Reading.{Meant, namedBy, meantBy}
-use Rattle.script.specs.Player.{endsOf, playedAt, ReadyPlayer}
-use Rattle.script.specs.Play.{filled, played, Done, ReadOf}
+use Rattle.script.specs.Player.{endsOf, seatAt, wrote, playedAt, ReadyPlayer}
+use Rattle.script.specs.Play.{filled, played, heldAfter, heldBy, Remembers, Done, ReadOf}
 
 -- a line that was played, by what it means
 pub told : (player : Player) (reading : Reading) (m : Meant) (buffer fill before after : List ℕ) (r : LinePlayed) → meantBy reading buffer ≡ m → fill ≡ filled → Done player (playedAt (reading .near) (namedBy (reading .asked) reading (take (reading .bytes) buffer)) (take (reading .room) fill) (endsOf player)) before after r → Done player (played m (endsOf player)) before after r
@@ -57,3 +62,25 @@ stops player read written stop text before after r e h all w k y = (
 
 pub not-all : (stop : Stop) (read size : ℕ) → isDone stop ≡ false → stop ≡ Stop.Done → read ≡ size
 not-all stop read size e f = absurd (false≢true (sym e ∙ ap isDone f))
+
+-- of a list no more is taken than it has
+pub least-taken : (l : List ℕ) (n k : ℕ) → k ≡ min n (length l) → take k l ≡ take n l
+least-taken l n k e = go (leb n (length l)) refl
+  where
+    go : (b : Bool) → leb n (length l) ≡ b → take k l ≡ take n l
+    go true f = let same : k ≡ n = omega (arith, leb-true n (length l) f) in ap (λ (j : ℕ). take j l) same
+    go false f =
+        let less = leb-false n (length l) f in
+        let all : k ≡ length l = omega arith in
+        ap (λ (j : ℕ). take j l) all ∙ take-all (length l) l (omega arith) ∙ sym (take-all n l (omega arith))
+
+-- a line that was played and what is remembered, by what it means
+pub remembers-told : (player : Player) (reading : Reading) (m : Meant) (buffer fill wire wire' : List ℕ) (lent : ℕ) (r : LinePlayed) → meantBy reading buffer ≡ m → fill ≡ filled → Remembers player (heldAfter (player .memory) (wrote (namedBy (reading .asked) reading (take (reading .bytes) buffer)) (take (reading .room) fill) (seatAt (reading .near) (endsOf player))) lent) wire wire' r → Remembers player (heldBy player m lent) wire wire' r
+remembers-told player reading m buffer fill wire wire' lent r means full so =
+    subst (λ (x : Meant). Remembers player (heldBy player x lent) wire wire' r) means
+    (subst (λ (l : List ℕ). Remembers player (heldAfter (player .memory) (wrote (namedBy (reading .asked) reading (take (reading .bytes) buffer)) (take (reading .room) l) (seatAt (reading .near) (endsOf player))) lent) wire wire' r) full so)
+
+-- what a line wrote is held, by the list that it is
+pub held-as : (memory kept : Memory) (a b : List ℕ) (lent : ℕ) (wire wire' : List ℕ) (r : Memory) → a ≡ b → r ≡ kept → ((ws : List Written) → Holds memory wire ws → Holds kept wire' (heldAfter memory a lent ws)) → (ws : List Written) → Holds memory wire ws → Holds r wire' (heldAfter memory b lent ws)
+held-as memory kept a b lent wire wire' r e same holds ws so =
+    subst (λ (l : List ℕ). Holds r wire' (heldAfter memory l lent ws)) e (subst (λ (k : Memory). Holds k wire' (heldAfter memory a lent ws)) (sym same) (holds ws so))

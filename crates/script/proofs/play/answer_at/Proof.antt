@@ -1,4 +1,6 @@
 -- What is done at the seat, and the sizes of its answer.
+use mathlib.Core.Path.{_∙_}
+use Rattle.script.proofs.Laws.Play.{least-taken}
 use borrow.Author.Needs.{needs}
 use native.Mathlib.Omega.{arith}
 use Rattle.script.proofs.play.answer_at.Statement.{statement}
@@ -25,7 +27,8 @@ same-length-2 c = search needs
 returns : tie.Need-returns
 returns c =
     let done = c .before .before .before .before .before .before .before .before .before .act in
-    (done .ensures .0, (done .ensures .1, (c .before .before .put-answer .ensures, omega (arith, c .before .before .before .before .before .least .ensures, done .kept .1 .1 .1 .0))))
+    let least = c .before .before .before .before .before .least .ensures in
+    (done .ensures .0, (done .ensures .1 .0, (c .before .before .put-answer .ensures, omega (arith, least, done .kept .1 .1 .1 .0), least-taken _ _ _ (least .2) ∙ done .ensures .1 .1)))
 
 pub answer-at-spec : {M : Type 1} → statement M
 answer-at-spec =

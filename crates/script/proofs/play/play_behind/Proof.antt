@@ -34,7 +34,7 @@ same-length-3 c = search needs
 returns : tie.Need-returns
 returns c =
     let s = c .before .before .before .before .before .before .before .before .before .before .before .before .before .before in
-    let said = c .before .before .before .before .before .before .play-line .ensures in
+    let said = c .before .before .before .before .before .before .play-line .ensures .0 in
     let output = s .args .output .now in
     let size : length (midOf (s .args .count) (length output - s .args .count) output) ≡ length output - s .args .count = ap length (part-tail (s .args .count) output) ∙ length-drop (s .args .count) output in
     record {

@@ -4,7 +4,7 @@ use lib.ListN.{length, take}
 use lib.Seq.{length-take-le}
 use native.Mathlib.Omega.{arith}
 use Rattle.script.specs.Reading.{meant}
-use Rattle.script.proofs.Laws.Play.{told}
+use Rattle.script.proofs.Laws.Play.{told, remembers-told}
 use borrow.Author.Needs.{needs}
 use Rattle.script.proofs.play.play_line.Statement.{statement}
 use Rattle.script.proofs.play.play_line.Tie as tie
@@ -48,7 +48,9 @@ same-length-3 c = c .before .before .before .before .before .before .before .bef
 returns : tie.Need-returns
 returns c =
     let said = c .before .before .before .before .before .play-reading .ensures in
-    told _ (c .before .before .before .before .before .before .before .before .before .before .before .reading-of .result) _ _ _ _ _ _ (c .before .before .before .before .before .before .before .before .before .before .before .reading-of .ensures .0 _ ∙ ap meant (c .before .before .before .before .before .before .before .before .before .before .before .before .before .before .read-line .ensures .0)) (c .before .before .before .before .before .before .before .before .before .before .filled .ensures .0) said
+    let a = c .before .before .before .before .before .before .before .before .before .before .before .before .before .before .before .before .before .before .before .before .before .args in
+    let fill = c .before .before .before .before .before .before .before .before .before .before .filled .ensures .0 in
+    (told _ (c .before .before .before .before .before .before .before .before .before .before .before .reading-of .result) _ _ _ _ _ _ (c .before .before .before .before .before .before .before .before .before .before .before .reading-of .ensures .0 _ ∙ ap meant (c .before .before .before .before .before .before .before .before .before .before .before .before .before .before .read-line .ensures .0)) fill (said .0), remembers-told (a .player) (c .before .before .before .before .before .before .before .before .before .before .before .reading-of .result) _ _ _ (a .wire .now) _ (length (a .wire .now)) (c .before .before .before .before .before .play-reading .result) (c .before .before .before .before .before .before .before .before .before .before .before .reading-of .ensures .0 _ ∙ ap meant (c .before .before .before .before .before .before .before .before .before .before .before .before .before .before .read-line .ensures .0)) fill (said .1))
 
 pub play-line-spec : {M : Type 1} → statement M
 play-line-spec =

@@ -3,7 +3,8 @@ use mathlib.Core.Path.{refl, ap, sym, _∙_}
 use mathlib.Core.Bool.{false≢true}
 use lib.Seq.{length-take-le}
 use Rattle.script.specs.Reading.{namedBy}
-use Rattle.script.specs.Player.{Seated, endsOf, done, withSeat}
+use Rattle.script.specs.Player.{Seated, endsOf, done, wrote, withSeat}
+use Rattle.script.proofs.Laws.Play.{held-as}
 use borrow.Author.Needs.{needs}
 use native.Mathlib.Omega.{arith}
 use Rattle.script.proofs.play.play_reading.Statement.{statement}
@@ -38,14 +39,16 @@ same-length-2 c = search needs
 
 returns : tie.Need-returns
 returns c =
-    let said = c .before .before .before .emit .ensures in
-    record {
-      ends = refl;
-      full = λ e. said .1 .1 (c .if1 .taken);
-      written = said .0;
-      kept = said .1 .0;
-      ready = c .before .before .before .before .before .before .before .before .before .before .before .before .before .before .before .before .before .before .before .before .before .pre .0;
-    }
+    let said = c .before .before .before .emit .ensures in (
+      record {
+        ends = refl;
+        full = λ e. said .1 .1 (c .if1 .taken);
+        written = said .0;
+        kept = said .1 .0;
+        ready = c .before .before .before .before .before .before .before .before .before .before .before .before .before .before .before .before .before .before .before .before .before .pre .0;
+      },
+      λ ws so. so,
+    )
 
 slice-reshare-prefix-after-writing : tie.Need-slice-reshare-prefix-after-writing
 slice-reshare-prefix-after-writing c = search needs
@@ -78,14 +81,16 @@ returns-2 c =
     let there = c .before .before .before .before .before .before .before .before .before .before .before .before .before .before .before .before .before .before .before .before .before .seat-at .ensures .0 in
     let after = c .before .before .before .before .before .before .before .before .before .before .before .before .before .before .before .before .before .answer-at .ensures .0 in
     let said = c .before .before .before .before .before .before .before .before .before .emit .ensures in
-    let kept = c .with-seat .ensures in
-    record {
-      ends = kept .0 ∙ ap (λ (x : Seated). withSeat near x ends) (after ∙ ap (λ (x : Seated). done (namedBy (s .args .reading .asked) (s .args .reading) (s .args .bytes .now)) (s .args .line .now) x) there);
-      full = λ e. absurd (false≢true e);
-      written = said .0;
-      kept = said .1 .0;
-      ready = kept .1;
-    }
+    let kept = c .with-seat .ensures in (
+      record {
+        ends = kept .0 ∙ ap (λ (x : Seated). withSeat near x ends) (after ∙ ap (λ (x : Seated). done (namedBy (s .args .reading .asked) (s .args .reading) (s .args .bytes .now)) (s .args .line .now) x) there);
+        full = λ e. absurd (false≢true e);
+        written = said .0;
+        kept = said .1 .0;
+        ready = kept .1 .0;
+      },
+      held-as (s .args .player .memory) _ _ _ _ _ _ _ (c .before .before .before .before .before .before .before .before .before .before .before .before .before .before .before .before .before .answer-at .ensures .1 .1 .2 ∙ ap (λ (x : Seated). wrote (namedBy (s .args .reading .asked) (s .args .reading) (s .args .bytes .now)) (s .args .line .now) x) there) (kept .1 .1) (c .before .before .before .after-writing .ensures),
+    )
 
 pub play-reading-spec : {M : Type 1} → statement M
 play-reading-spec =

@@ -1,8 +1,10 @@
 -- Each thing that a line may ask.
 use mathlib.Core.Path.{ap, sym, subst, _∙_}
+use Prim.Native.Nat.{ℕ}
+use lib.ListN.{take}
 use lib.Seq.{length-take-le}
 use Rattle.script.specs.Player.{seatOf, ReadySeat}
-use Rattle.script.proofs.Laws.Player.{asks}
+use Rattle.script.proofs.Laws.Player.{asks, writes}
 use borrow.Author.Needs.{needs}
 use Rattle.script.proofs.player.act.Statement.{statement}
 use Rattle.script.proofs.player.act.Tie as tie
@@ -34,13 +36,13 @@ call-at-requires c κs = search needs
 returns : tie.Need-returns
 returns c =
     let s = c .before .before .before .before .before .before in
-    (ap seatOf (c .untouched .ensures) ∙ asks (s .args .reading) (s .args .bytes .now) (s .args .line .now) (seatOf (s .args .seat)) (c .before .enum-told .given .1), subst ReadySeat (sym (c .untouched .ensures)) (s .pre .0))
+    (ap seatOf (c .untouched .ensures .0) ∙ asks (s .args .reading) (s .args .bytes .now) (s .args .line .now) (seatOf (s .args .seat)) (c .before .enum-told .given .1), (subst ReadySeat (sym (c .untouched .ensures .0)) (s .pre .0), ap (λ (n : ℕ). take n (s .args .line .now)) (c .untouched .ensures .1) ∙ writes (s .args .reading) (s .args .bytes .now) (s .args .line .now) (seatOf (s .args .seat)) (c .before .enum-told .given .1)))
 
 returns-2 : tie.Need-returns-2
 returns-2 c =
     let s = c .before .before .before .before .before .before .before .before in
     let said = c .start-at .ensures in
-    (said .0 ∙ asks (s .args .reading) (s .args .bytes .now) (s .args .line .now) (seatOf (s .args .seat)) (c .before .before .before .asked .given .1), said .1)
+    (said .0 ∙ asks (s .args .reading) (s .args .bytes .now) (s .args .line .now) (seatOf (s .args .seat)) (c .before .before .before .asked .given .1), (said .1 .0, ap (λ (n : ℕ). take n (s .args .line .now)) (said .1 .1) ∙ writes (s .args .reading) (s .args .bytes .now) (s .args .line .now) (seatOf (s .args .seat)) (c .before .before .before .asked .given .1)))
 
 same-length : tie.Need-same-length
 same-length c = search needs
@@ -49,7 +51,7 @@ returns-3 : tie.Need-returns-3
 returns-3 c =
     let s = c .before .before .before .before .before .before .before .before .before .before in
     let said = c .before .before .call-at .ensures in
-    (said .0 ∙ asks (s .args .reading) (s .args .bytes .now) (s .args .line .now) (seatOf (s .args .seat)) (c .before .before .before .before .before .asked2 .given .1), said .1)
+    (said .0 ∙ asks (s .args .reading) (s .args .bytes .now) (s .args .line .now) (seatOf (s .args .seat)) (c .before .before .before .before .before .asked2 .given .1), (said .1 .0, said .1 .1 ∙ writes (s .args .reading) (s .args .bytes .now) (s .args .line .now) (seatOf (s .args .seat)) (c .before .before .before .before .before .asked2 .given .1)))
 
 pub act-spec : {M : Type 1} → statement M
 act-spec =
