@@ -3,3 +3,4 @@ pub mod Reading
 pub mod Answer
 pub mod Player
 pub mod Play
+pub mod Inner

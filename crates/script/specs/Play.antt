@@ -1,5 +1,5 @@
 -- What playing a line leaves.
-use Prim.Native.Nat.{ℕ, _+_, _^_, _≤_, _<_}
+use Prim.Native.Nat.{ℕ, _≤_, _<_}
 use mathlib.Core.Path.{_≡_}
 use mathlib.Core.Bool.{true, cond}
 use mathlib.Core.List.{List}
@@ -8,7 +8,6 @@ use lib.ListN.{length, take, drop, replicate}
 use Rattle.text.specs.declared.wire.Memory.{Memory}
 use Rattle.text.specs.Held.{Written, Holds, remembered}
 use Rattle.script.specs.declared.player.Player.{Player}
-use Rattle.script.specs.declared.play.Cut.{Cut}
 use Rattle.script.specs.declared.play.LinePlayed.{LinePlayed}
 use Rattle.script.specs.declared.play.Played.{Played}
 use Rattle.script.specs.declared.play.Stop.{Stop}
@@ -47,20 +46,6 @@ pub record Done (player : Player) (next : Ends) (before after : List ℕ) (r : L
   pub written : r .written ≤ length before
   pub kept : drop (r .written) after ≡ drop (r .written) before
   pub ready : ReadyPlayer (r .player)
-
--- a line was played, with so many bytes of output before its answer
-pub record Behind (count : ℕ) (before after : List ℕ) (r : LinePlayed) : Type 0 where
-  pub written : count + r .written ≤ length before
-  pub fits : count + r .written < 2 ^ 64
-  pub kept : drop (count + r .written) after ≡ drop (count + r .written) before
-  pub ready : ReadyPlayer (r .player)
-
--- a line that was cut from a text lies in it, and the next begins behind where it began
-pub record CutWithin (at : ℕ) (text : List ℕ) (r : Cut) : Type 0 where
-  pub from : at ≤ r .to
-  pub to : r .to ≤ length text
-  pub on : at < r .next
-  pub next : r .next ≤ length text
 
 -- how much of a text was played: all of it, where nothing stopped it
 pub record ReadOf (size : ℕ) (r : Played) : Type 0 where

@@ -26,7 +26,8 @@ ghost use Rattle.text.specs.Held.{Written, Holds};
 ghost use Rattle.text.specs.Line.{readLine};
 ghost use Rattle.script.specs.Reading.{namedBy, meant};
 ghost use Rattle.script.specs.Player.{seatOf, done, endsOf, seatAt, withSeat, wrote, playedAt, ReadySeat, ReadyPlayer};
-ghost use Rattle.script.specs.Play.{filled, played, heldAfter, heldBy, Remembers, longestAnswer, Done, Behind, ReadOf, CutWithin};
+ghost use Rattle.script.specs.Play.{filled, played, heldAfter, heldBy, Remembers, longestAnswer, Done, ReadOf};
+ghost use Rattle.script.specs.Inner.Play.{Behind, CutWithin};
 
 // The most bytes that stand in a line.
 const MOST_BYTES: usize = LONGEST_LINE / 2;

@@ -1,5 +1,5 @@
 -- The kinds of lines (docs/SCRIPTS.md): the word of each call, and what follows its end.
-use Prim.Native.Nat.{ℕ, _+_, _≤_, _<_}
+use Prim.Native.Nat.{ℕ}
 use mathlib.Core.Bool.{Bool, true, false, cond}
 use mathlib.Core.List.{List, [], _∷_}
 use Rattle.text.specs.declared.kind.Kind.{Kind}
@@ -61,8 +61,3 @@ shapeOf Clock = shape 1 None 0 false
 shapeOf Report = shape 0 None 0 false
 shapeOf Passed = shape 0 None 0 false
 shapeOf Bad = shape 0 None 0 false
-
--- no line has more than 19 numbers
-pub record Sized (s : Shape) : Type 0 where
-  pub all : s .asked + s .more ≤ 19
-  pub place : s .asked < 19

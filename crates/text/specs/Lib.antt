@@ -1,6 +1,5 @@
 -- What the text of a script says.
 pub mod Ascii
-pub mod Within
 pub mod Word
 pub mod Digit
 pub mod Number
@@ -10,3 +9,4 @@ pub mod Memory
 pub mod Held
 pub mod Kind
 pub mod Line
+pub mod Inner

@@ -1,13 +1,9 @@
 -- The words of a line: what stands between spaces. And whether two runs of bytes are the same.
-use Prim.Native.Nat.{ℕ, suc, _-_, _≤_}
+use Prim.Native.Nat.{ℕ, suc}
 use Rattle.text.specs.Ascii.{byte}
-use mathlib.Core.Path.{_≡_}
 use mathlib.Core.Bool.{Bool, true, false, not, _&&_, cond}
 use mathlib.Core.List.{List, [], _∷_}
 use lib.Dec.{eqb}
-use lib.ListN.{length, drop}
-use Rattle.packed.specs.Part.{part}
-use Rattle.text.specs.declared.word.Word.{Word}
 
 unfoldable pub sameBytes : List ℕ → List ℕ → Bool
 sameBytes [] [] = true
@@ -46,13 +42,3 @@ notEmpty ((b ∷ bs) ∷ runs) = (b ∷ bs) ∷ notEmpty runs
 
 abbrev pub words : List ℕ → List (List ℕ)
 words line = notEmpty (runs isSpace line)
-
--- the words of a line from where one stands on; none where nothing stands there
-abbrev pub wordsFrom : Word → (line : List ℕ) → List (List ℕ)
-wordsFrom r line = cond (eqb (r .from) (r .to)) [] (part (r .from) (r .to - r .from) line ∷ words (drop (r .to) line))
-
--- the next word of a line from a place on
-pub record NextWord (at : ℕ) (line : List ℕ) (r : Word) : Type 0 where
-  pub order : r .from ≤ r .to
-  pub end : r .to ≤ length line
-  pub words : words (drop at line) ≡ wordsFrom r line

@@ -2,7 +2,8 @@
 use crate::word::same;
 ghost use mathlib.Core.Path.{_≡_};
 ghost use lib.ListN.{drop};
-ghost use Rattle.text.specs.Kind.{calls, kindIn, kindOf, isBad, shape, shapeOf, Sized};
+ghost use Rattle.text.specs.Kind.{calls, kindIn, kindOf, isBad, shape, shapeOf};
+ghost use Rattle.text.specs.Inner.Kind.{Sized};
 
 // What a line is: a call, by its word; or no call, to be passed over or to be answered as a bad one.
 pub enum Kind {

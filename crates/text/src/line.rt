@@ -20,8 +20,10 @@ ghost use lib.ListN.{length, take, drop};
 ghost use Rattle.text.specs.Word.{words};
 ghost use Rattle.text.specs.Got.{fitting, gotOf};
 ghost use Rattle.text.specs.Memory.{recalled};
-ghost use Rattle.text.specs.Kind.{shapeOf, Sized};
-ghost use Rattle.text.specs.Line.{noCall, isNone, isAt, writtenUnder, hexOrWritten, roomIn, readCall, readLine, saidOf, Bounded, NumbersRead, DataRead, PartsRead, EndRead};
+ghost use Rattle.text.specs.Kind.{shapeOf};
+ghost use Rattle.text.specs.Inner.Kind.{Sized};
+ghost use Rattle.text.specs.Line.{noCall, isNone, isAt, writtenUnder, hexOrWritten, roomIn, readCall, readLine, saidOf};
+ghost use Rattle.text.specs.Inner.Line.{Bounded, NumbersRead, DataRead, PartsRead, EndRead};
 
 // The longest line, without its line feed.
 pub const LONGEST_LINE: usize = 24_000;

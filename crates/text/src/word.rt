@@ -2,8 +2,9 @@
 ghost use mathlib.Core.Path.{_≡_};
 ghost use Prim.Native.Nat.{_+_, _≤_};
 ghost use lib.ListN.{length, drop};
-ghost use Rattle.text.specs.Within.{Within};
-ghost use Rattle.text.specs.Word.{sameBytes, before, is, isOther, NextWord};
+ghost use Rattle.text.specs.Inner.Within.{Within};
+ghost use Rattle.text.specs.Word.{sameBytes, before, is, isOther};
+ghost use Rattle.text.specs.Inner.Word.{NextWord};
 
 // Where a word stands, and where it ends; nothing stands there where the line has no more words.
 pub struct Word {

@@ -22,12 +22,14 @@ use Rattle.text.specs.declared.line.Parts.{Parts}
 use Rattle.text.specs.declared.line.End.{End}
 use Rattle.text.specs.declared.word.Word.{Word}
 use Rattle.text.specs.Ascii.{ascii, byte}
-use Rattle.text.specs.Word.{sameBytes, words, NextWord}
+use Rattle.text.specs.Word.{sameBytes, words}
+use Rattle.text.specs.Inner.Word.{NextWord}
 use Rattle.text.specs.Number.{decimal, isNumber}
 use Rattle.text.specs.Got.{Got, none, got, fitting, gotOf}
 use Rattle.text.specs.Hex.{hexWord}
 use Rattle.text.specs.Kind.{kindOf, isBad, shapeOf}
-use Rattle.text.specs.Line.{isNone, isAt, firstOf, hexOrWritten, writtenUnder, bytesFrom, bytesIn, wordsOf, askedWords, moreWords, numbersIn, areNumbers, isWhole, roomIn, mostRoom, longestLine, isEnd, Said, noCall, readCall, readWords, readLine, NumbersRead, DataRead, PartsRead, EndRead}
+use Rattle.text.specs.Line.{isNone, isAt, firstOf, hexOrWritten, writtenUnder, bytesFrom, bytesIn, wordsOf, askedWords, moreWords, numbersIn, areNumbers, isWhole, roomIn, mostRoom, longestLine, isEnd, Said, noCall, readCall, readWords, readLine}
+use Rattle.text.specs.Inner.Line.{NumbersRead, DataRead, PartsRead, EndRead}
 use Rattle.text.proofs.Laws.Told.{and-then}
 use Rattle.text.proofs.Laws.Got.{fitting-none}
 use Rattle.text.proofs.Laws.Hex.{hex-nothing}

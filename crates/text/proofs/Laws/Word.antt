@@ -12,7 +12,8 @@ use lib.Seq.{drop-cons, drop-drop}
 use borrow.Author.Tests.{eqb-true, eq-eqb, ne-eqb}
 use Rattle.packed.proofs.Laws.Told.{both}
 use Rattle.text.specs.declared.word.Word.{Word}
-use Rattle.text.specs.Word.{sameBytes, before, isSpace, isOther, ontoFirst, runs, notEmpty, words, wordsFrom}
+use Rattle.text.specs.Word.{sameBytes, before, isSpace, isOther, ontoFirst, runs, notEmpty, words}
+use Rattle.text.specs.Inner.Word.{wordsFrom}
 
 -- a search that has come to i: it ends there, or goes on
 module _ (p : ℕ → Bool) (l : List ℕ) (i : ℕ) where
