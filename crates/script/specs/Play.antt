@@ -1,11 +1,12 @@
 -- What playing a line leaves.
-use Prim.Native.Nat.{ℕ, _≤_, _<_}
+use Prim.Native.Nat.{ℕ, _+_, _*_, _≤_, _<_}
 use mathlib.Core.Path.{_≡_}
 use mathlib.Core.Bool.{true, cond}
 use mathlib.Core.List.{List}
 use lib.Dec.{eqb}
 use lib.ListN.{length, take, drop, replicate}
 use Rattle.text.specs.declared.wire.Memory.{Memory}
+use Rattle.text.specs.Line.{mostRoom}
 use Rattle.text.specs.Held.{Written, Holds, remembered}
 use Rattle.script.specs.declared.player.Player.{Player}
 use Rattle.script.specs.declared.play.LinePlayed.{LinePlayed}
@@ -16,11 +17,11 @@ use Rattle.script.specs.Player.{Ends, endsOf, seatAt, wrote, playedAt, R
 
 -- the bytes of a line buffer, before a call
 unfoldable pub filled : List ℕ
-filled = replicate 10412 238
+filled = replicate mostRoom 0xee
 
 -- no answer is longer: 400 bytes of words, two characters for each byte of the longest message, and a line feed
 abbrev pub longestAnswer : ℕ
-longestAnswer = 21225
+longestAnswer = 400 + 2 * mostRoom + 1
 
 -- both ends after a line that means this
 abbrev pub played : Meant → Ends → Ends

@@ -19,6 +19,7 @@ ghost use Prim.Native.Nat.{_+_, _*_, _≤_};
 ghost use lib.ListN.{length, drop};
 ghost use Rattle.script.specs.Answer.{answerBytes};
 ghost use Rattle.script.specs.Player.{ReadySeat};
+ghost use Rattle.text.specs.Line.{mostRoom};
 
 // The word of a call.
 fn put_kind(head: &mut [u8], kind: Kind) -> usize
@@ -236,7 +237,7 @@ pub fn put_answer(
 // The length of an answer: its words, two digits a byte, and a line feed; nothing where there are no words.
 pub fn answer_bytes(words: usize, shown: usize) -> usize
     requires { ⌜ words ≤ 400 ⌝ }
-    requires { ⌜ shown ≤ 10412 ⌝ }
+    requires { ⌜ shown ≤ mostRoom ⌝ }
     ensures { λ r. ⌜ r ≡ answerBytes words shown ⌝ }
 {
     if words == 0 {

@@ -23,7 +23,7 @@ ghost use mathlib.Core.List.{List};
 ghost use lib.ListN.{length, take, drop};
 ghost use Rattle.text.specs.Memory.{recalled};
 ghost use Rattle.text.specs.Held.{Written, Holds};
-ghost use Rattle.text.specs.Line.{readLine};
+ghost use Rattle.text.specs.Line.{readLine, mostRoom};
 ghost use Rattle.script.specs.Reading.{namedBy, meant};
 ghost use Rattle.script.specs.Player.{seatOf, done, endsOf, seatAt, withSeat, wrote, playedAt, ReadySeat, ReadyPlayer};
 ghost use Rattle.script.specs.Play.{filled, played, heldAfter, heldBy, Remembers, longestAnswer, Done, ReadOf};
@@ -146,7 +146,7 @@ pub struct Emitted {
 // Writes an answer of so many words and bytes, if it fits.
 fn emit(output: &mut [u8], head: &[u8], line: &[u8], words: usize, written: usize) -> Emitted
     requires { ⌜ (words ≤ 400) × (words ≤ length (now head)) ⌝ }
-    requires { ⌜ (written ≤ 10412) × (written ≤ length (now line)) ⌝ }
+    requires { ⌜ (written ≤ mostRoom) × (written ≤ length (now line)) ⌝ }
     ensures written { λ r. ⌜ r .count ≤ length (now (output .entry)) ⌝ }
     ensures kept { λ r. ⌜ drop (r .count) (now (output .exit)) ≡ drop (r .count) (now (output .entry)) ⌝ }
     ensures full { λ r. ⌜ (r .full ≡ true → length (now (output .entry)) < longestAnswer) ⌝ }
@@ -174,7 +174,7 @@ fn play_reading(
 ) -> LinePlayed
     requires { ⌜ ReadyPlayer player ⌝ }
     requires { ⌜ reading .more ≤ length (reading .entities) ⌝ }
-    requires { ⌜ length (now line) ≤ 10412 ⌝ }
+    requires { ⌜ length (now line) ≤ mostRoom ⌝ }
     ensures { λ r. ⌜ Done player (playedAt (reading .near) (namedBy (reading .asked) reading (now (bytes .entry))) (now (line .entry)) (endsOf player)) (now (output .entry)) (now (output .exit)) r ⌝ }
     ensures memory { λ r. ⌜ Remembers player (heldAfter (player .memory) (wrote (namedBy (reading .asked) reading (now (bytes .entry))) (now (line .entry)) (seatAt (reading .near) (endsOf player))) (length (now (wire .entry)))) (now (wire .entry)) (now (wire .exit)) r ⌝ }
 {
@@ -204,7 +204,7 @@ fn play_reading(
 // The line buffer of a call.
 fn filled() -> [u8; MOST_ROOM]
     ensures value { λ r. ⌜ r ≡ filled ⌝ }
-    ensures size { λ r. ⌜ 10412 ≡ length r ⌝ }
+    ensures size { λ r. ⌜ mostRoom ≡ length r ⌝ }
 {
     [0xee; MOST_ROOM]
 }
