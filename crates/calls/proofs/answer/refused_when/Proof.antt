@@ -1,4 +1,4 @@
--- `refused_when`: its test decides.
+-- `refused_when`: the refusal's number where the test holds, else 0, in the code as in the definition.
 use Rattle.codes.specs.Chain.{_when_}
 use Rattle.calls.proofs.answer.refused_when.Statement.{statement}
 use Rattle.calls.proofs.answer.refused_when.Tie as tie

@@ -36,9 +36,11 @@ same-length-2 c = search needs
 
 returns-2 : tie.Need-returns-2
 returns-2 c =
-    let a = c .before .before .before .before .before .before .before .before .before .before .before .before .before .before .before .before .args in
-    let sent = c .before .before .before .before .send-part .ensures in
-    (sent .0 ∙ room (a .presentations .now) (a .returns .now) _ (standingOf (a .p) (a .message .now) (a .reply .now)) (c .before .before .before .before .before .before .before .before .before .before .next .ensures) _ _ (c .before .before .before .before .before .before .before .before .before .documents-in .ensures) (c .before .before .before .before .before .before .before .before .passes-lot .ensures) (c .before .before .before .before .before .before .before .if1 .left), sent .1)
+    let k = c .before .before .before .before in
+    let t = k .before .before .before in
+    let a = t .before .before .before .before .before .before .before .before .before .args in
+    let sent = k .send-part .ensures in
+    (sent .0 ∙ room (a .presentations .now) (a .returns .now) _ (standingOf (a .p) (a .message .now) (a .reply .now)) (t .before .before .before .next .ensures) _ _ (t .before .before .documents-in .ensures) (t .before .passes-lot .ensures) (t .if1 .left), sent .1)
 
 pub send-next-spec : {M : Type 1} → statement M
 send-next-spec =

@@ -8,13 +8,17 @@ use Rattle.exchange.proofs.Laws.Rounds.{heard, unheard}
 use Rattle.exchange.proofs.rounds.round.Statement.{statement}
 use Rattle.exchange.proofs.rounds.round.Tie as tie
 
+abbrev start : tie.After-perform → tie.Start
+start k = k .before .before .before .before .before
+
 perform-requires : tie.Need-perform-requires
 perform-requires c κs = search needs
 
 slice-reshare-prefix-answered : tie.Need-slice-reshare-prefix-answered
 slice-reshare-prefix-answered c =
-    let a = c .before .before .before .before .before .before .before .before .before .before .args in
-    let call = c .before .before .before .before .before .perform in
+    let k = c .before .before .before .before .before in
+    let a = start k .args in
+    let call = k .perform in
     omega (arith, written-within (callOf (a .order) (a .part .now)) (a .message .now) (engineOf (a .presenter)) _ (call .ensures .0), call .kept .1 .1 .1 .0)
 
 slice-aggregate-answered : tie.Need-slice-aggregate-answered
@@ -31,8 +35,9 @@ same-length-2 c = search needs
 
 returns : tie.Need-returns
 returns c =
-    let a = c .before .before .before .before .before .before .before .before .before .before .before .before .before .before .before .args in
-    let turn = c .before .before .before .before .before .before .before .before .before .before .perform in
+    let k = c .before .before .before .before .before .before .before .before .before .before in
+    let a = start k .args in
+    let turn = k .perform in
     let answer = c .before .before .answered in
     (heard (callOf (a .order) (a .part .now)) (a .time) (a .message .now) (a .reply .now) (engineOf (a .presenter)) (engineOf (a .receiver)) _ (turn .ensures .0) _ _ (c .before .before .before .before .before .if1 .taken) (answer .ensures .1 .0) (answer .ensures .0), answer .ensures .1 .1)
 
@@ -41,9 +46,10 @@ same-length-3 c = search needs
 
 returns-2 : tie.Need-returns-2
 returns-2 c =
-    let s = c .before .before .before .before .before .before .before .before .before .before in
+    let k = c .before .before .before .before .before in
+    let s = start k in
     let a = s .args in
-    let turn = c .before .before .before .before .before .perform in
+    let turn = k .perform in
     (unheard (callOf (a .order) (a .part .now)) (a .time) (a .message .now) (a .reply .now) (engineOf (a .presenter)) (engineOf (a .receiver)) _ (turn .ensures .0) (c .if1 .left), record { presenter = turn .ensures .1; receiver = s .pre .1 })
 
 pub round-spec : {M : Type 1} → statement M

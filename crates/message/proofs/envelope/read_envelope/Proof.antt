@@ -23,15 +23,15 @@ use Rattle.message.proofs.envelope.read_envelope.Tie as tie
 length-good-requires : tie.Need-length-good-requires
 length-good-requires c κs = search needs
 
--- past the test of the length
-abbrev past : tie.Then1 → Type 0
-past t = let a = t .before .before .before .args in lengthGood (a .kind) (length (a .bytes .now)) ≡ true
+abbrev start : tie.Then1 → tie.Start
+start t = t .before .before .before
 
-passed : (t : tie.Then1) → past t
+-- past the test of the length
+passed : (t : tie.Then1) → let a = start t .args in lengthGood (a .kind) (length (a .bytes .now)) ≡ true
 passed t = sym (t .before .length-good .ensures) ∙ t .if1 .taken
 
-enough : (t : tie.Then1) → envelopeBytes ≤ length (t .before .before .before .args .bytes .now)
-enough t = let a = t .before .before .before .args in long (a .kind) (length (a .bytes .now)) (passed t)
+enough : (t : tie.Then1) → envelopeBytes ≤ length (start t .args .bytes .now)
+enough t = let a = start t .args in long (a .kind) (length (a .bytes .now)) (passed t)
 
 fields-of-requires : tie.Need-fields-of-requires
 fields-of-requires c κs = enough c
@@ -45,24 +45,29 @@ kind-byte-requires c κs = search needs
 are-digits-requires : tie.Need-are-digits-requires
 are-digits-requires c κs = enough (c .before .before .before)
 
+-- the fields are read, and all tests made
+abbrev read : tie.After-struct-known2 → tie.After-fields-of
+read t = t .before .before .before .before .before
+
 -- kind, digits and serial decide
 abbrev tests : tie.After-struct-known2 → Bool
-tests t =
-    let e = t .before .before .before .before .before in
-    eqb (byteAt 1 (e .before .before .before .before .args .bytes .now)) (t .before .before .before .kind-byte .result) && t .before .before .are-digits .result && between 1 largestSerial (e .fields-of .result .serial)
+tests t = eqb (byteAt 1 (start (read t .before) .args .bytes .now)) (t .before .before .before .kind-byte .result) && t .before .before .are-digits .result && between 1 largestSerial (read t .fields-of .result .serial)
 
-tested : (t : tie.After-struct-known2) (b : Bool) → tests t ≡ b → envelopeGood (t .before .before .before .before .before .before .before .before .before .args .kind) (t .before .before .before .before .before .before .before .before .before .args .bytes .now) ≡ b
+tested : (t : tie.After-struct-known2) (b : Bool) → tests t ≡ b → let a = start (read t .before) .args in envelopeGood (a .kind) (a .bytes .now) ≡ b
 unfolding envelopeFields
 tested t b e =
-    let a = t .before .before .before .before .before .before .before .before .before .args in
-    tests-decide (a .kind) (a .bytes .now) (t .before .before .before .kind-byte .result) (t .before .before .before .before .before .fields-of .result .serial) (t .before .before .are-digits .result) b (passed (t .before .before .before .before .before .before)) (t .before .before .before .kind-byte .ensures) (t .before .before .are-digits .ensures) (ap (λ (x : Envelope). x .serial) (t .before .before .before .before .before .fields-of .ensures)) e
+    let fields = read t .fields-of in
+    let a = start (read t .before) .args in
+    let kind = t .before .before .before .kind-byte in
+    let digits = t .before .before .are-digits in
+    tests-decide (a .kind) (a .bytes .now) (kind .result) (fields .result .serial) (digits .result) b (passed (read t .before)) (kind .ensures) (digits .ensures) (ap (λ (x : Envelope). x .serial) (fields .ensures)) e
 
 returns : tie.Need-returns
 unfolding envelopeFields _when_
 returns c =
-    let t = c .before in
-    let a = t .before .before .before .before .before .before .before .before .before .args in
-    said-values (21 when not (envelopeGood (a .kind) (a .bytes .now))) (tableNumbers 1 envelopeFields (a .bytes .now)) (envelopeValues (t .before .before .before .before .before .fields-of .result)) (ap (λ (b : Bool). 21 when not b) (tested t true (c .if2 .taken))) (ap envelopeValues (t .before .before .before .before .before .fields-of .ensures))
+    let k = read (c .before) in
+    let a = start (k .before) .args in
+    said-values (21 when not (envelopeGood (a .kind) (a .bytes .now))) (tableNumbers 1 envelopeFields (a .bytes .now)) (envelopeValues (k .fields-of .result)) (ap (λ (b : Bool). 21 when not b) (tested (c .before) true (c .if2 .taken))) (ap envelopeValues (k .fields-of .ensures))
 
 -- a test that fails is 21
 refused : (kind : Kind) (bytes : List ℕ) → envelopeGood kind bytes ≡ false → reading 21 [] ≡ readEnvelope kind bytes
@@ -71,9 +76,8 @@ refused kind bytes e = said-number (21 when not (envelopeGood kind bytes)) 21 (t
 
 returns-2 : tie.Need-returns-2
 returns-2 c =
-    let t = c .before in
-    let a = t .before .before .before .before .before .before .before .before .before .args in
-    refused (a .kind) (a .bytes .now) (tested t false (c .if2 .left))
+    let a = start (read (c .before) .before) .args in
+    refused (a .kind) (a .bytes .now) (tested (c .before) false (c .if2 .left))
 
 returns-3 : tie.Need-returns-3
 unfolding envelopeGood

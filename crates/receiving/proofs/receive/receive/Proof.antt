@@ -43,11 +43,14 @@ or-refused-requires c κs = search needs
 answer-number-requires : tie.Need-answer-number-requires
 answer-number-requires c κs = search needs
 
+abbrev start : tie.After-or-refused → tie.Start
+start w = w .before .before .before .before .before .before .before .before
+
 -- the chain, and whether a message that it lets pass is the next one
-arrived : (w : tie.After-or-refused) → let a = w .before .before .before .before .before .before .before .before .args in let answer = answerNumber (w .or-refused .result) in (answer ≡ receiveRefusal (a .time) (a .message .now) (length (a .line .now)) (a .session)) × (answer ≡ 0 → w .before .before .read-message .result .next ≡ isNext (a .message .now) (a .session .receiving .serial))
+arrived : (w : tie.After-or-refused) → let a = start w .args in let answer = answerNumber (w .or-refused .result) in (answer ≡ receiveRefusal (a .time) (a .message .now) (length (a .line .now)) (a .session)) × (answer ≡ 0 → w .before .before .read-message .result .next ≡ isNext (a .message .now) (a .session .receiving .serial))
 unfolding receiveRefusal
 arrived w =
-    let a = w .before .before .before .before .before .before .before .before .args in
+    let a = start w .args in
     let bytes = a .message .now in
     let last = a .session .receiving .serial in
     let r = w .before .before .read-message .result in
@@ -58,11 +61,11 @@ arrived w =
 none : (t : tie.Then1) → answerNumber (t .before .before .or-refused .result) ≡ 0
 none t = sym (t .before .answer-number .ensures) ∙ t .if1 .taken
 
-passed : (t : tie.Then1) → let a = t .before .before .before .before .before .before .before .before .before .before .args in ReceiveTold (a .message .now) (held (a .session) (a .running) (a .line .now))
-passed t = let a = t .before .before .before .before .before .before .before .before .before .before .args in told (a .time) (a .message .now) (a .session) (a .running) (a .line .now) (answerNumber (t .before .before .or-refused .result)) (arrived (t .before .before) .0) (none t)
+passed : (t : tie.Then1) → let a = start (t .before .before) .args in ReceiveTold (a .message .now) (held (a .session) (a .running) (a .line .now))
+passed t = let a = start (t .before .before) .args in told (a .time) (a .message .now) (a .session) (a .running) (a .line .now) (answerNumber (t .before .before .or-refused .result)) (arrived (t .before .before) .0) (none t)
 
 sub-body : tie.Need-sub-body
-sub-body c = let a = c .before .before .before .before .before .before .before .before .before .before .args in enough Kind.Message (a .message .now) (passed c .good)
+sub-body c = let a = start (c .before .before) .args in enough Kind.Message (a .message .now) (passed c .good)
 
 part-body-start : tie.Need-part-body-start
 part-body-start c = let h = sub-body c in search needs
@@ -72,7 +75,7 @@ part-body-end c = search needs
 
 handle-if-requires : tie.Need-handle-if-requires
 handle-if-requires c κs =
-    let g = c .before .before .before .before .before .before .before .before .before .before .before .pre in
+    let g = start (c .before .before .before) .pre in
     record { represented = g .0 .parties .represented; serial = g .0 .received; counters = g .0 .receiving; places = g .0 .places; running = g .1 .fits }
 
 replying-requires : tie.Need-replying-requires
@@ -86,7 +89,7 @@ unfolding receive meaning
 returns c =
     let t = c .before .before .before .before .before .before in
     let w = t .before .before in
-    let a = w .before .before .before .before .before .before .before .before .args in
+    let a = start w .args in
     let s = a .session in
     let bytes = a .message .now in
     let lent = held s (a .running) (a .line .now) in
@@ -101,13 +104,13 @@ returns c =
     ap (λ (x : ReceiveOutcome). receivedSaid (x .received) (x .running) line) (given .ensures .0)
     ∙ (λ i. record { number = sym (none t) i; written = replyRoom; left = held (seenAt (a .time) (withReceiving (handled .result .receiving) s)) (handled .result .running) line })
     ∙ replied-so (a .time) bytes s (a .running) (a .line .now) (answerNumber (w .or-refused .result)) (arrived w .0) (none t) next (handled .result .receiving) (handled .result .running) line (arrived w .1 (none t)) after running (given .ensures .1) in
-    (said, so-kept-beside s _ _ said Direction.receiving (kept-beside (Call.receive (a .time) bytes) lent (record { sound = w .before .before .before .before .before .before .before .before .pre .0; carried = w .before .before .before .before .before .before .before .before .pre .1 })))
+    (said, so-kept-beside s _ _ said Direction.receiving (kept-beside (Call.receive (a .time) bytes) lent (record { sound = start w .pre .0; carried = start w .pre .1 })))
 
 returns-2 : tie.Need-returns-2
 unfolding receive meaning
 returns-2 c =
     let w = c .before .before in
-    let t = w .before .before .before .before .before .before .before .before in
+    let t = start w in
     let lent = held (t .args .session) (t .args .running) (t .args .line .now) in
     let bytes = t .args .message .now in
     let time = t .args .time in
