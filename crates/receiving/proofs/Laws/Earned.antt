@@ -1,4 +1,5 @@
--- An effect that stands for another moves the direction as the other does, and what may be counted of it has a free place.
+-- What a body earns: an effect that stands for another moves the direction as the other does, what may be counted of it has a free place, and
+-- how a reading that is accepted or wrong goes on in the chain.
 use mathlib.Core.Path.{_≡_, refl, ap, sym, subst, _∙_}
 use mathlib.Core.Bool.{Bool, true, false, cond, false≢true}
 use mathlib.Core.List.{List, [], _∷_}
@@ -10,7 +11,7 @@ use borrow.Author.Tests.{eqb-true}
 use Rattle.codes.specs.Chain.{_orelse_}
 use Rattle.codes.specs.declared.code.Code.{Code}
 use Rattle.codes.specs.Code.{codeNumber}
-use Rattle.codes.proofs.Laws.Chain.{ends as ends-chain}
+use Rattle.codes.proofs.Laws.Chain.{goes-on, ends as ends-chain}
 use Rattle.message.specs.Content.{contentOf}
 use Rattle.message.specs.Reading.{reading}
 use Rattle.message.proofs.Laws.Reading.{number-told, told}
@@ -98,6 +99,11 @@ stands-if code effect meant h l = go (eqb code 0) refl
     go : (b : Bool) → eqb code 0 ≡ b → StandsFor b effect meant
     go true e = h (eqb-true code 0 e)
     go false e = l
+
+-- what a body reads as is what it holds: so behind its own code the chain is the same, and the effect
+pub read-earns : {A : Type 0} (late : A → ℕ) (effect : A → Effect) (read holds : A) (first code : ℕ) → read ≡ holds → first ≡ 0 → code ≡ late read → (code ≡ (first orelse late holds)) × StandsFor (eqb code 0) (effect read) (effect holds)
+read-earns {A = A} late effect read holds first code same good chain =
+    (chain ∙ ap late same ∙ sym (goes-on first (late holds) good), stands-if code (effect read) (effect holds) (λ (e : code ≡ 0). ap effect same) (ap (λ (x : A). endsLot (effect x)) same))
 
 -- a reading that comes with a code and no values was not accepted
 pub wrong-read : (c : Code) (n v : ℕ) (vs : List ℕ) → reading (codeNumber c) [] ≡ reading n (v ∷ vs) → (n ≡ codeNumber c) × (codeNumber c ≡ 0 → ⊥)

@@ -6,7 +6,6 @@ use native.Mathlib.Omega.{arith}
 use Rattle.codes.specs.Chain.{_when_, _orelse_}
 use Rattle.codes.specs.Code.{codeNumber}
 use Rattle.codes.specs.Field.{tableNumbers}
-use Rattle.codes.proofs.Laws.Chain.{goes-on}
 use Rattle.message.specs.declared.header.Header.{Header}
 use Rattle.message.specs.declared.header.ReadHeader.{ReadHeader}
 use Rattle.message.specs.declared.route.Route.{Route}
@@ -20,7 +19,7 @@ use Rattle.session.specs.Hours.{receiverLate}
 use Rattle.session.specs.Parties.{receivingRoute}
 use Rattle.session.specs.Sequence.{headerSequence}
 use Rattle.session.specs.Receiving.{acceptedLots, numberUsed, headerCode, receivedCode, receivedEffect}
-use Rattle.receiving.proofs.Laws.Earned.{stands-if, wrong-ends}
+use Rattle.receiving.proofs.Laws.Earned.{read-earns, wrong-ends}
 use borrow.Author.Needs.{needs}
 use Rattle.receiving.proofs.earned.of_header.Statement.{statement}
 use Rattle.receiving.proofs.earned.of_header.Tie as tie
@@ -82,7 +81,6 @@ returns c =
     let h = m .h .given .0 .0 in
     let route = receivingRoute (a .p) in
     let read : headerSaid route (ReadHeader.Read h) ≡ readBody (header route) body = ap (λ (x : Route). headerSaid x (ReadHeader.Read h)) (sym (t .before .receiving-route .ensures)) ∙ ap (headerSaid (t .before .receiving-route .result)) (sym (m .h .given .1)) ∙ t .read-header .ensures ∙ ap (λ (x : Route). readBody (header x) body) (t .before .receiving-route .ensures) in
-    let same = read-told route h body read in
     let good = told (bodyCode (header route) body) (tableNumbers 1 (headerFields route) body) (headerValues route h) read .0 in
     let place = headerSequence (a .r .ended) (a .r .counters .current) in
     let late : Header → ℕ = λ (x : Header). place orelse 10 when receiverLate (a .time) orelse 4 when numberUsed (x .number) (acceptedLots (a .r)) orelse 11 when lotsUsed (a .r .counters .lots) in
@@ -92,7 +90,8 @@ returns c =
     let third = c .before .before .or-else .ensures ∙ (λ i. used i orelse most i) in
     let second = c .before .or-else2 .ensures ∙ (λ i. hour i orelse third i) in
     let chain : codeNumber (c .or-else3 .result) ≡ late h = c .or-else3 .ensures ∙ (λ i. q .header-sequence .ensures i orelse second i) in
-    record { code = chain ∙ ap late same ∙ sym (goes-on (bodyCode (header route) body) (late (headerOf body)) good); effect = stands-if (codeNumber (c .or-else3 .result)) (Effect.Header (h .number)) (Effect.Header (headerOf body .number)) (λ (e : codeNumber (c .or-else3 .result) ≡ 0). ap (λ (x : Header). Effect.Header (x .number)) same) refl }
+    let earns = read-earns late (λ (x : Header). Effect.Header (x .number)) h (headerOf body) (bodyCode (header route) body) (codeNumber (c .or-else3 .result)) (read-told route h body read) good chain in
+    record { code = earns .0; effect = earns .1 }
 
 returns-2 : tie.Need-returns-2
 unfolding receivedCode headerCode receivedEffect

@@ -5,7 +5,6 @@ use Prim.Native.Nat.{ℕ}
 use Rattle.codes.specs.Chain.{_when_, _orelse_}
 use Rattle.codes.specs.Code.{codeNumber}
 use Rattle.codes.specs.Field.{tableNumbers}
-use Rattle.codes.proofs.Laws.Chain.{goes-on}
 use Rattle.amounts.specs.declared.Totals.{Totals}
 use Rattle.amounts.specs.Totals.{same}
 use Rattle.message.specs.declared.total.Total.{Total}
@@ -17,7 +16,7 @@ use Rattle.session.specs.declared.effect.Effect.{Effect}
 use Rattle.session.specs.Running.{stated}
 use Rattle.session.specs.Sequence.{lotTotalSequence}
 use Rattle.session.specs.Receiving.{acceptedLots, totalsUsed, lotTotalCode, receivedCode, receivedEffect}
-use Rattle.receiving.proofs.Laws.Earned.{stands-if, wrong-read, wrong-ends}
+use Rattle.receiving.proofs.Laws.Earned.{read-earns, stands-if, wrong-read, wrong-ends}
 use borrow.Author.Needs.{needs}
 use Rattle.receiving.proofs.earned.of_lot_total.Statement.{statement}
 use Rattle.receiving.proofs.earned.of_lot_total.Tie as tie
@@ -64,7 +63,6 @@ returns c =
     let body = a .body .now in
     let x = m .t .given .0 .0 in
     let read = ap totalSaid (sym (m .t .given .1)) ∙ t .read-lot-total .ensures in
-    let same-total = read-told lotTotal x body read in
     let good = told (bodyCode lotTotal body) (tableNumbers 1 lotTotalFields body) (totalValues x) read .0 in
     let late : Total → ℕ = λ (y : Total). lotTotalSequence (a .r .ended) (y .number) (a .r .counters .current) (a .running) orelse 4 when totalsUsed (y .stated) (acceptedLots (a .r)) orelse 8 when not (same (stated (a .running)) (y .stated)) in
     let amounts = c .before .before .before .same .ensures ∙ ap (λ (y : Totals). same y (x .stated)) (c .before .before .before .before .stated .ensures) in
@@ -72,8 +70,8 @@ returns c =
     let used = c .before .before .before .before .before .when .ensures ∙ ap (λ (z : Bool). 4 when z) (c .before .before .before .before .before .before .look-up .ensures .1) in
     let second = c .before .or-else .ensures ∙ (λ i. used i orelse differ i) in
     let chain : codeNumber (c .or-else2 .result) ≡ late x = c .or-else2 .ensures ∙ (λ i. c .before .before .before .before .before .before .before .lot-total-sequence .ensures i orelse second i) in
-    let code = codeNumber (c .or-else2 .result) in
-    record { code = chain ∙ ap late same-total ∙ sym (goes-on (bodyCode lotTotal body) (late (totalOf lotTotalFields body)) good); effect = stands-if code (Effect.LotTotal (record { number = x .number; gathered = a .running })) (Effect.LotTotal (record { number = totalOf lotTotalFields body .number; gathered = a .running })) (λ (e : code ≡ 0). ap (λ (y : Total). Effect.LotTotal (record { number = y .number; gathered = a .running })) same-total) refl }
+    let earns = read-earns late (λ (y : Total). Effect.LotTotal (record { number = y .number; gathered = a .running })) x (totalOf lotTotalFields body) (bodyCode lotTotal body) (codeNumber (c .or-else2 .result)) (read-told lotTotal x body read) good chain in
+    record { code = earns .0; effect = earns .1 }
 
 returns-2 : tie.Need-returns-2
 unfolding receivedCode lotTotalCode receivedEffect lotTotalFields

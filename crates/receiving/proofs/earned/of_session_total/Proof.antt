@@ -6,7 +6,6 @@ use lib.Dec.{eqb}
 use Rattle.codes.specs.Chain.{_when_, _orelse_}
 use Rattle.codes.specs.Code.{codeNumber}
 use Rattle.codes.specs.Field.{tableNumbers}
-use Rattle.codes.proofs.Laws.Chain.{goes-on}
 use Rattle.amounts.specs.declared.Totals.{Totals}
 use Rattle.amounts.specs.Totals.{same}
 use Rattle.message.specs.declared.total.Total.{Total}
@@ -18,7 +17,7 @@ use Rattle.session.specs.declared.effect.Effect.{Effect}
 use Rattle.session.specs.Running.{stated}
 use Rattle.session.specs.Sequence.{sessionTotalSequence}
 use Rattle.session.specs.Receiving.{sessionTotalCode, receivedCode, receivedEffect}
-use Rattle.receiving.proofs.Laws.Earned.{stands-if, wrong-read, wrong-ends}
+use Rattle.receiving.proofs.Laws.Earned.{read-earns, stands-if, wrong-read, wrong-ends}
 use borrow.Author.Needs.{needs}
 use Rattle.receiving.proofs.earned.of_session_total.Statement.{statement}
 use Rattle.receiving.proofs.earned.of_session_total.Tie as tie
@@ -59,14 +58,13 @@ returns c =
     let body = a .body .now in
     let x = m .t .given .0 .0 in
     let read = ap totalSaid (sym (m .t .given .1)) ∙ t .read-session-total .ensures in
-    let same-total = read-told sessionTotal x body read in
     let good = told (bodyCode sessionTotal body) (tableNumbers 1 sessionTotalFields body) (totalValues x) read .0 in
     let late : Total → ℕ = λ (y : Total). sessionTotalSequence (a .r .ended) (a .r .counters .current) orelse 8 when not (eqb (a .r .counters .lots) (y .number) && same (stated (a .r .counters .gathered)) (y .stated)) in
     let amounts = c .before .before .same .ensures ∙ ap (λ (y : Totals). same y (x .stated)) (c .before .before .before .stated .ensures) in
     let differ = c .before .when .ensures ∙ ap (λ (z : Bool). 8 when not (eqb (a .r .counters .lots) (x .number) && z)) amounts in
     let chain : codeNumber (c .or-else .result) ≡ late x = c .or-else .ensures ∙ (λ i. c .before .before .before .before .before .before .session-total-sequence .ensures i orelse differ i) in
-    let code = codeNumber (c .or-else .result) in
-    record { code = chain ∙ ap late same-total ∙ sym (goes-on (bodyCode sessionTotal body) (late (totalOf sessionTotalFields body)) good); effect = stands-if code (Effect.SessionTotal) (Effect.SessionTotal) (λ (e : code ≡ 0). ap (λ (y : Total). Effect.SessionTotal) same-total) refl }
+    let earns = read-earns late (λ (y : Total). Effect.SessionTotal) x (totalOf sessionTotalFields body) (bodyCode sessionTotal body) (codeNumber (c .or-else .result)) (read-told sessionTotal x body read) good chain in
+    record { code = earns .0; effect = earns .1 }
 
 returns-2 : tie.Need-returns-2
 unfolding receivedCode sessionTotalCode receivedEffect sessionTotalFields
