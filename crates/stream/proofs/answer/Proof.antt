@@ -1,4 +1,4 @@
--- What is left to play fits where it was.
+-- `answer`: what is left to play fits where it was.
 use mathlib.Core.Path.{_≡_, sym}
 use lib.ListN.{length, take}
 use lib.Seq.{length-take-le}

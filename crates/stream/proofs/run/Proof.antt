@@ -1,4 +1,4 @@
--- Between two pieces what waits fits the input. The measure is the turns that are left.
+-- `run`: between two pieces what waits fits the input. The measure is the turns that are left.
 use mathlib.Core.Path.{_≡_, refl, _∙_}
 use lib.ListN.{length}
 use Rattle.stream.specs.Stream.{Filled}

@@ -1,4 +1,4 @@
--- What is moved lies in the input. The measure is what is left.
+-- `shift`: what is moved lies in the input. The measure is what is left.
 use mathlib.Core.Path.{_≡_}
 use Prim.Native.Nat.{_≤_, _-_}
 use lib.ListN.{length}

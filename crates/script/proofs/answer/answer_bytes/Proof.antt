@@ -1,4 +1,4 @@
--- By whether there are words.
+-- `answer_bytes`: by whether there are words.
 use Rattle.script.proofs.Laws.Answer.{some-words, no-words}
 use borrow.Author.Needs.{needs}
 use Rattle.script.proofs.answer.answer_bytes.Statement.{statement}

@@ -1,4 +1,4 @@
--- By whether there are words.
+-- `write_answer`: by whether there are words.
 use mathlib.Core.Path.{refl, sym, subst, _∙_}
 use Prim.Native.Nat.{ℕ, _≤_}
 use lib.ListN.{length}

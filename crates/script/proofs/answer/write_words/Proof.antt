@@ -1,4 +1,4 @@
--- The three stores are one behind another from the first place on.
+-- `write_words`: the three stores are one behind another from the first place on.
 use mathlib.Core.Path.{refl, ap, _∙_}
 use lib.ListN.{length, length-set}
 use lib.Seq.{length-sets}

@@ -1,4 +1,4 @@
--- By whether something was written.
+-- `after_writing`: by whether something was written.
 use borrow.Author.Tests.{eq-eqb, ne-eqb}
 use mathlib.Core.Bool.{true, false}
 use Rattle.text.proofs.Laws.Held.{holds-if}

@@ -1,4 +1,4 @@
--- What is done at the seat, and the sizes of its answer.
+-- `answer_at`: what is done at the seat, and the sizes of its answer.
 use mathlib.Core.Path.{_∙_}
 use Rattle.script.proofs.Laws.Play.{least-taken}
 use borrow.Author.Needs.{needs}

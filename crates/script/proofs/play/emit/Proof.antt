@@ -1,4 +1,4 @@
--- An answer is written where it fits, and nothing else.
+-- `emit`: an answer is written where it fits, and nothing else.
 use mathlib.Core.Path.{refl, sym, subst}
 use Prim.Native.Nat.{ℕ, _≤_}
 use mathlib.Core.Bool.{false≢true}

@@ -1,4 +1,4 @@
--- The buffer is what it is called.
+-- `filled`: the buffer is what it is called.
 use mathlib.Core.Path.{refl}
 use Rattle.script.specs.Play.{filled}
 use Rattle.script.proofs.play.filled.Statement.{statement}

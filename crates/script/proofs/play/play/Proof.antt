@@ -1,4 +1,4 @@
--- The lines are played one after another, each answered behind the answers so far. The measure is what is left of the text.
+-- `play`: the lines are played one after another, each answered behind the answers so far. The measure is what is left of the text.
 use mathlib.Core.Path.{_≡_, refl, sym, _∙_}
 use Prim.Native.Nat.{_-_, _≤_}
 use lib.ListN.{length, drop}

@@ -1,4 +1,4 @@
--- What stands behind the answer in the lent tail stands behind it in the output.
+-- `play_behind`: what stands behind the answer in the lent tail stands behind it in the output.
 use mathlib.Core.Path.{_≡_, ap, _∙_}
 use Prim.Native.Nat.{_-_}
 use borrow.Rule.Slice.PartMut.{midOf}

@@ -1,4 +1,4 @@
--- A line is read, and what it means is played.
+-- `play_line`: a line is read, and what it means is played.
 use mathlib.Core.Path.{_≡_, ap, sym, _∙_}
 use lib.ListN.{length, take}
 use lib.Seq.{length-take-le}

@@ -1,4 +1,4 @@
--- Without room for the answer nothing is done; else the end that is meant is as the line leaves it.
+-- `play_reading`: without room for the answer nothing is done; else the end that is meant is as the line leaves it.
 use mathlib.Core.Path.{refl, ap, sym, _∙_}
 use mathlib.Core.Bool.{false≢true}
 use lib.Seq.{length-take-le}

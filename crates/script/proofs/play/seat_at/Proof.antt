@@ -1,4 +1,4 @@
--- By the end that is meant.
+-- `seat_at`: by the end that is meant.
 use Rattle.script.specs.Player.{seatOf}
 use mathlib.Core.Path.{ap, sym}
 use mathlib.Core.Bool.{Bool, cond}

@@ -1,4 +1,4 @@
--- By the end that is meant.
+-- `with_seat`: by the end that is meant.
 use Rattle.script.specs.Player.{seatOf, endsOf, withSeat}
 use mathlib.Core.Path.{refl, ap, sym}
 use mathlib.Core.Bool.{Bool}

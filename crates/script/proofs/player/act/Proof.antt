@@ -1,4 +1,4 @@
--- Each thing that a line may ask.
+-- `act`: each thing that a line may ask.
 use mathlib.Core.Path.{ap, sym, subst, _∙_}
 use Prim.Native.Nat.{ℕ}
 use lib.ListN.{take}

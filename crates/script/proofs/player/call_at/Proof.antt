@@ -1,4 +1,4 @@
--- By whether the end has a session.
+-- `call_at`: by whether the end has a session.
 use mathlib.Core.Path.{sym, subst, ap, _∙_}
 use Rattle.script.specs.Player.{ReadySeat, seatOf}
 use Prim.Native.Nat.{ℕ}

@@ -1,4 +1,4 @@
--- By whether the start is refused.
+-- `start_at`: by whether the start is refused.
 use mathlib.Core.Path.{refl, sym, _∙_}
 use borrow.Author.Tests.{eq-eqb, ne-eqb}
 use Rattle.script.specs.Player.{seatOf}

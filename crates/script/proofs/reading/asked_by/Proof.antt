@@ -1,4 +1,4 @@
--- The arguments of each kind.
+-- `asked_by`: the arguments of each kind.
 use mathlib.Core.Path.{ap, sym, _∙_}
 use Rattle.text.specs.declared.kind.Kind.{Kind}
 use Rattle.centre.specs.declared.call.Order.{Order}

@@ -1,4 +1,4 @@
--- Sixteen places are written. The invariant: with the entities that are still to come the array is what it is to be. The measure is what is
+-- `entities_of`: sixteen places are written. The invariant: with the entities that are still to come the array is what it is to be. The measure is what is
 -- left.
 use Prim.Native.Nat.{_≤_, _-_, _+_}
 use mathlib.Core.Path.{_≡_, refl, sym, _∙_}

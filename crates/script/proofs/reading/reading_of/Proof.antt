@@ -1,4 +1,4 @@
--- What is made of a line means what the line says.
+-- `reading_of`: what is made of a line means what the line says.
 use mathlib.Core.Path.{refl, ap, _∙_}
 use lib.ListN.{length, drop, length-map, length-drop}
 use native.Mathlib.Omega.{arith}

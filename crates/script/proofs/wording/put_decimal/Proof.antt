@@ -1,4 +1,4 @@
--- There are at most twenty digits.
+-- `put_decimal`: there are at most twenty digits.
 use mathlib.Core.Path.{_≡_, sym}
 use lib.ListN.{length, take}
 use lib.Seq.{length-take-le}

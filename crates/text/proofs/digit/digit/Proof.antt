@@ -1,4 +1,4 @@
--- By the range that the byte stands in.
+-- `digit`: by the range that the byte stands in.
 use mathlib.Core.Path.{sym, _∙_}
 use native.Mathlib.Omega.{arith}
 use Rattle.text.proofs.Laws.Digit.{range, figure, small, large, no-digit}

@@ -1,4 +1,4 @@
--- The two ranges of digits.
+-- `hex_digit`: the two ranges of digits.
 use borrow.Author.Tests.{lt-ltb, le-ltb}
 use borrow.Author.Needs.{needs}
 use Rattle.text.proofs.hex.hex_digit.Statement.{statement}

@@ -1,4 +1,4 @@
--- By whether the word is `-`, and whether it can be pairs.
+-- `read_hex`: by whether the word is `-`, and whether it can be pairs.
 use mathlib.Core.Path.{ap, sym, _∙_}
 use lib.Dec.{ltb, eqb}
 use lib.ListN.{length}

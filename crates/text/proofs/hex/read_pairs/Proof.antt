@@ -1,4 +1,4 @@
--- Two characters are read for each byte that is written. The invariant: with the bytes that are still to come the buffer is what it is to be,
+-- `read_pairs`: two characters are read for each byte that is written. The invariant: with the bytes that are still to come the buffer is what it is to be,
 -- and what is left is digits as far as the word is. The measure is what is left.
 use mathlib.Core.Path.{_≡_, ap, sym, refl, _∙_}
 use Prim.Native.Nat.{_+_, _*_, _≤_, _<_, _-_, ℕ}

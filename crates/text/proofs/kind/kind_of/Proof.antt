@@ -1,4 +1,4 @@
--- By the first of the words that it is.
+-- `kind_of`: by the first of the words that it is.
 use mathlib.Core.Path.{_∙_}
 use lib.ListN.{drop}
 use Rattle.text.specs.Kind.{calls}

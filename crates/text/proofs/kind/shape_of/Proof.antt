@@ -1,4 +1,4 @@
--- The row of each kind.
+-- `shape_of`: the row of each kind.
 use mathlib.Core.Path.{ap, sym, _∙_}
 use Rattle.text.specs.Kind.{shapeOf}
 use borrow.Author.Needs.{needs}

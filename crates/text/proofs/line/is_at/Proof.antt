@@ -1,4 +1,4 @@
--- No byte is none.
+-- `is_at`: no byte is none.
 use Rattle.text.proofs.Laws.Line.{at-none}
 use borrow.Author.Needs.{needs}
 use Rattle.text.proofs.line.is_at.Statement.{statement}

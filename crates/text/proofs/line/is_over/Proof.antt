@@ -1,4 +1,4 @@
--- The next word is none where nothing stands there.
+-- `is_over`: the next word is none where nothing stands there.
 use Rattle.text.proofs.Laws.Line.{over}
 use borrow.Author.Needs.{needs}
 use Rattle.text.proofs.line.is_over.Statement.{statement}

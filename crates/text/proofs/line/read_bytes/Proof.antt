@@ -1,4 +1,4 @@
--- By where the bytes stand.
+-- `read_bytes`: by where the bytes stand.
 use mathlib.Core.Path.{ap, sym, _∙_}
 use mathlib.Core.List.{List, []}
 use Prim.Native.Nat.{ℕ}

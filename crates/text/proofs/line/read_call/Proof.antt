@@ -1,4 +1,4 @@
--- A call is what its end and its parts say, where they are whole.
+-- `read_call`: a call is what its end and its parts say, where they are whole.
 use mathlib.Core.Path.{ap, _∙_}
 use mathlib.Core.Bool.{_&&_}
 use lib.Dec.{leb}

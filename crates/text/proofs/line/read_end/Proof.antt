@@ -1,4 +1,4 @@
--- The next word is A or B; nothing is neither.
+-- `read_end`: the next word is A or B; nothing is neither.
 use mathlib.Core.Path.{refl, ap, sym, _∙_}
 use mathlib.Core.Bool.{_||_}
 use mathlib.Core.List.{List}

@@ -1,4 +1,4 @@
--- A line is too long, empty, a comment, of no kind, or a call.
+-- `read_line`: a line is too long, empty, a comment, of no kind, or a call.
 use mathlib.Core.Path.{ap, sym, _∙_}
 use lib.ListN.{length, drop}
 use native.Mathlib.Omega.{arith}

@@ -1,4 +1,4 @@
--- The place stays in the line, and the count below what is asked. The invariant: with the words that are left the reading is as it is to be.
+-- `read_numbers`: the place stays in the line, and the count below what is asked. The invariant: with the words that are left the reading is as it is to be.
 -- The measure is what is left to read.
 use mathlib.Core.Path.{_≡_, refl, sym, _∙_}
 use mathlib.Core.Bool.{false≢true}

@@ -1,4 +1,4 @@
--- The parts, one behind another.
+-- `read_parts`: the parts, one behind another.
 use mathlib.Core.Path.{refl, _∙_}
 use native.Mathlib.Omega.{arith}
 use Rattle.text.proofs.Laws.Line.{parts-whole, parts-bytes, parts-numbers}

@@ -1,4 +1,4 @@
--- By whether it begins with `@`.
+-- `read_word`: by whether it begins with `@`.
 use mathlib.Core.Path.{ap, sym, _∙_}
 use mathlib.Core.List.{List}
 use Prim.Native.Nat.{ℕ}

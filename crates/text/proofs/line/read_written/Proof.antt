@@ -1,4 +1,4 @@
--- By whether the word is a number.
+-- `read_written`: by whether the word is a number.
 use mathlib.Core.Path.{ap, sym, _∙_}
 use mathlib.Core.Bool.{Bool, cond}
 use Prim.Native.Nat.{ℕ}

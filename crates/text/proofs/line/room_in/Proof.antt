@@ -1,4 +1,4 @@
--- By whether the line says it.
+-- `room_in`: by whether the line says it.
 use Rattle.text.proofs.Laws.Line.{room-said, room-not}
 use borrow.Author.Needs.{needs}
 use Rattle.text.proofs.line.room_in.Statement.{statement}

@@ -1,4 +1,4 @@
--- The invariant: what is left is digits as far as the word is, and with it the value so far is the word's. The measure is what is left.
+-- `read_digits`: the invariant: what is left is digits as far as the word is, and with it the value so far is the word's. The measure is what is left.
 use mathlib.Core.Path.{_≡_, refl, sym, _∙_}
 use Prim.Native.Nat.{_+_, _*_, _^_, _≤_, _<_, _-_}
 use lib.ListN.{length, drop, getD}

@@ -1,4 +1,4 @@
--- By the count of digits.
+-- `read_number`: by the count of digits.
 use mathlib.Core.Path.{ap, sym, _∙_}
 use mathlib.Core.Bool.{Bool}
 use Rattle.text.specs.Number.{decimal, numberIf}

@@ -1,4 +1,4 @@
--- What stands between two places, if they are places of the memory and it fits.
+-- `copy_between`: what stands between two places, if they are places of the memory and it fits.
 use mathlib.Core.Path.{refl, ap, _∙_}
 use native.Mathlib.Omega.{arith}
 use Rattle.text.specs.declared.hex.Bytes.{Bytes}

@@ -1,4 +1,4 @@
--- The second half of the last entry.
+-- `end_of`: the second half of the last entry.
 use Prim.Native.Nat.{_-_}
 use native.Mathlib.Omega.{arith}
 use Rattle.text.proofs.Laws.Memory.{end-at, end-none}

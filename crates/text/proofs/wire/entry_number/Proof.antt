@@ -1,4 +1,4 @@
--- The first half of an entry.
+-- `entry_number`: the first half of an entry.
 use Rattle.text.specs.Memory.{entryNumber}
 use borrow.Author.Needs.{needs}
 use Rattle.text.proofs.wire.entry_number.Statement.{statement}

@@ -1,4 +1,4 @@
--- The place only falls. The invariant: below it the search comes to the same place.
+-- `find`: the place only falls. The invariant: below it the search comes to the same place.
 use Prim.Native.Nat.{_≤_, _-_}
 use mathlib.Core.Path.{_≡_, refl, ap, _∙_}
 use native.Mathlib.Omega.{arith}

@@ -1,4 +1,4 @@
--- The same is held, up to a larger number.
+-- `forgotten`: the same is held, up to a larger number.
 use mathlib.Core.Path.{refl, sym, subst}
 use Prim.Native.Nat.{ℕ, _≤_}
 use Rattle.text.proofs.Laws.Held.{forgets, next-above}

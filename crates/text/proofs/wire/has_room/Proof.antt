@@ -1,4 +1,4 @@
--- There is none behind the end of the contents.
+-- `has_room`: there is none behind the end of the contents.
 use Rattle.text.proofs.Laws.Held.{room-none, room-left}
 use native.Mathlib.Omega.{arith}
 use Rattle.text.proofs.wire.has_room.Statement.{statement}

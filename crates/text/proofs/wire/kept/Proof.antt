@@ -1,4 +1,4 @@
--- The bytes behind those before them, and an entry of their number and their end.
+-- `kept`: the bytes behind those before them, and an entry of their number and their end.
 use lib.ListN.{length}
 use native.Mathlib.Omega.{arith}
 use Rattle.text.proofs.Laws.Held.{room-told, keeps}

@@ -1,4 +1,4 @@
--- The smaller of the two, if the memory can be right.
+-- `last_place`: the smaller of the two, if the memory can be right.
 use native.Mathlib.Omega.{arith}
 use Rattle.text.proofs.Laws.Memory.{last-over, last-within}
 use Rattle.text.proofs.wire.last_place.Statement.{statement}

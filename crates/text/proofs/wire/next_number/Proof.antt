@@ -1,4 +1,4 @@
--- One more, or the largest.
+-- `next_number`: one more, or the largest.
 use mathlib.Core.Path.{ap, sym}
 use mathlib.Core.Bool.{Bool, cond}
 use Prim.Native.Nat.{_+_}

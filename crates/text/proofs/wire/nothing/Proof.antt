@@ -1,4 +1,4 @@
--- Nothing is held.
+-- `nothing`: nothing is held.
 use Rattle.text.proofs.Laws.Held.{holds-nothing}
 use Rattle.text.proofs.wire.nothing.Statement.{statement}
 use Rattle.text.proofs.wire.nothing.Tie as tie

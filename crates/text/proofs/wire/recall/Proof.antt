@@ -1,4 +1,4 @@
--- Nothing is found where too few bytes are lent, and where no entry has the number.
+-- `recall`: nothing is found where too few bytes are lent, and where no entry has the number.
 use mathlib.Core.Path.{ap, sym, _∙_}
 use lib.ListN.{length}
 use native.Mathlib.Omega.{arith}

@@ -1,4 +1,4 @@
--- By whether there is room.
+-- `remember`: by whether there is room.
 use mathlib.Core.Path.{sym, _∙_}
 use mathlib.Core.Bool.{true, false}
 use mathlib.Core.List.{[], _∷_, _++_}

@@ -1,4 +1,4 @@
--- A word begins behind the spaces, and ends before the next.
+-- `next_word`: a word begins behind the spaces, and ends before the next.
 use Rattle.text.proofs.Laws.Word.{next-word}
 use borrow.Author.Needs.{needs}
 use Rattle.text.proofs.word.next_word.Statement.{statement}

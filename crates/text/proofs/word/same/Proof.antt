@@ -1,4 +1,4 @@
--- Both are read up to the length that they share. The invariant: what is left is the same as far as the whole is. The measure is what is
+-- `same`: both are read up to the length that they share. The invariant: what is left is the same as far as the whole is. The measure is what is
 -- left.
 use Prim.Native.Nat.{_≤_, _-_}
 use lib.ListN.{length, drop}
