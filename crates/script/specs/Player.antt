@@ -3,9 +3,8 @@ use Prim.Native.Nat.{ℕ}
 use mathlib.Core.Bool.{Bool, true, cond}
 use mathlib.Core.List.{List, []}
 use lib.Dec.{eqb}
-use lib.ListN.{take}
 use Rattle.session.specs.Start as Start
-use Rattle.session.specs.Engine.{Call, Engine, withEmpty, Ready, performed}
+use Rattle.session.specs.Engine.{Call, Engine, withEmpty, Ready, performed, saidBy}
 use Rattle.centre.specs.Turn.{engineOf}
 use Rattle.script.specs.declared.player.Seat.{Seat}
 use Rattle.script.specs.declared.player.Player.{Player}
@@ -38,7 +37,7 @@ begunAt date own partner represented s =
 
 -- the bytes that a call at an end writes; none without a session
 unfoldable pub wroteAt : Call → (line : List ℕ) → Seated → List ℕ
-wroteAt call line s = let t = turned call line (s .engine) in cond (s .started) (take (t .written) (t .line)) []
+wroteAt call line s = cond (s .started) (saidBy (performed call line (s .engine)) .bytes) []
 
 -- what a line names is done at its end
 abbrev pub done : Named → (line : List ℕ) → Seated → Seated

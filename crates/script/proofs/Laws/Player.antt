@@ -18,15 +18,15 @@ called-there call line s there h =
     (λ i. record { started = true; engine = h i .engine })
     ∙ sym (ap (λ (b : Bool). cond b (record { started = true; engine = performed call line (s .engine) .engine }) s) there)
 
-pub wrote-there : (call : Call) (line : List ℕ) (s : Seated) {t : Turned} → s .started ≡ true → t ≡ turned call line (s .engine) → take (t .written) (t .line) ≡ wroteAt call line s
+pub wrote-there : (call : Call) (line : List ℕ) (s : Seated) {t : Performed} → s .started ≡ true → t ≡ performed call line (s .engine) → take (t .written) (t .line) ≡ wroteAt call line s
 unfolding wroteAt
 wrote-there call line s there h =
     (λ i. take (h i .written) (h i .line))
-    ∙ sym (ap (λ (b : Bool). cond b (take (turned call line (s .engine) .written) (turned call line (s .engine) .line)) []) there)
+    ∙ sym (ap (λ (b : Bool). cond b (take (performed call line (s .engine) .written) (performed call line (s .engine) .line)) []) there)
 
 pub wrote-none : (call : Call) (line : List ℕ) (s : Seated) → s .started ≡ false → [] ≡ wroteAt call line s
 unfolding wroteAt
-wrote-none call line s none = sym (ap (λ (b : Bool). cond b (take (turned call line (s .engine) .written) (turned call line (s .engine) .line)) []) none)
+wrote-none call line s none = sym (ap (λ (b : Bool). cond b (take (performed call line (s .engine) .written) (performed call line (s .engine) .line)) []) none)
 
 pub called-none : (call : Call) (line : List ℕ) (s : Seated) → s .started ≡ false → s ≡ called call line s
 unfolding called
