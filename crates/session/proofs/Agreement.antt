@@ -26,8 +26,8 @@ use Rattle.session.specs.Premise.{PendingSound}
 use Rattle.session.specs.Ledger.{LedgerLot, Ledger, Entry, blank, enter, moved, lotSum, lotsSum, tallied}
 use Rattle.session.specs.Engine.{Call, Engine, performed, saidBy, withEmpty, Ready}
 use Rattle.session.specs.Ends.{End, other, Event, World, Step, replaced, act, run, Brought, Possible, engines, begun, StartsAccepted}
-use Rattle.session.specs.Entering.{namedLot, awaitedBy, toBeNamed, PresenterLedger, ReceiverLedger, presenterEnters, receiverEnters, presenterLedgerAt, receiverLedgerAt}
-use Rattle.session.specs.Claim.{oneMore, confirmed, counted, reportAt, presentedTally, receivedTally, Level, Ahead, JustReplied, Agreement, BothEndsTogether}
+use Rattle.session.specs.Entering.{namedLot, awaitedBy, toBeNamed, PresenterLedger, unpresented, ReceiverLedger, presenterEnters, receiverEnters, presenterLedgerAt, receiverLedgerAt}
+use Rattle.session.specs.Claim.{oneMore, confirmed, counted, reportAt, presentedTally, receivedTally, Level, Ahead, JustReplied, Agreement, AfterAnyCalls, BothEndsTogether}
 use Rattle.session.proofs.Laws.Parties.{Told, told}
 use Rattle.session.proofs.Laws.Ledger.{openOf, lotOf, lots-last, one-longer}
 use Rattle.session.proofs.Laws.Line.{accepts}
@@ -63,8 +63,8 @@ module _ (x : End) (call : Call) (line : List ℕ) (e f : Engine) (bp : Presente
   abbrev event : Event
   event = record { at = x; call = call; said = saidBy (performed call line e) }
 
-  at-presenter : Joined (presentingRoute (e .session .parties)) (presentsWith e bp) (receivesWith f br) trace → Joined (presentingRoute (d .session .parties)) (presentsWith d (cond (eqb (event .said .number) 0) (presenterEnters call bp) bp)) (receivesWith f br) (event ∷ trace)
-  at-presenter j = subst (λ (p : Parties). Joined (presentingRoute p) (presentsWith d (cond (eqb (event .said .number) 0) (presenterEnters call bp) bp)) (receivesWith f br) (event ∷ trace)) (sym (parties-kept call line e)) (presenter-step x e ready different (receivesWith f br) bp trace j call line brought)
+  at-presenter : Joined (presentingRoute (e .session .parties)) (presentsWith e bp) (receivesWith f br) trace → Joined (presentingRoute (d .session .parties)) (presentsWith d (cond (eqb (event .said .number) 0) (presenterEnters call (event .said .bytes) bp) bp)) (receivesWith f br) (event ∷ trace)
+  at-presenter j = subst (λ (p : Parties). Joined (presentingRoute p) (presentsWith d (cond (eqb (event .said .number) 0) (presenterEnters call (event .said .bytes) bp) bp)) (receivesWith f br) (event ∷ trace)) (sym (parties-kept call line e)) (presenter-step x e ready different (receivesWith f br) bp trace j call line brought)
 
   at-receiver : presentingRoute (f .session .parties) ≡ receivingRoute (e .session .parties) → Joined (presentingRoute (f .session .parties)) (presentsWith f bp) (receivesWith e br) trace → Joined (presentingRoute (f .session .parties)) (presentsWith f bp) (receivesWith d (cond (eqb (event .said .number) 0) (receiverEnters call (event .said .bytes) br) br)) (event ∷ trace)
   at-receiver way j =
@@ -93,7 +93,7 @@ module _ (w : World) (all : Whole w) (call : Call) (line : List ℕ) (brought : 
   stay-joined End.near End.far = at-receiver End.near call line _ (w .engine End.far) _ _ (w .trace) (all .ready End.near) (all .different End.near) brought (all .ways End.far) (all .joined End.far)
   stay-joined End.far End.near = at-receiver End.far call line _ (w .engine End.near) _ _ (w .trace) (all .ready End.far) (all .different End.far) brought (all .ways End.near) (all .joined End.near)
 
-  act-keeps : (x : End) → Whole (act (record { at = x; call = call; line = line }) w)
+  pub act-keeps : (x : End) → Whole (act (record { at = x; call = call; line = line }) w)
   unfolding act
   act-keeps x =
       record {
@@ -110,7 +110,7 @@ run-keeps [] w all possible = all
 run-keeps (s ∷ steps) w all possible = run-keeps steps (act s w) (act-keeps w all (s .call) (s .line) (possible .0) (s .at)) (possible .1)
 
 -- the beginning
-fresh-joined : (a b : Parties) (route : Route) → let s = fresh a Close.Open in let t = fresh b Close.Open in Joined route (presentingEnd (s .presenting) empty (record { ledger = blank; waiting = none })) (receivingEnd (t .receiving) empty (record { ledger = blank; serials = [] })) []
+fresh-joined : (a b : Parties) (route : Route) → let s = fresh a Close.Open in let t = fresh b Close.Open in Joined route (presentingEnd (s .presenting) empty unpresented) (receivingEnd (t .receiving) empty (record { ledger = blank; serials = [] })) []
 unfolding fresh lotsSum every
 fresh-joined a b route =
     record {
@@ -118,6 +118,7 @@ fresh-joined a b route =
       receiver = record { course = refl; kept = refl; once = tt; new = tt };
       seen = record { earlier = refl; last-seen = inl refl };
       link = Link.idle refl refl refl;
+      waits = λ (e : Entry) (w : none ≡ some e). absurd (Option·none-ne-some e w);
       messages = λ (bytes : List ℕ) (w : ⊥). absurd w;
       replies = λ (bytes : List ℕ) (w : ⊥). absurd w;
     }
@@ -256,7 +257,7 @@ module _ (w : World) (all : Whole w) (p : End) where
       go : Link (e .session .presenting) (f .session .receiving) (bp .waiting) (bp .ledger) (br .ledger) → Level w p ⊎ Ahead w p
       go (Link.idle w s b) = inl (level (lots-of (sym b)))
       go (Link.sent d w s b) = inl (level (lots-of (sym b)))
-      go (Link.taken d w s b) = entered d (accepts (f .session .receiving .reply .code)) w b
+      go (Link.taken d w s b o) = entered d (accepts (f .session .receiving .reply .code)) w b
 
   settled : JustReplied w p → (reportAt w p .awaited ≡ Awaited.Neither) × Level w p
   settled just = (named ∙ ap (λ (o : Option Entry). awaitedBy o (bp .ledger .current)) waits, go (all .joined p .link))
@@ -267,9 +268,9 @@ module _ (w : World) (all : Whole w) (p : End) where
       go : Link (e .session .presenting) (f .session .receiving) (bp .waiting) (bp .ledger) (br .ledger) → Level w p
       go (Link.idle h s b) = level (ap (λ (l : Ledger). l .lots) (sym b))
       go (Link.sent d h s b) = absurd (Option·none-ne-some d (sym waits ∙ h))
-      go (Link.taken d h s b) = absurd (Option·none-ne-some d (sym waits ∙ h))
+      go (Link.taken d h s b o) = absurd (Option·none-ne-some d (sym waits ∙ h))
 
-  agree : Agreement w p
+  pub agree : Agreement w p
   agree =
       record {
         agreed = agreed;
@@ -283,8 +284,8 @@ module _ (w : World) (all : Whole w) (p : End) where
       }
 
 -- both directions stay joined through any list of calls
-pub whole-after : (date nearEntity farEntity : ℕ) (represented : End → List ℕ) → StartsAccepted date nearEntity farEntity represented → (steps : List Step) → Possible steps (begun date nearEntity farEntity represented) → Whole (run steps (begun date nearEntity farEntity represented))
+pub whole-after : AfterAnyCalls Whole
 whole-after date nearEntity farEntity represented begins steps possible = run-keeps steps (begun date nearEntity farEntity represented) (begun-whole date nearEntity farEntity represented begins) possible
 
 pub agreement : BothEndsTogether
-agreement date nearEntity farEntity represented begins steps possible p = agree (run steps (begun date nearEntity farEntity represented)) (whole-after date nearEntity farEntity represented begins steps possible) p
+agreement date nearEntity farEntity represented begins steps possible = agree (run steps (begun date nearEntity farEntity represented)) (whole-after date nearEntity farEntity represented begins steps possible)

@@ -1,6 +1,7 @@
 -- The laws that crates above cite, the theorem about both ends, the starred cases, and runs computed to their end.
 pub mod Laws
 pub mod Agreement
+pub mod Recovery
 pub mod Examples
 pub mod Cases
 pub mod Runs

@@ -79,7 +79,11 @@ pub record Agreement (w : World) (p : End) : Type 0 where
   -- beside the demand: the premise of every call holds at both ends, so the theorem is about the engine that runs
   pub ready : (x : End) → Ready (w .engine x)
 
--- one claim about a whole list of calls: whatever the date, the pair and the represented entities of two starts that were not refused, after any
--- calls at either end, with any arguments, over a line that brings what was written and nothing else, both directions agree
+-- what holds after any list of calls: whatever the date, the pair and the represented entities of two starts that were not refused, after any calls
+-- at either end, with any arguments, over a line that brings what was written and nothing else
+abbrev pub AfterAnyCalls : (World → Type 0) → Type 0
+AfterAnyCalls Holds = (date nearEntity farEntity : ℕ) (represented : End → List ℕ) → StartsAccepted date nearEntity farEntity represented → (steps : List Step) → Possible steps (begun date nearEntity farEntity represented) → Holds (run steps (begun date nearEntity farEntity represented))
+
+-- one claim about a whole list of calls: after any, both directions agree
 abbrev pub BothEndsTogether : Type 0
-BothEndsTogether = (date nearEntity farEntity : ℕ) (represented : End → List ℕ) → StartsAccepted date nearEntity farEntity represented → (steps : List Step) → Possible steps (begun date nearEntity farEntity represented) → (p : End) → Agreement (run steps (begun date nearEntity farEntity represented)) p
+BothEndsTogether = AfterAnyCalls (λ (w : World). (p : End) → Agreement w p)

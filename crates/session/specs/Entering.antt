@@ -13,14 +13,19 @@ use Rattle.session.specs.Ledger.{LedgerLot, Ledger, Entry, blank, enter,
 use Rattle.session.specs.Engine.{Call}
 use Rattle.session.specs.Ends.{End, Event}
 
--- at the presenter: the ledger, and the message whose reply is still to come
+-- at the presenter: the ledger, and the message whose reply is still to come, as an entry and as the last unrefused send wrote it
 pub record PresenterLedger : Type 0 where
   pub ledger : Ledger
   pub waiting : Option Entry
+  pub message : List ℕ
+
+-- before any call
+abbrev pub unpresented : PresenterLedger
+unpresented = record { ledger = blank; waiting = none; message = [] }
 
 -- an unrefused send waits
-abbrev pub waitingFor : Entry → PresenterLedger → PresenterLedger
-waitingFor e b = record { ledger = b .ledger; waiting = some e }
+abbrev pub waitingFor : Entry → (written : List ℕ) → PresenterLedger → PresenterLedger
+waitingFor e written b = record { ledger = b .ledger; waiting = some e; message = written }
 
 -- what waits is entered, with the code read
 abbrev pub enterWaiting : (accepted : Bool) → Option Entry → Ledger → Ledger
@@ -29,18 +34,18 @@ enterWaiting accepted (some e) b = enter e accepted b
 
 -- and waits no longer
 abbrev pub answeredWith : (accepted : Bool) → PresenterLedger → PresenterLedger
-answeredWith accepted b = record { ledger = enterWaiting accepted (b .waiting) (b .ledger); waiting = none }
+answeredWith accepted b = record { ledger = enterWaiting accepted (b .waiting) (b .ledger); waiting = none; message = b .message }
 
--- what an unrefused call does to the presenter's ledger
-abbrev pub presenterEnters : Call → PresenterLedger → PresenterLedger
-presenterEnters (Call.header time moment centre number) b = waitingFor (Entry.header number) b
-presenterEnters (Call.detail time operation part) b = waitingFor (partEntry operation part) b
-presenterEnters (Call.lotTotal time) b = waitingFor Entry.lotTotal b
-presenterEnters (Call.sessionTotal time) b = waitingFor Entry.sessionTotal b
-presenterEnters (Call.reply time bytes) b = answeredWith (isAccepted bytes) b
-presenterEnters (Call.receive time bytes) b = b
-presenterEnters (Call.clock time) b = b
-presenterEnters Call.report b = b
+-- what an unrefused call, and what it wrote, do to the presenter's ledger
+abbrev pub presenterEnters : Call → (written : List ℕ) → PresenterLedger → PresenterLedger
+presenterEnters (Call.header time moment centre number) written b = waitingFor (Entry.header number) written b
+presenterEnters (Call.detail time operation part) written b = waitingFor (partEntry operation part) written b
+presenterEnters (Call.lotTotal time) written b = waitingFor Entry.lotTotal written b
+presenterEnters (Call.sessionTotal time) written b = waitingFor Entry.sessionTotal written b
+presenterEnters (Call.reply time bytes) written b = answeredWith (isAccepted bytes) b
+presenterEnters (Call.receive time bytes) written b = b
+presenterEnters (Call.clock time) written b = b
+presenterEnters Call.report written b = b
 
 -- at the receiver: the ledger, and the serials that were received
 pub record ReceiverLedger : Type 0 where
@@ -51,7 +56,7 @@ pub record ReceiverLedger : Type 0 where
 abbrev pub firstReceived : (serial : ℕ) → Entry → (accepted : Bool) → ReceiverLedger → ReceiverLedger
 firstReceived serial e accepted b = cond (member serial (b .serials)) b (record { ledger = enter e accepted (b .ledger); serials = serial ∷ b .serials })
 
--- what an unrefused call, and what it wrote, do to the receiver's ledger
+-- and to the receiver's
 abbrev pub receiverEnters : Call → (written : List ℕ) → ReceiverLedger → ReceiverLedger
 receiverEnters (Call.receive time bytes) written b = firstReceived (serialOf bytes) (bodyEntry (bodyOf bytes)) (isAccepted written) b
 receiverEnters (Call.header time moment centre number) written b = b
@@ -75,8 +80,8 @@ isEntered x e = sameEnd (e .at) x && eqb (e .said .number) 0
 
 -- the presenter's ledger at an end, over all calls
 unfoldable pub presenterLedgerAt : End → List Event → PresenterLedger
-presenterLedgerAt x [] = record { ledger = blank; waiting = none }
-presenterLedgerAt x (e ∷ earlier) = cond (isEntered x e) (presenterEnters (e .call) (presenterLedgerAt x earlier)) (presenterLedgerAt x earlier)
+presenterLedgerAt x [] = unpresented
+presenterLedgerAt x (e ∷ earlier) = cond (isEntered x e) (presenterEnters (e .call) (e .said .bytes) (presenterLedgerAt x earlier)) (presenterLedgerAt x earlier)
 
 -- and the receiver's
 unfoldable pub receiverLedgerAt : End → List Event → ReceiverLedger

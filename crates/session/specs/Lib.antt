@@ -19,3 +19,4 @@ pub mod Engine
 pub mod Ends
 pub mod Entering
 pub mod Claim
+pub mod Recovery

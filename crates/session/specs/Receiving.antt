@@ -129,6 +129,10 @@ isLast bytes last = eqb (serialOf bytes) last
 abbrev pub isNext : (bytes : List ℕ) (last : ℕ) → Bool
 isNext bytes last = eqb (serialOf bytes) (suc last)
 
+-- 35 otherwise: one of the two
+abbrev pub isExpected : (bytes : List ℕ) (last : ℕ) → Bool
+isExpected bytes last = isLast bytes last || isNext bytes last
+
 -- a new message is handled
 abbrev pub afterNew : (time : ℕ) (body : List ℕ) → Held → Held
 afterNew time body h =
@@ -149,7 +153,7 @@ abbrev pub receivingOrder : (bytes : List ℕ) (last room : ℕ) → Route → �
 receivingOrder bytes last room route =
     21 when not (envelopeGood Kind.Message bytes)
     orelse 33 when not (sameRoute (envelopeOf bytes .route) route)
-    orelse 35 when not (isLast bytes last || isNext bytes last)
+    orelse 35 when not (isExpected bytes last)
     orelse 23 when noRoom replyRoom room
 
 -- after the refusals by the clock

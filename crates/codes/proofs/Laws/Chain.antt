@@ -1,6 +1,6 @@
 -- Laws of a chain: a first part that applies ends it, one that does not leads on, an answer of none tells of every part, and chains join.
-use mathlib.Core.Path.{_≡_, refl}
-use mathlib.Core.Bool.{Bool, true, false}
+use mathlib.Core.Path.{_≡_, refl, ap}
+use mathlib.Core.Bool.{Bool, true, false, not}
 use Prim.Native.Nat.{ℕ, zero, suc, _<_}
 use native.Mathlib.Omega.{arith}
 use Rattle.codes.specs.Chain.{_when_, _orelse_}
@@ -23,6 +23,10 @@ applies n test rest h e = rw e (ends n rest h)
 pub passes : (n : ℕ) (test : Bool) (rest : ℕ) → test ≡ false → (n when test orelse rest) ≡ rest
 unfolding _when_
 passes n test rest e = rw e (goes-on 0 rest refl)
+
+-- so where what the test denies holds
+pub holds : (n : ℕ) (test : Bool) (rest : ℕ) → test ≡ true → (n when not test orelse rest) ≡ rest
+holds n test rest e = passes n (not test) rest (ap not e)
 
 pub none-test : (n : ℕ) (test : Bool) → 0 < n → (n when test) ≡ 0 → test ≡ false
 unfolding _when_

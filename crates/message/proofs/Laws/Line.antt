@@ -39,10 +39,13 @@ body-length route (Body.opening h) = refl
 body-length route (Body.lotEnding t) = refl
 body-length route (Body.sessionEnding t) = refl
 
-short : (route : Route) (x : Body) → lengthGood Kind.Message (envelopeBytes + layoutOf route x .bytes) ≡ true
-short route (Body.opening h) = refl
-short route (Body.lotEnding t) = refl
-short route (Body.sessionEnding t) = refl
+pub short : (route : Route) (x : Body) → lengthGood Kind.Message (envelopeBytes + length (bodyBytes route x)) ≡ true
+short route x = ap (λ (n : ℕ). lengthGood Kind.Message (envelopeBytes + n)) (body-length route x) ∙ go x
+  where
+    go : (x : Body) → lengthGood Kind.Message (envelopeBytes + layoutOf route x .bytes) ≡ true
+    go (Body.opening h) = refl
+    go (Body.lotEnding t) = refl
+    go (Body.sessionEnding t) = refl
 
 -- every row of a body is covered and earns 01 or 03
 pub whole : (route : Route) (x : Body) → Whole (layoutOf route x)
@@ -78,8 +81,7 @@ content-told route (Body.sessionEnding t) = refl
 pub message-read : MessageWrittenThenRead
 message-read e x fe fx =
     let body = bodyBytes (e .route) x in
-    let fits = ap (λ (n : ℕ). lengthGood Kind.Message (envelopeBytes + n)) (body-length (e .route) x) ∙ short (e .route) x in
-    (envelope-written Kind.Message e body fe fits, ap (readBody (layoutOf (e .route) x)) (body-told Kind.Message e body) ∙ written-then-read (e .route) x fx)
+    (envelope-written Kind.Message e body fe (short (e .route) x), ap (readBody (layoutOf (e .route) x)) (body-told Kind.Message e body) ∙ written-then-read (e .route) x fx)
 
 pub message-again : MessageReadThenWritten
 message-again e x bytes he hx = λ i. envelope-again Kind.Message bytes e (sym he) i ++ read-then-written (e .route) x (bodyOf bytes) (sym hx) i

@@ -23,7 +23,7 @@ use Rattle.message.specs.declared.reply.Operation.{Operation}
 use Rattle.message.specs.declared.reply.Reply.{Reply}
 use Rattle.message.specs.declared.reply.ReadReply.{ReadReply}
 use Rattle.message.specs.Limits.{replyBytes}
-use Rattle.message.specs.Reading.{reading}
+use Rattle.message.specs.Reading.{Reading, reading}
 use Rattle.message.specs.Reply.{operationNumber, operationByte, knownOperation, replyGood, readReply, replySaid, writtenReplyBody}
 use Rattle.message.proofs.Laws.Reading.{said-number, number-told, told}
 
@@ -72,6 +72,11 @@ unfolding replyGood knownCode
 written-then-read r =
     let code = code-written (r .code) in
     sym (said-operation (r .operation) (operationByte (r .operation)) (codeNumber (r .code)) refl ∙ code-known (writtenReplyBody r) refl refl (r .code) code)
+
+pub written-good : (r : Reply) → replyGood (writtenReplyBody r) ≡ true
+written-good r =
+    let good = replyGood (writtenReplyBody r) in
+    not-false good (none-test 22 (not good) (lit< tt) (ap (λ (x : Reading). x .number) (written-then-read r)))
 
 -- a known byte holds the number that it is written from
 one-of : (P : ℕ → Type 0) (b x y z : ℕ) → P x → P y → P z → eqb b x || eqb b y || eqb b z ≡ true → P b

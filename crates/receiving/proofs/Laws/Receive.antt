@@ -1,7 +1,7 @@
 -- What receiving does once nothing refuses the message: the direction after it, new or again, and the kept reply in the line buffer, whose
 -- envelope is the message's own.
 use mathlib.Core.Path.{_≡_, refl, ap, sym, _∙_}
-use mathlib.Core.Bool.{Bool, true, false, cond, _||_, false≢true}
+use mathlib.Core.Bool.{Bool, true, false, cond}
 use mathlib.Core.List.{List}
 use Prim.Native.Nat.{ℕ, suc}
 use lib.ListN.{length}
@@ -19,8 +19,8 @@ use Rattle.session.specs.declared.session.Session.{Session}
 use Rattle.session.specs.Parties.{receivingRoute}
 use Rattle.session.specs.Running.{Running}
 use Rattle.session.specs.Outcome.{Held, held, seenAt, withReceiving}
-use Rattle.session.specs.Receiving.{earnedCode, receivingCourse, receivingAfter, isLast, isNext, afterNew, afterRepeat, receiveRefusal, replying, receive}
-use Rattle.session.proofs.Laws.Refusals.{ReceiveTold, receive-told}
+use Rattle.session.specs.Receiving.{earnedCode, receivingCourse, receivingAfter, isNext, isExpected, afterNew, afterRepeat, receiveRefusal, replying, receive}
+use Rattle.session.proofs.Laws.Refusals.{ReceiveTold, receive-told, last-told}
 use Rattle.calls.proofs.Laws.Said.{said-done}
 
 module _ (time : ℕ) (bytes : List ℕ) (s : Session) (t : Running) (line : List ℕ) where
@@ -42,14 +42,10 @@ module _ (time : ℕ) (bytes : List ℕ) (s : Session) (t : Running) (line : Lis
   left-so false = refl
 
   -- its serial is the message's
-  serial-so : (new : Bool) → isNext bytes (r .serial) ≡ new → isLast bytes (r .serial) || isNext bytes (r .serial) ≡ true → direction new .serial ≡ serialOf bytes
+  serial-so : (new : Bool) → isNext bytes (r .serial) ≡ new → isExpected bytes (r .serial) ≡ true → direction new .serial ≡ serialOf bytes
   unfolding receivingAfter
   serial-so true n k = sym (eqb-true (serialOf bytes) (suc (r .serial)) n)
-  serial-so false n k = last (isLast bytes (r .serial)) refl (ap (λ (b : Bool). isLast bytes (r .serial) || b) (sym n) ∙ k)
-    where
-      last : (b : Bool) → isLast bytes (r .serial) ≡ b → isLast bytes (r .serial) || false ≡ true → r .serial ≡ serialOf bytes
-      last true e k = sym (eqb-true (serialOf bytes) (r .serial) e)
-      last false e k = absurd (false≢true (ap (λ (b : Bool). b || false) (sym e) ∙ k))
+  serial-so false n k = sym (last-told bytes (r .serial) n k)
 
   module _ (answer : ℕ) (chain : answer ≡ receiveRefusal time bytes (length line) s) (none : answer ≡ 0) where
     pub told : ReceiveTold bytes h

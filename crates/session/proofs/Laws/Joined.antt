@@ -11,13 +11,16 @@ use lib.Dec.{eqb}
 use borrow.Author.Tests.{ne-eqb}
 use Rattle.packed.specs.Every.{member}
 use Rattle.message.specs.declared.route.Route.{Route}
+use Rattle.message.specs.declared.envelope.Kind.{Kind}
+use Rattle.message.specs.declared.reply.Operation.{Operation}
+use Rattle.message.specs.Envelope.{serialOf, envelopeGood, envelopeOf, bodyOf}
 use Rattle.session.specs.declared.counters.Course.{Course}
 use Rattle.session.specs.declared.effect.Effect.{Effect}
 use Rattle.session.specs.declared.session.Presenting.{Presenting}
 use Rattle.session.specs.declared.session.Receiving.{Receiving}
 use Rattle.session.specs.Running.{Running, empty}
 use Rattle.session.specs.Receiving.{acceptedLots}
-use Rattle.session.specs.Ledger.{LedgerLot, Ledger, Entry, enter, lotSum, numbers, Distinct}
+use Rattle.session.specs.Ledger.{LedgerLot, Ledger, Entry, enter, bodyEntry, lotSum, numbers, Distinct}
 use Rattle.session.specs.Engine.{Call}
 use Rattle.session.specs.Ends.{End, Event, WrittenBefore}
 use Rattle.session.specs.Entering.{PresenterLedger, ReceiverLedger}
@@ -34,6 +37,22 @@ waitingEffect (some (Entry.detail ds)) b = effectOf (Entry.detail ds) b
 waitingEffect (some Entry.lotTotal) b = effectOf Entry.lotTotal b
 waitingEffect (some Entry.sessionTotal) b = Effect.SessionTotal
 waitingEffect (some Entry.unknown) b = Effect.Detail empty
+
+-- the operation of the reply to what waits
+abbrev pub replyFor : Entry → Operation
+replyFor (Entry.header number) = Operation.Other
+replyFor (Entry.detail ds) = Operation.Other
+replyFor Entry.lotTotal = Operation.LotTotal
+replyFor Entry.sessionTotal = Operation.SessionTotal
+replyFor Entry.unknown = Operation.Other
+
+-- the message that waits is on the line, and reads as its entry
+pub record OnLine (route : Route) (serial : ℕ) (e : Entry) (bytes : List ℕ) (trace : List Event) : Type 0 where
+  pub written : WrittenBefore bytes trace
+  pub good : envelopeGood Kind.Message bytes ≡ true
+  pub way : envelopeOf bytes .route ≡ route
+  pub numbered : serialOf bytes ≡ serial
+  pub reads : bodyEntry (bodyOf bytes) ≡ e
 
 pub record PresenterSide (p : Presenting) (t : Running) (b : PresenterLedger) : Type 0 where
   pub course : _≡_ {A = Course} (record { counters = p .counters; running = t }) (summary (b .ledger))
@@ -61,7 +80,7 @@ pub record Seen (last : ℕ) (serials : List ℕ) : Type 0 where
 pub data Link (p : Presenting) (r : Receiving) (waiting : Option Entry) (confirming counting : Ledger) : Type 0 where
   idle : waiting ≡ none → p .serial ≡ r .serial → confirming ≡ counting → Link p r waiting confirming counting
   sent : (e : Entry) → waiting ≡ some e → p .serial ≡ suc (r .serial) → confirming ≡ counting → Link p r waiting confirming counting
-  taken : (e : Entry) → waiting ≡ some e → p .serial ≡ r .serial → counting ≡ enter e (accepts (r .reply .code)) confirming → Link p r waiting confirming counting
+  taken : (e : Entry) → waiting ≡ some e → p .serial ≡ r .serial → counting ≡ enter e (accepts (r .reply .code)) confirming → r .reply .operation ≡ replyFor e → Link p r waiting confirming counting
 
 -- the two ends of a direction: the record in the session, the running totals, and what was entered
 pub record PresentingEnd : Type 0 where
@@ -89,14 +108,19 @@ pub record Joined (route : Route) (p : PresentingEnd) (r : ReceivingEnd) (trace 
   pub receiver : Mirrored (r .state) (r .running) (r .entered .ledger)
   pub seen : Seen (r .state .serial) (r .entered .serials)
   pub link : Link (p .state) (r .state) (p .entered .waiting) (p .entered .ledger) (r .entered .ledger)
+  pub waits : (e : Entry) → p .entered .waiting ≡ some e → OnLine route (p .state .serial) e (p .entered .message) trace
   pub messages : (bytes : List ℕ) → WrittenBefore bytes trace → MessageFact route (p .state .serial) (p .entered .waiting) bytes
   pub replies : (bytes : List ℕ) → WrittenBefore bytes trace → ReplyFact route (r .state .serial) (r .state .reply .code) bytes
 
 module _ (route : Route) (p : PresentingEnd) (r : ReceivingEnd) (trace : List Event) (j : Joined route p r trace) where
+  -- what waits is on the line after any call
+  pub still : (x : Event) (e : Entry) → p .entered .waiting ≡ some e → OnLine route (p .state .serial) e (p .entered .message) (x ∷ trace)
+  still x e w = let o = j .waits e w in record { written = inr (o .written); good = o .good; way = o .way; numbered = o .numbered; reads = o .reads }
+
   -- a call that writes nothing of this direction
   pub passed-by : (e : Event) → (e .said .number ≡ 0 → Foreign route (e .said .bytes)) → Joined route p r (e ∷ trace)
   passed-by e foreign =
-      record { presenter = j .presenter; receiver = j .receiver; seen = j .seen; link = j .link; messages = all-messages; replies = all-replies }
+      record { presenter = j .presenter; receiver = j .receiver; seen = j .seen; link = j .link; waits = still e; messages = all-messages; replies = all-replies }
     where
       all-messages : (bytes : List ℕ) → WrittenBefore bytes (e ∷ trace) → MessageFact route (p .state .serial) (p .entered .waiting) bytes
       all-messages bytes (inl w) = subst (MessageFact route (p .state .serial) (p .entered .waiting)) (w .1) (λ g way. absurd (foreign (w .0) .no-message g way))

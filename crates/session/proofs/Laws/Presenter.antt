@@ -1,20 +1,21 @@
 -- The presenting end of a direction: whatever call is made there, the two ends stay joined.
 use mathlib.Core.Path.{_≡_, refl, ap, sym, subst, _∙_}
-use mathlib.Core.Bool.{Bool, true, false, not, cond, false≢true}
+use mathlib.Core.Bool.{Bool, true, false, not, _&&_, cond, false≢true}
 use mathlib.Core.List.{List, [], _∷_}
 use mathlib.Core.Logic.{inl, inr}
 use mathlib.Core.Option.{Option, none, some, Option·some-injective, Option·none-ne-some}
-use Prim.Native.Nat.{ℕ, suc, _≤_, _<_}
+use Prim.Native.Nat.{ℕ, suc, _+_, _≤_, _<_}
 use native.Mathlib.Omega.{arith}
 use lib.Dec.{eqb, lit<}
 use lib.ListN.{length, take}
 use lib.Seq.{sets}
-use borrow.Author.Tests.{not-false}
+use borrow.Author.Tests.{not-false, le-leb}
 use Rattle.session.proofs.Laws.Running.{gather-empty}
 use Rattle.codes.proofs.Laws.Chain.{passed, none-both}
-use Rattle.detail.specs.Codes.{presenterCode}
+use Rattle.detail.specs.Codes.{presenterCode, sendable as sendableDetail}
 use Rattle.detail.specs.Writing.{writtenDetail}
-use Rattle.detail.proofs.Laws.Codes.{accepted-part}
+use Rattle.detail.proofs.Laws.Codes.{accepted-part, sendable-part}
+use Rattle.detail.proofs.Laws.Writing.{written-bytes}
 use Rattle.packed.specs.Pieces.{pieces}
 use Rattle.packed.specs.Writing.{packedByte}
 use Rattle.document.specs.Limits.{documentBytes}
@@ -23,10 +24,12 @@ use Rattle.message.specs.declared.envelope.Kind.{Kind}
 use Rattle.message.specs.declared.header.Header.{Header}
 use Rattle.message.specs.declared.reply.Reply.{Reply}
 use Rattle.message.specs.Reply.{writtenReplyBody}
-use Rattle.message.specs.Envelope.{serialOf, envelopeGood, envelopeOf, bodyOf}
+use Rattle.message.specs.Limits.{envelopeBytes, messageRoom}
+use Rattle.message.specs.Envelope.{lengthGood, serialOf, envelopeGood, envelopeOf, bodyOf}
 use Rattle.message.specs.Header.{sendable}
 use Rattle.message.specs.Line.{Body, bodyBytes, wholeMessage, wholeReply}
-use Rattle.message.proofs.Laws.Envelope.{body-told, whole-length}
+use Rattle.message.proofs.Laws.Line.{short}
+use Rattle.message.proofs.Laws.Envelope.{body-told, whole-length, written-good}
 use Rattle.session.specs.declared.counters.Course.{Course}
 use Rattle.session.specs.declared.effect.Effect.{Effect}
 use Rattle.session.specs.declared.session.Presenting.{Presenting}
@@ -48,17 +51,24 @@ use Rattle.session.specs.Entering.{PresenterLedger, waitingFor, enterWai
 use Rattle.session.proofs.Laws.Decided.{either, saidIn, first-bytes}
 use Rattle.session.proofs.Laws.Refusals.{SendTold, send-told, ReceiveTold, receive-told, ReplyTold, reply-told}
 use Rattle.session.proofs.Laws.Ledger.{summary, openOf, Finds, effectOf, detail-sum, mirrors}
-use Rattle.session.proofs.Laws.Line.{accepts, MessageFact, ReplyFact, message-no-reply, serial-read}
-use Rattle.session.proofs.Laws.Joined.{waitingEffect, eventOf, Link, PresentingEnd, ReceivingEnd, presentingEnd, Joined, passed-by, refused-by, not-entered}
+use Rattle.session.proofs.Laws.Line.{accepts, MessageFact, ReplyFact, message-no-reply, route-told, serial-read}
+use Rattle.session.proofs.Laws.Joined.{OnLine, waitingEffect, eventOf, Link, PresentingEnd, ReceivingEnd, presentingEnd, Joined, passed-by, refused-by, not-entered}
 use Rattle.session.proofs.Laws.Foreign.{Foreign, nothing-foreign, next-fits, reply-foreign}
 use Rattle.session.proofs.Laws.Entries.{header-entry, detail-entry, lot-total-entry, session-total-entry, open-lot-same}
 
-pending-some : (e : Entry) (b : Ledger) → isPending (waitingEffect (some e) b) ≡ true
+pub pending-some : (e : Entry) (b : Ledger) → isPending (waitingEffect (some e) b) ≡ true
 pending-some (Entry.header number) b = refl
 pending-some (Entry.detail ds) b = refl
 pending-some Entry.lotTotal b = refl
 pending-some Entry.sessionTotal b = refl
 pending-some Entry.unknown b = refl
+
+-- a detail that may be sent is no longer than a message may be
+detail-long : (operation : ℕ) (part : List ℕ) → sendableDetail operation part ≡ true → lengthGood Kind.Message (envelopeBytes + length (writtenDetail (packedByte operation) part)) ≡ true
+detail-long operation part s =
+    let fit = sendable-part operation part s in
+    let size = written-bytes (packedByte operation) part in
+    λ i. le-leb (envelopeBytes + 1) (envelopeBytes + length (writtenDetail (packedByte operation) part)) (omega (arith, size, fit .least)) i && le-leb (envelopeBytes + length (writtenDetail (packedByte operation) part)) messageRoom (omega (arith, size, fit .whole, fit .most)) i
 
 module _ (x : End) (e : Engine) (ready : Ready e) (different : e .session .parties .own ≡ e .session .parties .partner → ⊥) (r : ReceivingEnd) (bp : PresenterLedger) (trace : List Event) where
   abbrev route : Route
@@ -80,10 +90,10 @@ module _ (x : End) (e : Engine) (ready : Ready e) (different : e .session .parti
 
     -- the ends after a call with this outcome, in which the running totals are the call's own or not
     abbrev After : Call → Running → Outcome → Type 0
-    After call t o = Joined route (presentingEnd (o .left .session .presenting) t (cond (eqb (o .number) 0) (presenterEnters call bp) bp)) r (record { at = x; call = call; said = saidIn o } ∷ trace)
+    After call t o = Joined route (presentingEnd (o .left .session .presenting) t (cond (eqb (o .number) 0) (presenterEnters call (saidIn o .bytes) bp) bp)) r (record { at = x; call = call; said = saidIn o } ∷ trace)
 
-    refused-after : (call : Call) (k : ℕ) → Joined route (presentingEnd p pt (cond (eqb (suc k) 0) (presenterEnters call bp) bp)) r (eventOf x call (suc k) [] ∷ trace)
-    refused-after call k = subst (λ (b : PresenterLedger). Joined route (presentingEnd p pt b) r (eventOf x call (suc k) [] ∷ trace)) (sym (not-entered k (presenterEnters call bp) bp)) (refused-by route here r trace j (eventOf x call (suc k) []) k refl)
+    refused-after : (call : Call) (k : ℕ) → Joined route (presentingEnd p pt (cond (eqb (suc k) 0) (presenterEnters call [] bp) bp)) r (eventOf x call (suc k) [] ∷ trace)
+    refused-after call k = subst (λ (b : PresenterLedger). Joined route (presentingEnd p pt b) r (eventOf x call (suc k) [] ∷ trace)) (sym (not-entered k (presenterEnters call [] bp) bp)) (refused-by route here r trace j (eventOf x call (suc k) []) k refl)
 
     module _ (call : Call) (time code : ℕ) (effect : Effect) (body line : List ℕ) (entry : Entry) where
       abbrev h : Held
@@ -96,24 +106,36 @@ module _ (x : End) (e : Engine) (ready : Ready e) (different : e .session .parti
       event = eventOf x call 0 bytes
 
       -- the message is on the line, and waits
-      sent-joined : SendTold code bytes h → effect ≡ waitingEffect (some entry) (bp .ledger) → bodyEntry body ≡ entry → Joined route (presentingEnd (sent time effect (e .session) .presenting) pt (waitingFor entry bp)) r (event ∷ trace)
-      sent-joined told matching reads =
+      sent-joined : SendTold code bytes h → effect ≡ waitingEffect (some entry) (bp .ledger) → bodyEntry body ≡ entry → lengthGood Kind.Message (envelopeBytes + length body) ≡ true → Joined route (presentingEnd (sent time effect (e .session) .presenting) pt (waitingFor entry bytes bp)) r (event ∷ trace)
+      sent-joined told matching reads long =
           record {
             presenter = record { course = j .presenter .course; pending = matching; once = j .presenter .once };
             receiver = j .receiver;
             seen = j .seen;
             link = linked (j .link);
+            waits = on-line;
             messages = all-messages;
             replies = all-replies;
           }
         where
+          on-line : (d : Entry) → some entry ≡ some d → OnLine route (suc (p .serial)) d bytes (event ∷ trace)
+          on-line d same =
+              let fit = next-fits (e .session) (ready .sound) (told .more) in
+              record {
+                written = inl (refl, refl);
+                good = written-good Kind.Message (nextEnvelope (e .session)) body fit long;
+                way = route-told Kind.Message (nextEnvelope (e .session)) body fit;
+                numbered = serial-read Kind.Message (nextEnvelope (e .session)) body fit;
+                reads = ap bodyEntry (body-told Kind.Message (nextEnvelope (e .session)) body) ∙ reads ∙ Option·some-injective entry d same;
+              }
+
           waits : (d : Entry) → bp .waiting ≡ some d → ⊥
           waits d w = false≢true (sym (told .idle) ∙ ap isPending (pending-is d w) ∙ pending-some d (bp .ledger))
 
           linked : Link p (r .state) (bp .waiting) (bp .ledger) (r .entered .ledger) → Link (sent time effect (e .session) .presenting) (r .state) (some entry) (bp .ledger) (r .entered .ledger)
           linked (Link.idle w s b) = Link.sent entry refl (ap suc s) b
           linked (Link.sent d w s b) = absurd (waits d w)
-          linked (Link.taken d w s b) = absurd (waits d w)
+          linked (Link.taken d w s b o) = absurd (waits d w)
 
           all-messages : (b : List ℕ) → WrittenBefore b (event ∷ trace) → MessageFact route (suc (p .serial)) (some entry) b
           all-messages b (inl w) =
@@ -132,7 +154,7 @@ module _ (x : End) (e : Engine) (ready : Ready e) (different : e .session .parti
           all-replies b (inr w) = j .replies b w
 
       -- so for every send, if its code lets nothing else pass
-      send-after : (presenterEnters call bp ≡ waitingFor entry bp) → (code ≡ 0 → (effect ≡ waitingEffect (some entry) (bp .ledger)) × (bodyEntry body ≡ entry)) → After call (send time code effect body h .left .running) (send time code effect body h)
+      send-after : ((w : List ℕ) → presenterEnters call w bp ≡ waitingFor entry w bp) → (code ≡ 0 → (effect ≡ waitingEffect (some entry) (bp .ledger)) × (bodyEntry body ≡ entry) × (lengthGood Kind.Message (envelopeBytes + length body) ≡ true)) → After call (send time code effect body h .left .running) (send time code effect body h)
       unfolding send
       send-after books fits =
           either (λ (o : Outcome). After call (o .left .running) o) (sendRefusal time code (length bytes) (length (h .line)) (h .session)) h (posted time effect body h)
@@ -140,8 +162,8 @@ module _ (x : End) (e : Engine) (ready : Ready e) (different : e .session .parti
           (λ (z : sendRefusal time code (length bytes) (length (h .line)) (h .session) ≡ 0).
           let told = send-told time code bytes h z in
           let fit = fits (told .unstopped) in
-          subst (λ (w : List ℕ). Joined route (presentingEnd (sent time effect (e .session) .presenting) pt (presenterEnters call bp)) r (eventOf x call 0 w ∷ trace)) (sym (first-bytes bytes line (told .room)))
-          (subst (λ (b : PresenterLedger). Joined route (presentingEnd (sent time effect (e .session) .presenting) pt b) r (event ∷ trace)) (sym books) (sent-joined told (fit .0) (fit .1))))
+          subst (λ (w : List ℕ). Joined route (presentingEnd (sent time effect (e .session) .presenting) pt (presenterEnters call w bp)) r (eventOf x call 0 w ∷ trace)) (sym (first-bytes bytes line (told .room)))
+          (subst (λ (b : PresenterLedger). Joined route (presentingEnd (sent time effect (e .session) .presenting) pt b) r (event ∷ trace)) (sym (books bytes)) (sent-joined told (fit .0) (fit .1) (fit .2))))
 
     -- a reply enters what waits, with the code that the receiver kept
     module _ (time : ℕ) (bytes line : List ℕ) where
@@ -180,7 +202,7 @@ module _ (x : End) (e : Engine) (ready : Ready e) (different : e .session .parti
           go : Link p (r .state) (bp .waiting) (bp .ledger) (r .entered .ledger) → Joined route (presentingEnd (replied time (isAccepted bytes) replyHeld .session .presenting) (replied time (isAccepted bytes) replyHeld .running) (answeredWith (isAccepted bytes) bp)) r trace
           go (Link.idle w s b) = absurd (false≢true (ap isPending (sym (ap (λ (o : Option Entry). waitingEffect o (bp .ledger)) w) ∙ sym (j .presenter .pending)) ∙ told .awaited))
           go (Link.sent d w s b) = absurd (omega (arith, told .serial, s, j .replies bytes brought (told .good) (told .way) .0))
-          go (Link.taken d w s b) =
+          go (Link.taken d w s b o) =
               let accepted = isAccepted bytes in
               let same : accepted ≡ accepts (r .state .reply .code) = j .replies bytes brought (told .good) (told .way) .1 (told .serial ∙ s) in
               let after : answeredWith accepted bp .ledger ≡ enter d accepted (bp .ledger) = ap (λ (o : Option Entry). enterWaiting accepted o (bp .ledger)) w in
@@ -190,6 +212,7 @@ module _ (x : End) (e : Engine) (ready : Ready e) (different : e .session .parti
                 receiver = j .receiver;
                 seen = j .seen;
                 link = Link.idle refl s level;
+                waits = λ (f : Entry) (waits : none ≡ some f). absurd (Option·none-ne-some f waits);
                 messages =
                     λ (b : List ℕ) (w : WrittenBefore b trace) (g : envelopeGood Kind.Message b ≡ true) (way : envelopeOf b .route ≡ route).
                     (j .messages b w g way .0, λ (f : Entry) (q : serialOf b ≡ p .serial) (waits : none ≡ some f). absurd (Option·none-ne-some f waits));
@@ -231,25 +254,25 @@ module _ (x : End) (e : Engine) (ready : Ready e) (different : e .session .parti
         (λ (z : clockRefusal time (e .session .seen) (e .session .close) ≡ 0). passed-by route here r trace j _ (λ (n : 0 ≡ 0). nothing-foreign route))
 
     -- what a presenter's own code lets pass is a message that its receiver reads as it was meant
-    header-fits : (time moment centre number : ℕ) → headerStop time moment centre number p ≡ 0 → (Effect.Header number ≡ waitingEffect (some (Entry.header number)) (bp .ledger)) × (bodyEntry (bodyBytes route (Body.opening (record { time = moment; centre = centre; number = number }))) ≡ Entry.header number)
+    header-fits : (time moment centre number : ℕ) → headerStop time moment centre number p ≡ 0 → (Effect.Header number ≡ waitingEffect (some (Entry.header number)) (bp .ledger)) × (bodyEntry (bodyBytes route (Body.opening (record { time = moment; centre = centre; number = number }))) ≡ Entry.header number) × (lengthGood Kind.Message (envelopeBytes + length (bodyBytes route (Body.opening (record { time = moment; centre = centre; number = number })))) ≡ true)
     unfolding headerStop
     header-fits time moment centre number z =
         let s = ready .sound .parties in
         let fields = passed 1 (not (sendable moment centre number)) _ (lit< tt) z in
-        (refl, header-entry route (record { time = moment; centre = centre; number = number }) (omega (arith, s .date)) (omega (arith, s .own)) (omega (arith, s .partner)) (not-false (sendable moment centre number) (fields .0)))
+        (refl, header-entry route (record { time = moment; centre = centre; number = number }) (omega (arith, s .date)) (omega (arith, s .own)) (omega (arith, s .partner)) (not-false (sendable moment centre number) (fields .0)), short route (Body.opening (record { time = moment; centre = centre; number = number })))
 
-    detail-fits : (operation : ℕ) (part : List ℕ) → detailStop operation (e .session .parties .partner) part pt p ≡ 0 → (Effect.Detail (partAdds operation part) ≡ waitingEffect (some (partEntry operation part)) (bp .ledger)) × (bodyEntry (writtenDetail (packedByte operation) part) ≡ partEntry operation part)
+    detail-fits : (operation : ℕ) (part : List ℕ) → detailStop operation (e .session .parties .partner) part pt p ≡ 0 → (Effect.Detail (partAdds operation part) ≡ waitingEffect (some (partEntry operation part)) (bp .ledger)) × (bodyEntry (writtenDetail (packedByte operation) part) ≡ partEntry operation part) × (lengthGood Kind.Message (envelopeBytes + length (writtenDetail (packedByte operation) part)) ≡ true)
     unfolding detailStop
     detail-fits operation part z =
         let own = none-both (presenterCode operation (e .session .parties .partner) part) _ z in
-        (ap Effect.Detail (sym (detail-sum (packedByte operation) (pieces documentBytes part))), detail-entry operation part (accepted-part operation (e .session .parties .partner) part (own .0) .0))
+        (ap Effect.Detail (sym (detail-sum (packedByte operation) (pieces documentBytes part))), detail-entry operation part (accepted-part operation (e .session .parties .partner) part (own .0) .0), detail-long operation part (accepted-part operation (e .session .parties .partner) part (own .0) .0))
 
-    pub presenter-step : (call : Call) (line : List ℕ) → Brought call trace → let d = performed call line e in Joined route (presentingEnd (d .engine .session .presenting) (d .engine .presenting) (cond (eqb (saidBy d .number) 0) (presenterEnters call bp) bp)) r (record { at = x; call = call; said = saidBy d } ∷ trace)
+    pub presenter-step : (call : Call) (line : List ℕ) → Brought call trace → let d = performed call line e in Joined route (presentingEnd (d .engine .session .presenting) (d .engine .presenting) (cond (eqb (saidBy d .number) 0) (presenterEnters call (saidBy d .bytes) bp) bp)) r (record { at = x; call = call; said = saidBy d } ∷ trace)
     unfolding performed meaning sendHeader sendDetail sendLotTotal sendSessionTotal
-    presenter-step (Call.header time moment centre number) line brought = send-after (Call.header time moment centre number) time _ _ _ line (Entry.header number) refl (header-fits time moment centre number)
-    presenter-step (Call.detail time operation part) line brought = send-after (Call.detail time operation part) time _ _ _ line (partEntry operation part) refl (detail-fits operation part)
-    presenter-step (Call.lotTotal time) line brought = send-after (Call.lotTotal time) time _ _ _ line Entry.lotTotal refl (λ (z : lotTotalStop p ≡ 0). (ap Effect.LotTotal (open-lot-same (p .counters) pt (bp .ledger) (j .presenter .course)), lot-total-entry route _))
-    presenter-step (Call.sessionTotal time) line brought = send-after (Call.sessionTotal time) time _ _ _ line Entry.sessionTotal refl (λ (z : sessionTotalStop p ≡ 0). (refl, session-total-entry route _))
+    presenter-step (Call.header time moment centre number) line brought = send-after (Call.header time moment centre number) time _ _ _ line (Entry.header number) (λ (w : List ℕ). refl) (header-fits time moment centre number)
+    presenter-step (Call.detail time operation part) line brought = send-after (Call.detail time operation part) time _ _ _ line (partEntry operation part) (λ (w : List ℕ). refl) (detail-fits operation part)
+    presenter-step (Call.lotTotal time) line brought = send-after (Call.lotTotal time) time _ _ _ line Entry.lotTotal (λ (w : List ℕ). refl) (λ (z : lotTotalStop p ≡ 0). (ap Effect.LotTotal (open-lot-same (p .counters) pt (bp .ledger) (j .presenter .course)), lot-total-entry route _, short route _))
+    presenter-step (Call.sessionTotal time) line brought = send-after (Call.sessionTotal time) time _ _ _ line Entry.sessionTotal (λ (w : List ℕ). refl) (λ (z : sessionTotalStop p ≡ 0). (refl, session-total-entry route _, short route _))
     presenter-step (Call.receive time bytes) line brought = message-after time bytes line
     presenter-step (Call.reply time bytes) line brought = reply-after time bytes line brought
     presenter-step (Call.clock time) line brought = tick-after time line

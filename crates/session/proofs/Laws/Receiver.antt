@@ -1,6 +1,6 @@
 -- The receiving end of a direction: whatever call is made there, the two ends stay joined.
 use mathlib.Core.Path.{_≡_, refl, ap, sym, subst, _∙_}
-use mathlib.Core.Bool.{Bool, true, false, _||_, cond, or-false, false≢true}
+use mathlib.Core.Bool.{Bool, true, false, _||_, cond, false≢true}
 use mathlib.Core.List.{List, [], _∷_}
 use mathlib.Core.Logic.{_⊎_, inl, inr}
 use Prim.Native.Nat.{ℕ, suc, _≤_, _<_}
@@ -29,20 +29,23 @@ use Rattle.session.specs.Sequence.{isOpen}
 use Rattle.session.specs.Outcome.{Held, Outcome}
 use Rattle.session.specs.Time.{clockRefusal}
 use Rattle.session.specs.Sending.{nextEnvelope, sendRefusal, send, sendHeader, sendDetail, sendLotTotal, sendSessionTotal}
-use Rattle.session.specs.Receiving.{isNext, isLast, earnedCode, receivedEffect, receivingCourse, receivingAfter, receiveRefusal, receive, afterNew, afterRepeat, replying}
+use Rattle.session.specs.Receiving.{isNext, earnedCode, receivedEffect, receivingCourse, receivingAfter, receiveRefusal, receive, afterNew, afterRepeat, replying}
 use Rattle.session.specs.Reply.{isAccepted, replyRefusal, takeReply}
 use Rattle.session.specs.Clock.{clock}
 use Rattle.session.specs.Premise.{OpenSound}
-use Rattle.session.specs.Ledger.{enter, bodyEntry}
+use Rattle.session.specs.Ledger.{Entry, enter, bodyEntry, receivedEntry}
+use Rattle.message.specs.declared.content.Content.{Content}
+use Rattle.message.specs.Reply.{replyOperation}
+use mathlib.Core.Option.{some}
 use Rattle.session.specs.Engine.{Call, Engine, saidBy, meaning, lent, performed, Ready}
 use Rattle.session.specs.Ends.{End, Event, WrittenBefore, Brought}
 use Rattle.session.specs.Entering.{ReceiverLedger, firstReceived, receiverEnters}
 use Rattle.session.proofs.Laws.Decided.{either, saidIn, first-bytes}
-use Rattle.session.proofs.Laws.Refusals.{send-told, ReceiveTold, receive-told}
+use Rattle.session.proofs.Laws.Refusals.{send-told, ReceiveTold, receive-told, last-told}
 use Rattle.session.proofs.Laws.Allowed.{Allowed, received-allowed}
 use Rattle.session.proofs.Laws.Line.{accepts, MessageFact, ReplyFact, reply-no-message, serial-read, code-read}
 use Rattle.session.proofs.Laws.Lists.{next-unseen, up-to-next}
-use Rattle.session.proofs.Laws.Joined.{eventOf, Mirrored, Link, Joined, passed-by, refused-by, not-entered, PresentingEnd, ReceivingEnd, receivingEnd}
+use Rattle.session.proofs.Laws.Joined.{replyFor, still, eventOf, Mirrored, Link, Joined, passed-by, refused-by, not-entered, PresentingEnd, ReceivingEnd, receivingEnd}
 use Rattle.session.proofs.Laws.Mirror.{course-mirrors, lots-mirror, numbers-mirror, free-header}
 use Rattle.session.proofs.Laws.Foreign.{Foreign, nothing-foreign, message-foreign, reply-fits}
 
@@ -50,6 +53,18 @@ use Rattle.session.proofs.Laws.Foreign.{Foreign, nothing-foreign, messa
 has-room : (lot : OpenLot) (lots : ℕ) → OpenSound lot lots → isOpen lot ≡ true → lots < mostLots
 has-room OpenLot.None lots s e = absurd (false≢true e)
 has-room (OpenLot.Numbered n) lots s e = s .1
+
+-- the reply to a body has the operation of what it is entered as
+pub reply-entry : (body : List ℕ) → replyOperation (contentOf body) ≡ replyFor (bodyEntry body)
+unfolding receivedEntry
+reply-entry body = go (contentOf body)
+  where
+    go : (c : Content) → replyOperation c ≡ replyFor (receivedEntry c body)
+    go Content.Header = refl
+    go Content.Detail = refl
+    go Content.LotTotal = refl
+    go Content.SessionTotal = refl
+    go Content.Unknown = refl
 
 module _ (x : End) (e : Engine) (ready : Ready e) (different : e .session .parties .own ≡ e .session .parties .partner → ⊥) (p : PresentingEnd) (br : ReceiverLedger) (trace : List Event) where
   abbrev route : Route
@@ -164,10 +179,10 @@ module _ (x : End) (e : Engine) (ready : Ready e) (different : e .session .parti
       linked : serialOf bytes ≡ suc (r .serial) → Link (p .state) r (p .entered .waiting) (p .entered .ledger) (br .ledger) → Link (p .state) (receivingAfter code body rt r) (p .entered .waiting) (p .entered .ledger) (entered .ledger)
       unfolding receivingAfter
       linked next (Link.idle w s b) = absurd (omega (arith, next, s, j .messages bytes brought (told .good) (told .way) .0))
-      linked next (Link.taken d w s b) = absurd (omega (arith, next, s, j .messages bytes brought (told .good) (told .way) .0))
+      linked next (Link.taken d w s b o) = absurd (omega (arith, next, s, j .messages bytes brought (told .good) (told .way) .0))
       linked next (Link.sent d w s b) =
           let reads : bodyEntry body ≡ d = j .messages bytes brought (told .good) (told .way) .1 d (next ∙ sym s) w in
-          Link.taken d w s (λ i. enter (reads i) (sym (code-accepts code) i) (sym b i))
+          Link.taken d w s (λ i. enter (reads i) (sym (code-accepts code) i) (sym b i)) (reply-entry body ∙ ap replyFor reads)
 
       taken-joined : serialOf bytes ≡ suc (r .serial) → Joined route p (receivingEnd (receivingAfter code body rt r) (receivingCourse code body rt r .running) entered) (eventOf x (Call.receive time bytes) 0 (wholeReply (envelopeOf bytes) kept) ∷ trace)
       unfolding receivingAfter member
@@ -177,6 +192,7 @@ module _ (x : End) (e : Engine) (ready : Ready e) (different : e .session .parti
             receiver = mirrored;
             seen = record { earlier = up-to-next (r .serial) (br .serials) (j .seen .earlier); last-seen = inr (ap (λ (t : Bool). t || member (suc (r .serial)) (br .serials)) (eq-eqb (suc (r .serial)) (suc (r .serial)) refl)) };
             link = linked next (j .link);
+            waits = still route p here trace j (eventOf x (Call.receive time bytes) 0 (wholeReply (envelopeOf bytes) kept));
             messages = all-messages (receivingAfter code body rt r) kept next refl;
             replies =
                 all-replies (receivingAfter code body rt r) kept next refl
@@ -198,11 +214,15 @@ module _ (x : End) (e : Engine) (ready : Ready e) (different : e .session .parti
 
       repeated-joined : serialOf bytes ≡ r .serial → Joined route p here (eventOf x (Call.receive time bytes) 0 (wholeReply (envelopeOf bytes) (r .reply)) ∷ trace)
       repeated-joined same =
-          record { presenter = j .presenter; receiver = j .receiver; seen = j .seen; link = j .link; messages = all-messages r (r .reply) same refl; replies = all-replies r (r .reply) same refl (j .replies) }
-
-    -- which of the two it is
-    last-serial : (bytes : List ℕ) → isNext bytes (r .serial) ≡ false → isLast bytes (r .serial) || isNext bytes (r .serial) ≡ true → serialOf bytes ≡ r .serial
-    last-serial bytes n known = eqb-true (serialOf bytes) (r .serial) (sym (or-false (isLast bytes (r .serial))) ∙ ap (λ (t : Bool). isLast bytes (r .serial) || t) (sym n) ∙ known)
+          record {
+            presenter = j .presenter;
+            receiver = j .receiver;
+            seen = j .seen;
+            link = j .link;
+            waits = still route p here trace j (eventOf x (Call.receive time bytes) 0 (wholeReply (envelopeOf bytes) (r .reply)));
+            messages = all-messages r (r .reply) same refl;
+            replies = all-replies r (r .reply) same refl (j .replies);
+          }
 
     message-after : (time : ℕ) (bytes line : List ℕ) → WrittenBefore bytes trace → After (Call.receive time bytes) (receive time bytes (lent Direction.receiving line e) .left .running) (receive time bytes (lent Direction.receiving line e))
     unfolding receive receivingAfter
@@ -222,7 +242,7 @@ module _ (x : End) (e : Engine) (ready : Ready e) (different : e .session .parti
             subst (λ (w : List ℕ). Joined route p (receivingEnd after running (receiverEnters (Call.receive time bytes) w br)) (eventOf x (Call.receive time bytes) 0 w ∷ trace)) (sym (first-bytes whole line (fits time bytes line brought told after (after .reply) next refl)))
             (subst (λ (b : ReceiverLedger). Joined route p (receivingEnd after running b) (eventOf x (Call.receive time bytes) 0 whole ∷ trace)) (sym (first-time time bytes line brought told next)) (taken-joined time bytes line brought told next))
         go false n told =
-            let same = last-serial bytes n (told .known) in
+            let same = last-told bytes (r .serial) n (told .known) in
             let whole = wholeReply (envelopeOf bytes) (r .reply) in
             let event : List ℕ → Event = λ (w : List ℕ). eventOf x (Call.receive time bytes) 0 w in
             subst (λ (w : List ℕ). Joined route p (receivingEnd r rt (receiverEnters (Call.receive time bytes) w br)) (event w ∷ trace)) (sym (first-bytes whole line (fits time bytes line brought told r (r .reply) same refl)))

@@ -1,6 +1,6 @@
 -- What a call that is not refused tells: every test of its chain passed.
-use mathlib.Core.Path.{_≡_}
-use mathlib.Core.Bool.{true, false, not, _||_}
+use mathlib.Core.Path.{_≡_, refl}
+use mathlib.Core.Bool.{Bool, true, false, not, false≢true}
 use mathlib.Core.List.{List}
 use Prim.Native.Nat.{ℕ, _≤_, _<_}
 use lib.Dec.{eqb, leb, lit<}
@@ -20,7 +20,7 @@ use Rattle.session.specs.Parties.{presentingRoute, receivingRoute}
 use Rattle.session.specs.Outcome.{Held, noRoom}
 use Rattle.session.specs.Time.{timeRefusal}
 use Rattle.session.specs.Sending.{isPending, sendRefusal}
-use Rattle.session.specs.Receiving.{isLast, isNext, receiveRefusal}
+use Rattle.session.specs.Receiving.{isLast, isNext, isExpected, receiveRefusal}
 use Rattle.session.specs.Reply.{awaitedOperation, isAwaited, replyRefusal}
 
 pub record SendTold (code : ℕ) (bytes : List ℕ) (h : Held) : Type 0 where
@@ -39,10 +39,18 @@ send-told time code bytes h e =
     let own = none-both code _ (used .1) in
     record { idle = idle .0; more = leb-false largestSerial (p .serial) (used .0); unstopped = own .0; room = ltb-false (length (h .line)) (length bytes) (none-test 23 (noRoom (length bytes) (length (h .line))) (lit< tt) (own .1)) }
 
+-- a message that is expected and is not the next one is the last again
+pub last-told : (bytes : List ℕ) (last : ℕ) → isNext bytes last ≡ false → isExpected bytes last ≡ true → serialOf bytes ≡ last
+last-told bytes last n e = go (isLast bytes last) refl
+  where
+    go : (t : Bool) → isLast bytes last ≡ t → serialOf bytes ≡ last
+    go true l = eqb-true (serialOf bytes) last l
+    go false l = absurd (false≢true (simp (l, n) at e))
+
 pub record ReceiveTold (bytes : List ℕ) (h : Held) : Type 0 where
   pub good : envelopeGood Kind.Message bytes ≡ true
   pub way : envelopeOf bytes .route ≡ receivingRoute (h .session .parties)
-  pub known : isLast bytes (h .session .receiving .serial) || isNext bytes (h .session .receiving .serial) ≡ true
+  pub known : isExpected bytes (h .session .receiving .serial) ≡ true
   pub room : replyRoom ≤ length (h .line)
 
 pub receive-told : (time : ℕ) (bytes : List ℕ) (h : Held) → receiveRefusal time bytes (length (h .line)) (h .session) ≡ 0 → ReceiveTold bytes h
@@ -50,7 +58,7 @@ unfolding receiveRefusal
 receive-told time bytes h e =
     let good = envelopeGood Kind.Message bytes in
     let way = sameRoute (envelopeOf bytes .route) (receivingRoute (h .session .parties)) in
-    let known = isLast bytes (h .session .receiving .serial) || isNext bytes (h .session .receiving .serial) in
+    let known = isExpected bytes (h .session .receiving .serial) in
     let clock = none-both (timeRefusal time (h .session .seen) (h .session .close)) _ e in
     let first = passed 21 (not good) _ (lit< tt) (clock .1) in
     let second = passed 33 (not way) _ (lit< tt) (first .1) in
