@@ -14,5 +14,6 @@ pub mod Joined
 pub mod Mirror
 pub mod Foreign
 pub mod Entries
+pub mod Written
 pub mod Presenter
 pub mod Receiver

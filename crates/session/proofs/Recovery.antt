@@ -11,7 +11,7 @@ use lib.ListN.{length, take}
 use lib.Seq.{sets}
 use borrow.Author.Tests.{eq-eqb, ne-eqb, le-ltb}
 use Rattle.codes.specs.Body.{operationOf}
-use Rattle.codes.specs.Chain.{_when_, _orelse_}
+use Rattle.codes.specs.Chain.{_when_}
 use Rattle.codes.proofs.Laws.Chain.{goes-on, holds}
 use Rattle.message.specs.declared.route.Route.{Route}
 use Rattle.message.specs.declared.envelope.Kind.{Kind}
@@ -26,7 +26,7 @@ use Rattle.message.proofs.Laws.Route.{same-itself}
 use Rattle.message.proofs.Laws.Envelope.{envelope-told, written-good, body-told, whole-length}
 use Rattle.message.proofs.Laws.Reply.{written-good as reply-good}
 use Rattle.session.specs.Parties.{presentingRoute, receivingRoute, Direction}
-use Rattle.session.specs.Outcome.{Held, decided, silent, noRoom}
+use Rattle.session.specs.Outcome.{Held, decided, silent}
 use Rattle.session.specs.Time.{timeRefusal}
 use Rattle.session.specs.Sending.{isPending}
 use Rattle.session.specs.Receiving.{isNext, isExpected, afterNew, afterRepeat, afterMessage, receiveRefusal, receivingAfter, replying, receive}
@@ -36,7 +36,7 @@ use Rattle.session.specs.Engine.{Call, Engine, Said, performed, performe
 use Rattle.session.specs.Ends.{End, other, World, Step, replaced, act, run, Brought, Possible, begun}
 use Rattle.session.specs.Entering.{PresenterLedger, ReceiverLedger, presenterLedgerAt, receiverLedgerAt}
 use Rattle.session.specs.Claim.{JustReplied}
-use Rattle.session.specs.Recovery.{ClockAllows, saidAt, Unrefused, delivery, deliveryAndReply, GetsThrough, CanBeAnswered, WhatWaitsCanBeAnswered}
+use Rattle.session.specs.Recovery.{ClockAllows, saidAt, Unrefused, delivery, GetsThrough, WhatWaitsCanBeAnswered}
 use Rattle.session.proofs.Laws.Decided.{first-bytes}
 use Rattle.session.proofs.Laws.Joined.{waitingEffect, replyFor, OnLine, Link}
 use Rattle.session.proofs.Laws.Foreign.{reply-fits}

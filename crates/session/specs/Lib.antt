@@ -16,6 +16,7 @@ pub mod Report
 pub mod Premise
 pub mod Ledger
 pub mod Engine
+pub mod Written
 pub mod Ends
 pub mod Entering
 pub mod Claim

@@ -106,11 +106,22 @@ openNumber (OpenLot.Numbered n) = n
 abbrev pub endingLot : Counters → Running → Lot
 endingLot c running = record { number = openNumber (c .current); gathered = running }
 
--- the time is the call's own; the moment, hhmmsscc, is what the header says of itself
+-- What each message says. The moment of a header, hhmmsscc, is what it says of itself, and not the time of the call.
+abbrev pub headerBody : (moment centre number : ℕ) → Body
+headerBody moment centre number = Body.opening (record { time = moment; centre = centre; number = number })
+
+-- 'The presenter writes totals from its own counters, and a lot total with the open lot's number'
+abbrev pub lotTotalBody : Counters → Running → Body
+lotTotalBody c running = let lot = endingLot c running in Body.lotEnding (record { number = lot .number; stated = stated (lot .gathered) })
+
+abbrev pub sessionTotalBody : Counters → Body
+sessionTotalBody c = Body.sessionEnding (record { number = c .lots; stated = stated (c .gathered) })
+
+-- The four calls.
 unfoldable pub sendHeader : (time moment centre number : ℕ) → Held → Outcome
 sendHeader time moment centre number h =
     send time (headerStop time moment centre number (h .session .presenting)) (Effect.Header number)
-    (bodyBytes (presentingRoute (h .session .parties)) (Body.opening (record { time = moment; centre = centre; number = number }))) h
+    (bodyBytes (presentingRoute (h .session .parties)) (headerBody moment centre number)) h
 
 -- the documents of a part, in groups of four
 unfoldable pub sendDetail : (time operation : ℕ) (part : List ℕ) → Held → Outcome
@@ -118,15 +129,13 @@ sendDetail time operation part h =
     send time (detailStop operation (h .session .parties .partner) part (h .running) (h .session .presenting)) (Effect.Detail (partAdds operation part))
     (writtenDetail (packedByte operation) part) h
 
--- 'The presenter writes totals from its own counters, and a lot total with the open lot's number'
 unfoldable pub sendLotTotal : (time : ℕ) → Held → Outcome
 sendLotTotal time h =
-    let lot = endingLot (h .session .presenting .counters) (h .running) in
-    send time (lotTotalStop (h .session .presenting)) (Effect.LotTotal lot)
-    (bodyBytes (presentingRoute (h .session .parties)) (Body.lotEnding (record { number = lot .number; stated = stated (lot .gathered) }))) h
+    let c = h .session .presenting .counters in
+    send time (lotTotalStop (h .session .presenting)) (Effect.LotTotal (endingLot c (h .running)))
+    (bodyBytes (presentingRoute (h .session .parties)) (lotTotalBody c (h .running))) h
 
 unfoldable pub sendSessionTotal : (time : ℕ) → Held → Outcome
 sendSessionTotal time h =
-    let c = h .session .presenting .counters in
     send time (sessionTotalStop (h .session .presenting)) Effect.SessionTotal
-    (bodyBytes (presentingRoute (h .session .parties)) (Body.sessionEnding (record { number = c .lots; stated = stated (c .gathered) }))) h
+    (bodyBytes (presentingRoute (h .session .parties)) (sessionTotalBody (h .session .presenting .counters))) h

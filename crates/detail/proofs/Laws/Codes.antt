@@ -57,15 +57,15 @@ module _ (operation partner : ℕ) (part : List ℕ) where
       passes 1 (not (sendable operation part)) (1 when not fields orelse 3 when not amounts) (ap not e)
       ∙ ap (λ (n : ℕ). 1 when not fields orelse n) (sym (last (3 when not amounts)))
 
-  -- what no code tells
-  pub accepted-part : presenterCode operation partner part ≡ 0 → (sendable operation part ≡ true) × (every (amountsGood (packedByte operation) partner) (pieces documentBytes part) ≡ true)
+  -- what no code tells: a part that may be sent, good amounts, good fields
+  pub accepted-part : presenterCode operation partner part ≡ 0 → (sendable operation part ≡ true) × (every (amountsGood (packedByte operation) partner) (pieces documentBytes part) ≡ true) × (every (fieldsGood (packedByte operation) partner) (pieces documentBytes part) ≡ true)
   unfolding presenterCode
   accepted-part e =
       let fields = every (fieldsGood (packedByte operation) partner) (pieces documentBytes part) in
       let amounts = every (amountsGood (packedByte operation) partner) (pieces documentBytes part) in
       let first = none-both (1 when not (sendable operation part)) _ e in
       let rest = none-both (1 when not fields) (3 when not amounts) (first .1) in
-      (not-false (sendable operation part) (none-test 1 (not (sendable operation part)) (lit< tt) (first .0)), not-false amounts (none-test 3 (not amounts) (lit< tt) (rest .1)))
+      (not-false (sendable operation part) (none-test 1 (not (sendable operation part)) (lit< tt) (first .0)), not-false amounts (none-test 3 (not amounts) (lit< tt) (rest .1)), not-false fields (none-test 1 (not fields) (lit< tt) (rest .0)))
 
 module _ (own : ℕ) (represented body : List ℕ) where
   pub misshapen : shapeGood body ≡ false → receiverCode own represented body ≡ 1

@@ -13,7 +13,7 @@ use Rattle.packed.specs.Writing.{packedByte}
 use Rattle.packed.proofs.Laws.Every.{every-both}
 use Rattle.packed.proofs.Laws.FlatMap.{flat-map, flat-flat, flat-same}
 use Rattle.packed.proofs.Laws.Pieces.{pieces-flat, pieces-made}
-use Rattle.codes.specs.Chain.{_when_}
+use Rattle.codes.specs.Chain.{_when_, _orelse_}
 use Rattle.codes.proofs.Laws.Chain.{none-test, none-both}
 use Rattle.codes.specs.Field.{between}
 use Rattle.codes.specs.Body.{operationOf, cleared}
@@ -26,9 +26,9 @@ use Rattle.detail.specs.Groups.{groups, groupGood, shapeGood, oneOperati
 use Rattle.detail.specs.Codes.{receiverCode, sendable}
 use Rattle.detail.specs.Inner.Verdict.{judged}
 use Rattle.detail.specs.Writing.{writtenGroup, writtenDetail}
-use Rattle.detail.specs.RoundTrip.{partOf, clearedGroups, WrittenThenRead, ReadThenWritten}
+use Rattle.detail.specs.RoundTrip.{partOf, clearedGroups, WrittenThenRead, WrittenThenAccepted, ReadThenWritten}
 use Rattle.detail.proofs.Laws.Groups.{Good, good}
-use Rattle.detail.proofs.Laws.Codes.{sendable-part, shaped-judged}
+use Rattle.detail.proofs.Laws.Codes.{sendable-part, accepted-part, shaped-judged}
 use Rattle.detail.proofs.Laws.Writing.{documents-written, operation-written, one-written, shape-written}
 
 -- the byte of operation 30 or 40 is one of the two of a group
@@ -53,6 +53,13 @@ pub fields-again : WrittenThenRead
 fields-again operation part e =
     let some : 0 < length part = let fit = sendable-part operation part e in omega arith in
     (operation-written (packedByte operation) part some, documents-written (packedByte operation) part)
+
+-- so what its presenter lets pass earns 06 or nothing
+pub accepted-there : WrittenThenAccepted
+unfolding _when_ _orelse_
+accepted-there operation partner part represented e =
+    let told = accepted-part operation partner part e in
+    written-then-read partner operation represented part (told .0) ∙ λ i. judged (told .2 i) (told .1 i) (every (draweeServed (packedByte operation) partner represented) (pieces documentBytes part))
 
 -- the part of a body is its groups without their heads
 heads-dropped : (gs : List (List ℕ)) → flatMap (λ (d : List ℕ). d) (flatMap groupDocuments gs) ≡ flatMap (drop headBytes) gs

@@ -1,8 +1,8 @@
 -- What amounts of digits come to: each within its width, and the totals of documents within so many times as much.
-use mathlib.Core.Path.{_≡_, sym, _∙_}
+use mathlib.Core.Path.{_≡_, refl, sym, _∙_}
 use mathlib.Core.Bool.{true}
 use mathlib.Core.List.{List, [], _∷_}
-use Prim.Native.Nat.{ℕ, _*_, _^_, _≤_, _<_}
+use Prim.Native.Nat.{ℕ, _+_, _*_, _^_, _≤_, _<_}
 use native.Mathlib.Nat.{lt-of-lt-of-le, pow-le-pow-right}
 use native.Mathlib.Omega.{arith}
 use lib.Dec.{lit<}
@@ -15,12 +15,16 @@ use Rattle.packed.proofs.Laws.Told.{both}
 use Rattle.packed.proofs.Laws.Every.{every-cons}
 use Rattle.packed.proofs.Laws.Number.{number-below}
 use Rattle.document.specs.Limits.{largestNominal, largestCommission}
-use Rattle.document.specs.Fields.{amountsGood}
+use Rattle.document.specs.Fields.{nominalField, commissionField, amountsGood}
 use Rattle.document.specs.Amounts.{nominal, commission, totalsOf}
 use Rattle.document.proofs.Laws.Fields.{amounts-split}
 
 below : (at n : ℕ) (d : List ℕ) → areDigits (part at n d) ≡ true → number (part at n d) < 100 ^ n
 below at n d e = let short : length (part at n d) ≤ n = simp length-take (omega arith) in lt-of-lt-of-le (number-below (part at n d) e) (pow-le-pow-right (lit< tt) short)
+
+-- the largest amounts are all that the digits of their fields can say
+pub largest-amounts : (largestNominal + 1 ≡ 100 ^ nominalField .width) × (largestCommission + 1 ≡ 100 ^ commissionField .width)
+largest-amounts = (refl, refl)
 
 module _ (operation receiving : ℕ) where
   amounts-below : (d : List ℕ) → amountsGood operation receiving d ≡ true → (nominal d < 100 ^ 6) × (commission d < 100 ^ 4)

@@ -1,15 +1,16 @@
--- Laws of the totals: their rows fill them, their tests in short in any widths, and what an answer tells of the body.
+-- Laws of the totals: their rows fill them, their tests in short and which numbers they carry in any widths, and what an answer tells of the body.
 use mathlib.Core.Path.{_≡_, refl, ap, sym, _∙_}
 use mathlib.Core.Bool.{Bool, true, _&&_, and-true}
 use mathlib.Core.List.{List}
-use Prim.Native.Nat.{ℕ, _+_, _-_}
+use Prim.Native.Nat.{ℕ, _+_, _-_, _^_, _<_}
 use native.Mathlib.Omega.{arith}
 use lib.ListN.{getD}
+use borrow.Author.Tests.{lt-ltb}
 use Rattle.packed.specs.Part.{part}
 use Rattle.packed.specs.Every.{every}
 use Rattle.packed.specs.Digits.{areDigits}
 use Rattle.packed.proofs.Laws.Digits.{digits-split}
-use Rattle.codes.specs.Field.{earning, tableGood, tableNumbers}
+use Rattle.codes.specs.Field.{earning, tableGood, tableNumbers, tableTakes}
 use Rattle.codes.proofs.Laws.Field.{adjoining}
 use Rattle.amounts.specs.Totals.{totals}
 use Rattle.message.specs.declared.total.Total.{Total}
@@ -50,6 +51,21 @@ module _ (d n c : ℕ) where
       any-two (areDigits (part (6 + d - 1) n s)) (areDigits (part (6 + d + n - 1) c s))
       ∙ (λ i. areDigits (part (nominal-at i) n s) && areDigits (part (commission-at i) c s))
       ∙ sym (digits-split (5 + d) n c s)
+
+  -- numbers that such a total can carry
+  in-range : (t : Total) → t .number < 100 ^ 2 → t .stated .documents .0 < 100 ^ d → t .stated .nominal .0 < 100 ^ n → t .stated .commission .0 < 100 ^ c → tableTakes (totalFields d n c) (totalValues t) ≡ true
+  unfolding totalFields tableTakes
+  in-range t number documents nominal commission =
+      rw (lt-ltb (t .number) (100 ^ 2) number, lt-ltb (t .stated .documents .0) (100 ^ d) documents, lt-ltb (t .stated .nominal .0) (100 ^ n) nominal, lt-ltb (t .stated .commission .0) (100 ^ c) commission)
+
+-- of a lot, and of a session
+pub lot-in-range : (t : Total) → t .number < 100 ^ 2 → t .stated .documents .0 < 100 ^ 3 → t .stated .nominal .0 < 100 ^ 8 → t .stated .commission .0 < 100 ^ 6 → tableTakes lotTotalFields (totalValues t) ≡ true
+unfolding lotTotalFields totalFields
+lot-in-range = in-range 3 8 6
+
+pub session-in-range : (t : Total) → t .number < 100 ^ 2 → t .stated .documents .0 < 100 ^ 4 → t .stated .nominal .0 < 100 ^ 9 → t .stated .commission .0 < 100 ^ 7 → tableTakes sessionTotalFields (totalValues t) ≡ true
+unfolding sessionTotalFields totalFields
+session-in-range = in-range 4 9 7
 
 -- what an answer tells of the body
 pub read-told : (layout : Layout) (t : Total) (body : List ℕ) → totalSaid (ReadTotal.Read t) ≡ readBody layout body → t ≡ totalOf (layout .fields) body

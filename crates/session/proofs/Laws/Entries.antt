@@ -3,7 +3,7 @@ use mathlib.Core.Path.{_≡_, refl, ap, _∙_}
 use mathlib.Core.Bool.{true}
 use mathlib.Core.List.{List}
 use mathlib.Core.Option.{Option, none, some}
-use Prim.Native.Nat.{ℕ, _<_, _^_}
+use Prim.Native.Nat.{ℕ, _<_}
 use native.Mathlib.Omega.{arith}
 use lib.ListN.{length}
 use Rattle.packed.specs.Writing.{packedByte}
@@ -18,10 +18,10 @@ use Rattle.message.specs.declared.header.Header.{Header}
 use Rattle.message.specs.declared.total.Total.{Total}
 use Rattle.message.specs.Content.{byOperation}
 use Rattle.codes.specs.Field.{tableTakes}
-use Rattle.message.specs.Header.{headerFields, headerValues, headerOf, sendable as headerSendable}
+use Rattle.message.specs.Header.{headerFields, headerValues, headerOf}
 use Rattle.message.specs.Line.{Body, bodyBytes}
 use Rattle.message.proofs.Laws.Content.{detail-told}
-use Rattle.message.proofs.Laws.Header.{header-told, in-range}
+use Rattle.message.proofs.Laws.Header.{header-told}
 use Rattle.message.proofs.Laws.Line.{content-told}
 use Rattle.session.specs.declared.counters.Counters.{Counters}
 use Rattle.session.specs.declared.counters.Lot.{Lot}
@@ -35,9 +35,9 @@ header-read : (route : Route) (h : Header) → tableTakes (headerFields route) (
 unfolding bodyBytes
 header-read route h e = header-told route h e
 
-pub header-entry : (route : Route) (h : Header) → route .date < 100 ^ 3 → route .presenting < 100 ^ 2 → route .receiving < 100 ^ 2 → headerSendable (h .time) (h .centre) (h .number) ≡ true → bodyEntry (bodyBytes route (Body.opening h)) ≡ Entry.header (h .number)
+pub header-entry : (route : Route) (h : Header) → tableTakes (headerFields route) (headerValues route h) ≡ true → bodyEntry (bodyBytes route (Body.opening h)) ≡ Entry.header (h .number)
 unfolding receivedEntry
-header-entry route h d p r s = ap (λ (c : Content). receivedEntry c (bodyBytes route (Body.opening h))) (content-told route (Body.opening h)) ∙ ap (λ (x : Header). Entry.header (x .number)) (header-read route h (in-range route h d p r s))
+header-entry route h fits = ap (λ (c : Content). receivedEntry c (bodyBytes route (Body.opening h))) (content-told route (Body.opening h)) ∙ ap (λ (x : Header). Entry.header (x .number)) (header-read route h fits)
 
 pub detail-entry : (operation : ℕ) (part : List ℕ) → sendable operation part ≡ true → bodyEntry (writtenDetail (packedByte operation) part) ≡ partEntry operation part
 unfolding receivedEntry

@@ -1,21 +1,19 @@
 -- The presenting end of a direction: whatever call is made there, the two ends stay joined.
 use mathlib.Core.Path.{_≡_, refl, ap, sym, subst, _∙_}
-use mathlib.Core.Bool.{Bool, true, false, not, _&&_, cond, false≢true}
+use mathlib.Core.Bool.{Bool, true, false, cond, false≢true}
 use mathlib.Core.List.{List, [], _∷_}
 use mathlib.Core.Logic.{inl, inr}
 use mathlib.Core.Option.{Option, none, some, Option·some-injective, Option·none-ne-some}
-use Prim.Native.Nat.{ℕ, suc, _+_, _≤_, _<_}
+use Prim.Native.Nat.{ℕ, suc, _+_, _≤_}
 use native.Mathlib.Omega.{arith}
-use lib.Dec.{eqb, lit<}
+use lib.Dec.{eqb}
 use lib.ListN.{length, take}
 use lib.Seq.{sets}
-use borrow.Author.Tests.{not-false, le-leb}
 use Rattle.session.proofs.Laws.Running.{gather-empty}
-use Rattle.codes.proofs.Laws.Chain.{passed, none-both}
-use Rattle.detail.specs.Codes.{presenterCode, sendable as sendableDetail}
+use Rattle.codes.proofs.Laws.Chain.{none-both}
+use Rattle.detail.specs.Codes.{presenterCode}
 use Rattle.detail.specs.Writing.{writtenDetail}
-use Rattle.detail.proofs.Laws.Codes.{accepted-part, sendable-part}
-use Rattle.detail.proofs.Laws.Writing.{written-bytes}
+use Rattle.detail.proofs.Laws.Codes.{accepted-part}
 use Rattle.packed.specs.Pieces.{pieces}
 use Rattle.packed.specs.Writing.{packedByte}
 use Rattle.document.specs.Limits.{documentBytes}
@@ -24,10 +22,9 @@ use Rattle.message.specs.declared.envelope.Kind.{Kind}
 use Rattle.message.specs.declared.header.Header.{Header}
 use Rattle.message.specs.declared.reply.Reply.{Reply}
 use Rattle.message.specs.Reply.{writtenReplyBody}
-use Rattle.message.specs.Limits.{envelopeBytes, messageRoom}
+use Rattle.message.specs.Limits.{envelopeBytes}
 use Rattle.message.specs.Envelope.{lengthGood, serialOf, envelopeGood, envelopeOf, bodyOf}
-use Rattle.message.specs.Header.{sendable}
-use Rattle.message.specs.Line.{Body, bodyBytes, wholeMessage, wholeReply}
+use Rattle.message.specs.Line.{bodyBytes, wholeMessage, wholeReply}
 use Rattle.message.proofs.Laws.Line.{short}
 use Rattle.message.proofs.Laws.Envelope.{body-told, whole-length, written-good}
 use Rattle.session.specs.declared.counters.Course.{Course}
@@ -39,7 +36,7 @@ use Rattle.session.specs.Course.{advance}
 use Rattle.session.specs.Sequence.{isOpen}
 use Rattle.session.specs.Outcome.{Held, Outcome, silent}
 use Rattle.session.specs.Time.{clockRefusal}
-use Rattle.session.specs.Sending.{posted, isPending, nextEnvelope, sendRefusal, sent, send, headerStop, detailStop, lotTotalStop, sessionTotalStop, partAdds, sendHeader, sendDetail, sendLotTotal, sendSessionTotal}
+use Rattle.session.specs.Sending.{headerBody, posted, isPending, nextEnvelope, sendRefusal, sent, send, headerStop, detailStop, lotTotalStop, sessionTotalStop, partAdds, sendHeader, sendDetail, sendLotTotal, sendSessionTotal}
 use Rattle.session.specs.Receiving.{isNext, receiveRefusal, receive, afterNew, afterRepeat, replying}
 use Rattle.session.specs.Reply.{isAccepted, replyRefusal, replied, takeReply}
 use Rattle.session.specs.Clock.{ticked, clock}
@@ -54,6 +51,7 @@ use Rattle.session.proofs.Laws.Ledger.{summary, openOf, Finds, effectOf
 use Rattle.session.proofs.Laws.Line.{accepts, MessageFact, ReplyFact, message-no-reply, route-told, serial-read}
 use Rattle.session.proofs.Laws.Joined.{OnLine, waitingEffect, eventOf, Link, PresentingEnd, ReceivingEnd, presentingEnd, Joined, passed-by, refused-by, not-entered}
 use Rattle.session.proofs.Laws.Foreign.{Foreign, nothing-foreign, next-fits, reply-foreign}
+use Rattle.session.proofs.Laws.Written.{header-takes, detail-long}
 use Rattle.session.proofs.Laws.Entries.{header-entry, detail-entry, lot-total-entry, session-total-entry, open-lot-same}
 
 pub pending-some : (e : Entry) (b : Ledger) → isPending (waitingEffect (some e) b) ≡ true
@@ -62,13 +60,6 @@ pending-some (Entry.detail ds) b = refl
 pending-some Entry.lotTotal b = refl
 pending-some Entry.sessionTotal b = refl
 pending-some Entry.unknown b = refl
-
--- a detail that may be sent is no longer than a message may be
-detail-long : (operation : ℕ) (part : List ℕ) → sendableDetail operation part ≡ true → lengthGood Kind.Message (envelopeBytes + length (writtenDetail (packedByte operation) part)) ≡ true
-detail-long operation part s =
-    let fit = sendable-part operation part s in
-    let size = written-bytes (packedByte operation) part in
-    λ i. le-leb (envelopeBytes + 1) (envelopeBytes + length (writtenDetail (packedByte operation) part)) (omega (arith, size, fit .least)) i && le-leb (envelopeBytes + length (writtenDetail (packedByte operation) part)) messageRoom (omega (arith, size, fit .whole, fit .most)) i
 
 module _ (x : End) (e : Engine) (ready : Ready e) (different : e .session .parties .own ≡ e .session .parties .partner → ⊥) (r : ReceivingEnd) (bp : PresenterLedger) (trace : List Event) where
   abbrev route : Route
@@ -254,18 +245,15 @@ module _ (x : End) (e : Engine) (ready : Ready e) (different : e .session .parti
         (λ (z : clockRefusal time (e .session .seen) (e .session .close) ≡ 0). passed-by route here r trace j _ (λ (n : 0 ≡ 0). nothing-foreign route))
 
     -- what a presenter's own code lets pass is a message that its receiver reads as it was meant
-    header-fits : (time moment centre number : ℕ) → headerStop time moment centre number p ≡ 0 → (Effect.Header number ≡ waitingEffect (some (Entry.header number)) (bp .ledger)) × (bodyEntry (bodyBytes route (Body.opening (record { time = moment; centre = centre; number = number }))) ≡ Entry.header number) × (lengthGood Kind.Message (envelopeBytes + length (bodyBytes route (Body.opening (record { time = moment; centre = centre; number = number })))) ≡ true)
-    unfolding headerStop
-    header-fits time moment centre number z =
-        let s = ready .sound .parties in
-        let fields = passed 1 (not (sendable moment centre number)) _ (lit< tt) z in
-        (refl, header-entry route (record { time = moment; centre = centre; number = number }) (omega (arith, s .date)) (omega (arith, s .own)) (omega (arith, s .partner)) (not-false (sendable moment centre number) (fields .0)), short route (Body.opening (record { time = moment; centre = centre; number = number })))
+    header-fits : (time moment centre number : ℕ) → headerStop time moment centre number p ≡ 0 → let body = bodyBytes route (headerBody moment centre number) in (Effect.Header number ≡ waitingEffect (some (Entry.header number)) (bp .ledger)) × (bodyEntry body ≡ Entry.header number) × (lengthGood Kind.Message (envelopeBytes + length body) ≡ true)
+    header-fits time moment centre number z = (refl, header-entry route (record { time = moment; centre = centre; number = number }) (header-takes (e .session) (ready .sound) time moment centre number z), short route (headerBody moment centre number))
 
-    detail-fits : (operation : ℕ) (part : List ℕ) → detailStop operation (e .session .parties .partner) part pt p ≡ 0 → (Effect.Detail (partAdds operation part) ≡ waitingEffect (some (partEntry operation part)) (bp .ledger)) × (bodyEntry (writtenDetail (packedByte operation) part) ≡ partEntry operation part) × (lengthGood Kind.Message (envelopeBytes + length (writtenDetail (packedByte operation) part)) ≡ true)
+    detail-fits : (operation : ℕ) (part : List ℕ) → detailStop operation (e .session .parties .partner) part pt p ≡ 0 → let body = writtenDetail (packedByte operation) part in (Effect.Detail (partAdds operation part) ≡ waitingEffect (some (partEntry operation part)) (bp .ledger)) × (bodyEntry body ≡ partEntry operation part) × (lengthGood Kind.Message (envelopeBytes + length body) ≡ true)
     unfolding detailStop
     detail-fits operation part z =
-        let own = none-both (presenterCode operation (e .session .parties .partner) part) _ z in
-        (ap Effect.Detail (sym (detail-sum (packedByte operation) (pieces documentBytes part))), detail-entry operation part (accepted-part operation (e .session .parties .partner) part (own .0) .0), detail-long operation part (accepted-part operation (e .session .parties .partner) part (own .0) .0))
+        let own = none-both (presenterCode operation (e .session .parties .partner) part) _ z .0 in
+        let may = accepted-part operation (e .session .parties .partner) part own .0 in
+        (ap Effect.Detail (sym (detail-sum (packedByte operation) (pieces documentBytes part))), detail-entry operation part may, detail-long operation part may)
 
     pub presenter-step : (call : Call) (line : List ℕ) → Brought call trace → let d = performed call line e in Joined route (presentingEnd (d .engine .session .presenting) (d .engine .presenting) (cond (eqb (saidBy d .number) 0) (presenterEnters call (saidBy d .bytes) bp) bp)) r (record { at = x; call = call; said = saidBy d } ∷ trace)
     unfolding performed meaning sendHeader sendDetail sendLotTotal sendSessionTotal

@@ -33,10 +33,9 @@ use Rattle.session.specs.Receiving.{isNext, earnedCode, receivedEffect, 
 use Rattle.session.specs.Reply.{isAccepted, replyRefusal, takeReply}
 use Rattle.session.specs.Clock.{clock}
 use Rattle.session.specs.Premise.{OpenSound}
-use Rattle.session.specs.Ledger.{Entry, enter, bodyEntry, receivedEntry}
+use Rattle.session.specs.Ledger.{enter, bodyEntry, receivedEntry}
 use Rattle.message.specs.declared.content.Content.{Content}
 use Rattle.message.specs.Reply.{replyOperation}
-use mathlib.Core.Option.{some}
 use Rattle.session.specs.Engine.{Call, Engine, saidBy, meaning, lent, performed, Ready}
 use Rattle.session.specs.Ends.{End, Event, WrittenBefore, Brought}
 use Rattle.session.specs.Entering.{ReceiverLedger, firstReceived, receiverEnters}

@@ -1,0 +1,124 @@
+-- What a send writes is read as it was meant: every number is within its field, because the premise bounds counters and running totals and the
+-- presenter's own codes bound the arguments. A limit that let a total grow past its field has no proof here.
+use mathlib.Core.Path.{_≡_, ap, sym, subst, _∙_}
+use mathlib.Core.Bool.{true, not, _&&_}
+use mathlib.Core.List.{List}
+use Prim.Native.Nat.{ℕ, suc, _+_, _<_, _^_}
+use native.Mathlib.Omega.{arith}
+use lib.Dec.{lit<}
+use lib.ListN.{length, take}
+use borrow.Author.Tests.{not-false, le-leb}
+use Rattle.packed.specs.Writing.{packedByte}
+use Rattle.codes.specs.Body.{operationOf}
+use Rattle.codes.proofs.Laws.Chain.{passed, none-both}
+use Rattle.detail.specs.Groups.{documents}
+use Rattle.detail.specs.Codes.{receiverCode, presenterCode, sendable as sendableDetail}
+use Rattle.detail.specs.Writing.{writtenDetail}
+use Rattle.detail.proofs.Laws.Codes.{accepted-part, sendable-part}
+use Rattle.detail.proofs.Laws.Writing.{written-bytes}
+use Rattle.detail.proofs.Laws.RoundTrip.{fields-again, accepted-there}
+use Rattle.message.specs.declared.envelope.Kind.{Kind}
+use Rattle.message.specs.Limits.{envelopeBytes, messageRoom, largestSerial}
+use Rattle.message.specs.Envelope.{lengthGood}
+use Rattle.message.specs.Header.{sendable}
+use Rattle.message.specs.Line.{wholeMessage}
+use Rattle.message.specs.RoundTrip.{BodyFits}
+use Rattle.message.proofs.Laws.Envelope.{body-told, written-then-read}
+use Rattle.message.proofs.Laws.Header.{in-range}
+use Rattle.message.proofs.Laws.Total.{lot-in-range, session-in-range}
+use Rattle.message.proofs.Laws.Line.{message-read}
+use Rattle.session.specs.declared.counters.OpenLot.{OpenLot}
+use Rattle.session.specs.declared.effect.Effect.{Effect}
+use Rattle.session.specs.declared.session.Session.{Session}
+use Rattle.session.specs.Limits.{mostLotDocuments}
+use Rattle.session.specs.Parties.{presentingRoute}
+use Rattle.session.specs.Running.{Running}
+use Rattle.session.specs.Outcome.{Held, Outcome}
+use Rattle.session.specs.Sending.{nextEnvelope, sendRefusal, posted, send, headerStop, detailStop, openNumber, headerBody, lotTotalBody, sessionTotalBody, sendHeader, sendDetail, sendLotTotal, sendSessionTotal}
+use Rattle.session.specs.Premise.{Fits, OpenSound, Sound}
+use Rattle.session.specs.Engine.{Call, meaning}
+use Rattle.session.specs.Written.{ReadsAsDetail, AsMeant, WrittenAsMeant}
+use Rattle.session.proofs.Laws.Decided.{either, first-bytes}
+use Rattle.session.proofs.Laws.Refusals.{SendTold, send-told}
+use Rattle.session.proofs.Laws.Foreign.{next-fits}
+
+-- a detail that may be sent is no longer than a message may be
+pub detail-long : (operation : ℕ) (part : List ℕ) → sendableDetail operation part ≡ true → lengthGood Kind.Message (envelopeBytes + length (writtenDetail (packedByte operation) part)) ≡ true
+detail-long operation part s =
+    let fit = sendable-part operation part s in
+    let size = written-bytes (packedByte operation) part in
+    let whole = envelopeBytes + length (writtenDetail (packedByte operation) part) in
+    λ i. le-leb (envelopeBytes + 1) whole (omega (arith, size, fit .least)) i && le-leb whole messageRoom (omega (arith, size, fit .whole, fit .most)) i
+
+-- the number of an open lot fits its field, and 0 does where none is open
+number-fits : (lot : OpenLot) (lots : ℕ) → OpenSound lot lots → openNumber lot < 100 ^ 2
+number-fits OpenLot.None lots s = omega arith
+number-fits (OpenLot.Numbered n) lots s = omega (arith, s .0)
+
+module _ (s : Session) (sound : Sound s) where
+  -- the bodies of the three sends of a fixed length
+  pub header-takes : (time moment centre number : ℕ) → headerStop time moment centre number (s .presenting) ≡ 0 → BodyFits (nextEnvelope s) (headerBody moment centre number)
+  unfolding headerStop
+  header-takes time moment centre number z =
+      let p = sound .parties in
+      let fields = passed 1 (not (sendable moment centre number)) _ (lit< tt) z in
+      in-range (presentingRoute (s .parties)) (record { time = moment; centre = centre; number = number }) (omega (arith, p .date)) (omega (arith, p .own)) (omega (arith, p .partner)) (not-false (sendable moment centre number) (fields .0))
+
+  lot-total-takes : (t : Running) → Fits mostLotDocuments t → BodyFits (nextEnvelope s) (lotTotalBody (s .presenting .counters) t)
+  lot-total-takes t f =
+      let c = s .presenting .counters in
+      lot-in-range (record { number = openNumber (c .current); stated = t }) (number-fits (c .current) (c .lots) (sound .presenting .open-lot)) (omega (arith, f .documents)) (omega (arith, f .documents, f .nominal)) (omega (arith, f .documents, f .commission))
+
+  session-total-takes : BodyFits (nextEnvelope s) (sessionTotalBody (s .presenting .counters))
+  session-total-takes =
+      let c = s .presenting .counters in
+      let f = sound .presenting .gathered in
+      let lots = sound .presenting .lots in
+      session-in-range (record { number = c .lots; stated = c .gathered }) (omega (arith, lots)) (omega (arith, lots, f .documents)) (omega (arith, lots, f .documents, f .nominal)) (omega (arith, lots, f .documents, f .commission))
+
+  -- and a detail, whose documents are read one by one
+  detail-read : (operation : ℕ) (part : List ℕ) (t : Running) → s .presenting .serial < largestSerial → detailStop operation (s .parties .partner) part t (s .presenting) ≡ 0 → ReadsAsDetail (nextEnvelope s) operation part (wholeMessage (nextEnvelope s) (writtenDetail (packedByte operation) part))
+  unfolding detailStop
+  detail-read operation part t more z =
+      let own = none-both (presenterCode operation (s .parties .partner) part) _ z .0 in
+      let may = accepted-part operation (s .parties .partner) part own .0 in
+      let body = writtenDetail (packedByte operation) part in
+      let follows = body-told Kind.Message (nextEnvelope s) body in
+      record {
+        envelope = written-then-read Kind.Message (nextEnvelope s) body (next-fits s sound more) (detail-long operation part may);
+        operation-read = ap operationOf follows ∙ fields-again operation part may .0;
+        documents-read = ap documents follows ∙ fields-again operation part may .1;
+        code-there = λ (represented : List ℕ). ap (receiverCode (s .parties .partner) represented) follows ∙ accepted-there operation (s .parties .partner) part represented own;
+      }
+
+-- what stands at the start of the line buffer after a send is what was posted
+module _ (call : Call) (time code : ℕ) (effect : Effect) (body : List ℕ) (h : Held) where
+  abbrev bytes : List ℕ
+  bytes = wholeMessage (nextEnvelope (h .session)) body
+
+  sent-so : (SendTold code bytes h → AsMeant call h bytes) → let o = send time code effect body h in o .number ≡ 0 → AsMeant call h (take (o .written) (o .left .line))
+  unfolding send
+  sent-so meant =
+      let refusal = sendRefusal time code (length bytes) (length (h .line)) (h .session) in
+      either (λ (o : Outcome). o .number ≡ 0 → AsMeant call h (take (o .written) (o .left .line))) refusal h (posted time effect body h)
+      (λ (k : ℕ) (n : suc k ≡ 0). absurd (omega arith))
+      (λ (e : refusal ≡ 0) (n : 0 ≡ 0). let told = send-told time code bytes h e in subst (AsMeant call h) (sym (first-bytes bytes (h .line) (told .room))) (meant told))
+
+pub written-as-meant : WrittenAsMeant
+unfolding meaning sendHeader sendDetail sendLotTotal sendSessionTotal
+written-as-meant (Call.header time moment centre number) h sound carried =
+    let s = h .session in
+    sent-so (Call.header time moment centre number) time _ _ _ h
+    (λ told. message-read (nextEnvelope s) (headerBody moment centre number) (next-fits s sound (told .more)) (header-takes s sound time moment centre number (told .unstopped)))
+written-as-meant (Call.detail time operation part) h sound carried =
+    sent-so (Call.detail time operation part) time _ _ _ h (λ told. detail-read (h .session) sound operation part (h .running) (told .more) (told .unstopped))
+written-as-meant (Call.lotTotal time) h sound carried =
+    let s = h .session in
+    sent-so (Call.lotTotal time) time _ _ _ h (λ told. message-read (nextEnvelope s) (lotTotalBody (s .presenting .counters) (h .running)) (next-fits s sound (told .more)) (lot-total-takes s sound (h .running) (carried .fits)))
+written-as-meant (Call.sessionTotal time) h sound carried =
+    let s = h .session in
+    sent-so (Call.sessionTotal time) time _ _ _ h (λ told. message-read (nextEnvelope s) (sessionTotalBody (s .presenting .counters)) (next-fits s sound (told .more)) (session-total-takes s sound))
+written-as-meant (Call.receive time message) h sound carried = λ n. tt
+written-as-meant (Call.reply time reply) h sound carried = λ n. tt
+written-as-meant (Call.clock time) h sound carried = λ n. tt
+written-as-meant Call.report h sound carried = λ n. tt

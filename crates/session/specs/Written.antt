@@ -1,0 +1,51 @@
+-- 01, 'Layouts', its last sentence, of every message that a send writes: whoever reads it finds the envelope and the fields that were meant. So every
+-- number that a presenter writes fits its field, at the limits that are in force. Proved in proofs/Laws/Written.
+use Prim.Native.Nat.{ℕ}
+use mathlib.Core.Path.{_≡_}
+use mathlib.Core.Bool.{not}
+use mathlib.Core.List.{List}
+use lib.ListN.{take}
+use Rattle.packed.specs.Every.{every}
+use Rattle.packed.specs.Writing.{packedByte}
+use Rattle.codes.specs.Body.{operationOf}
+use Rattle.codes.specs.Chain.{_when_}
+use Rattle.document.specs.Drawee.{draweeServed}
+use Rattle.document.specs.Part.{documentsOf}
+use Rattle.detail.specs.Groups.{documents}
+use Rattle.detail.specs.Codes.{receiverCode}
+use Rattle.message.specs.declared.envelope.Envelope.{Envelope}
+use Rattle.message.specs.declared.envelope.Kind.{Kind}
+use Rattle.message.specs.Envelope.{bodyOf}
+use Rattle.message.specs.Line.{Body}
+use Rattle.message.specs.RoundTrip.{EnvelopeRead, BodyRead}
+use Rattle.session.specs.Parties.{Direction}
+use Rattle.session.specs.Outcome.{Held}
+use Rattle.session.specs.Sending.{nextEnvelope, headerBody, lotTotalBody, sessionTotalBody}
+use Rattle.session.specs.Premise.{Sound, Carried}
+use Rattle.session.specs.Engine.{Call, meaning}
+
+-- a header or a total: every field as it was meant, and no fault
+abbrev pub ReadsAs : Envelope → Body → (bytes : List ℕ) → Type 0
+ReadsAs e x bytes = EnvelopeRead Kind.Message e bytes × BodyRead e x (bodyOf bytes)
+
+-- a detail: its operation and its documents, keys included; and its receiver, whomever that represents, finds no fault but a drawee that is not served
+pub record ReadsAsDetail (e : Envelope) (operation : ℕ) (part bytes : List ℕ) : Type 0 where
+  pub envelope : EnvelopeRead Kind.Message e bytes
+  pub operation-read : operationOf (bodyOf bytes) ≡ packedByte operation
+  pub documents-read : documents (bodyOf bytes) ≡ documentsOf part
+  pub code-there : (represented : List ℕ) → receiverCode (e .route .receiving) represented (bodyOf bytes) ≡ (6 when not (every (draweeServed (packedByte operation) (e .route .receiving) represented) (documentsOf part)))
+
+-- what a call that sends means to say, with what it is lent; the others write no message
+abbrev pub AsMeant : Call → Held → (bytes : List ℕ) → Type 0
+AsMeant (Call.header time moment centre number) h bytes = ReadsAs (nextEnvelope (h .session)) (headerBody moment centre number) bytes
+AsMeant (Call.detail time operation part) h bytes = ReadsAsDetail (nextEnvelope (h .session)) operation part bytes
+AsMeant (Call.lotTotal time) h bytes = ReadsAs (nextEnvelope (h .session)) (lotTotalBody (h .session .presenting .counters) (h .running)) bytes
+AsMeant (Call.sessionTotal time) h bytes = ReadsAs (nextEnvelope (h .session)) (sessionTotalBody (h .session .presenting .counters)) bytes
+AsMeant (Call.receive time message) h bytes = Unit {0}
+AsMeant (Call.reply time reply) h bytes = Unit {0}
+AsMeant (Call.clock time) h bytes = Unit {0}
+AsMeant Call.report h bytes = Unit {0}
+
+-- of every call that is not refused, what it wrote
+abbrev pub WrittenAsMeant : Type 0
+WrittenAsMeant = (call : Call) (h : Held) → Sound (h .session) → Carried Direction.presenting (h .session) (h .running) → let o = meaning call h in o .number ≡ 0 → AsMeant call h (take (o .written) (o .left .line))
