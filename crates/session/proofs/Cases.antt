@@ -14,6 +14,7 @@ use Rattle.detail.specs.Limits.{headBytes}
 use Rattle.detail.specs.declared.checked.Checked.{Checked}
 use Rattle.detail.specs.Checked.{fourNumbers, programChecked}
 use Rattle.session.specs.declared.counters.Counters.{Counters}
+use Rattle.session.specs.declared.session.Close.{Close}
 use Rattle.session.specs.Running.{documentsIn}
 use Rattle.session.specs.Start.{start}
 use Rattle.session.specs.Outcome.{seenAt, withPresenting, withReceiving}
@@ -22,49 +23,54 @@ use Rattle.session.specs.Engine.{Call, Engine, Performed, performed, sai
 use Rattle.session.specs.Ends.{End}
 use Rattle.session.proofs.Examples.{computing, buffer, moment, Sent, messageFrom, replyTo, sending, receiving, replied}
 
--- what a case asks: what the check program shows of a body; the number of a call; its number and the reply that it writes; all that it says and leaves; its number
--- with a line buffer of so many bytes
-data Asked : Type 0 where
+-- what a case asks: what the check program shows of a body; the number of a start, and of a call; its number and the reply that it writes; all that it
+-- says and leaves; its number with a line buffer of so many bytes; the close that it leaves
+pub data Asked : Type 0 where
   checked : (body : List ℕ) → Asked
+  started : (date own partner : ℕ) (represented : List ℕ) → Asked
   number : Engine → Call → Asked
   reply : Engine → Call → Asked
   everything : Engine → Call → Asked
   inRoom : (bytes : ℕ) → Engine → Call → Asked
+  close : Engine → Call → Asked
 
 -- and what it gets; beside a reply stand the open lot, 0 for none, and its documents
-data Answer : Type 0 where
+pub data Answer : Type 0 where
   checked : Checked → Answer
   number : ℕ → Answer
   reply : (number operation code lot documents : ℕ) → Answer
   everything : Performed → Answer
+  close : Close → Answer
 
 abbrev replied-by : Performed → Answer
 replied-by d =
     Answer.reply (d .number) (byteValue (byteAt 15 (saidBy d .bytes))) (byteValue (byteAt 16 (saidBy d .bytes)))
     (openNumber (d .engine .session .receiving .counters .current)) (documentsIn (d .engine .receiving))
 
-abbrev answer : Asked → Answer
+abbrev pub answer : Asked → Answer
 answer (Asked.checked body) = Answer.checked (programChecked body)
+answer (Asked.started date own partner represented) = Answer.number (start date own partner represented .number)
 answer (Asked.number e call) = Answer.number (performed call buffer e .number)
 answer (Asked.reply e call) = replied-by (performed call buffer e)
 answer (Asked.everything e call) = Answer.everything (performed call buffer e)
 answer (Asked.inRoom bytes e call) = Answer.number (performed call (replicate bytes 0) e .number)
+answer (Asked.close e call) = Answer.close (performed call buffer e .engine .session .close)
 
 -- the printed line: code, documents, nominal, commission
 abbrev shows : ℕ → Totals → Answer
 shows code t = Answer.checked (fourNumbers code t)
 
 -- a case beside the paper's answer
-record Case : Type 0 where
-  asked : Asked
-  due : Answer
+pub record Case : Type 0 where
+  pub asked : Asked
+  pub due : Answer
 
 infix 70 _is_
-abbrev _is_ : Asked → Answer → Case
+abbrev pub _is_ : Asked → Answer → Case
 asked is due = record { asked = asked; due = due }
 
 -- 01, 'The check program': a detail of one document
-abbrev printed : List ℕ
+abbrev pub printed : List ℕ
 printed =
     0x00 ∷ 0x51 ∷ 0x30 ∷ 0x01
     ∷ 0x00 ∷ 0x00 ∷ 0x00 ∷ 0x00 ∷ 0x01
@@ -88,48 +94,48 @@ printed =
     ∷ []
 
 -- bytes with another byte at a position
-abbrev with-byte : (position byte : ℕ) → List ℕ → List ℕ
+abbrev pub with-byte : (position byte : ℕ) → List ℕ → List ℕ
 with-byte p b s = set s (p - 1) b
 
 -- entity 0081 presents to entity 0072: both engines, just started
-abbrev presenter : Engine
+abbrev pub presenter : Engine
 presenter = withEmpty (start 140328 81 72 [] .session)
 
-abbrev receiver : Engine
+abbrev pub receiver : Engine
 receiver = withEmpty (start 140328 72 81 [] .session)
 
 -- a message reaches the receiver
-abbrev arriving : (time serial : ℕ) → Sent → Call
+abbrev pub arriving : (time serial : ℕ) → Sent → Call
 arriving time serial x = receiving time End.near serial x
 
 -- what an engine is after some calls
-abbrev after : List Call → Engine → Engine
+abbrev pub after : List Call → Engine → Engine
 after [] e = e
 after (call ∷ calls) e = after calls (performed call buffer e .engine)
 
 -- lot 7 is open, at the presenter and at the receiver
-abbrev openPresenter : Engine
+abbrev pub openPresenter : Engine
 openPresenter = after (sending 80000 (Sent.header 7) ∷ replied 80000 End.near 1 (Sent.header 7) Code.Accepted ∷ []) presenter
 
-abbrev openReceiver : Engine
+abbrev pub openReceiver : Engine
 openReceiver = after (arriving 80000 1 (Sent.header 7) ∷ []) receiver
 
 -- the open lot has so many documents
-abbrev holding : (documents : ℕ) → Engine → Engine
+abbrev pub holding : (documents : ℕ) → Engine → Engine
 holding n e = record { session = e .session; presenting = totals n 0 0; receiving = totals n 0 0 }
 
 -- the printed document as a detail, and the total of a lot that has it alone
-abbrev detail : Sent
+abbrev pub detail : Sent
 detail = Sent.detail presentedNumber (drop headBytes printed)
 
-abbrev total : (lot : ℕ) → Sent
+abbrev pub total : (lot : ℕ) → Sent
 total n = Sent.lotTotal n (totals 1 15000 30)
 
 -- after serial 5: lot 7 was accepted, and lot 8 has the same document
 abbrev fifth : Performed
 fifth = performed (arriving 80000 5 detail) buffer (after (arriving 80000 2 detail ∷ arriving 80000 3 (total 7) ∷ arriving 80000 4 (Sent.header 8) ∷ []) openReceiver)
 
-abbrev five : Engine
+abbrev pub five : Engine
 five = fifth .engine
 
 -- what the fifth message got, but for a later time that was seen
@@ -183,7 +189,7 @@ starred-cases = refl
 abbrev manyLots : (lots : ℕ) → Counters → Counters
 manyLots n c = record { current = c .current; lots = n; gathered = c .gathered }
 
-abbrev withLots : (lots : ℕ) → Engine → Engine
+abbrev pub withLots : (lots : ℕ) → Engine → Engine
 withLots n e =
     let s = e .session in
     let p = s .presenting in
@@ -196,7 +202,7 @@ withLots n e =
       receiving = e .receiving;
     }
 
-abbrev withSerial : (serial : ℕ) → Engine → Engine
+abbrev pub withSerial : (serial : ℕ) → Engine → Engine
 withSerial n e =
     let p = e .session .presenting in
     record {
@@ -206,14 +212,33 @@ withSerial n e =
     }
 
 -- the receiver when lot 7 was accepted, and when the direction has ended
-abbrev onePast : Engine
+abbrev pub onePast : Engine
 onePast = after (arriving 80000 2 detail ∷ arriving 80000 3 (total 7) ∷ []) openReceiver
 
 abbrev endedReceiver : Engine
 endedReceiver = after (arriving 80000 1 (Sent.sessionTotal 0 zeros) ∷ []) receiver
 
+-- the presenter when its direction has ended, and when both have
+abbrev endedPresenter : Engine
+endedPresenter = after (sending 80000 (Sent.sessionTotal 0 zeros) ∷ replied 80000 End.near 1 (Sent.sessionTotal 0 zeros) Code.Accepted ∷ []) presenter
+
+abbrev bothEnded : Engine
+bothEnded = after (receiving 80000 End.far 1 (Sent.sessionTotal 0 zeros) ∷ []) endedPresenter
+
+-- entity 0072 that represents 0073, with lot 7 open
+abbrev representing : Engine
+representing = after (arriving 80000 1 (Sent.header 7) ∷ []) (withEmpty (start 140328 72 81 (73 ∷ []) .session))
+
+-- the printed document with another drawee
+abbrev pub drawnOn : (byte : ℕ) → Sent
+drawnOn b = Sent.detail presentedNumber (drop headBytes (with-byte 37 b printed))
+
+-- a header but for its operation, which is none of 01's
+abbrev strange : Call
+strange = Call.receive 80000 (with-byte 15 0x02 (messageFrom End.near 1 (Sent.header 7)))
+
 -- Beside the starred cases, every other number that the state, the clock, the line or the buffer decides, each where it begins and where it does
--- not yet: one table, one theorem.
+-- not yet, and every close: one table, one theorem.
 every-number :
     let cases : List Case =
     -- 20, 30, 31, 32
@@ -269,6 +294,35 @@ every-number :
     ∷ Asked.reply onePast (arriving 80000 4 (Sent.sessionTotal 1 (totals 1 15000 30))) is Answer.reply 0 97 0 0 0
     ∷ Asked.reply onePast (arriving 80000 4 (Sent.sessionTotal 2 (totals 1 15000 30))) is Answer.reply 0 97 8 0 0
     ∷ Asked.reply onePast (arriving 80000 4 (Sent.sessionTotal 1 (totals 1 15001 30))) is Answer.reply 0 97 8 0 0
+    -- 04 goes by what is stated, not by what was gathered
+    ∷ Asked.reply five (arriving 80000 6 (Sent.lotTotal 8 (totals 1 15000 31))) is Answer.reply 0 87 8 0 0
+    -- 06 asks the represented entities too
+    ∷ Asked.reply representing (arriving 80000 2 (drawnOn 0x73)) is Answer.reply 0 86 0 7 1
+    ∷ Asked.reply representing (arriving 80000 2 (drawnOn 0x74)) is Answer.reply 0 86 6 7 0
+    -- 01 for another operation; neither that nor a refused session total ends the direction
+    ∷ Asked.reply receiver strange is Answer.reply 0 86 1 0 0
+    ∷ Asked.reply (after (strange ∷ []) receiver) (arriving 80000 2 (Sent.header 7)) is Answer.reply 0 86 0 7 0
+    ∷ Asked.reply (after (arriving 80000 1 (Sent.sessionTotal 1 zeros) ∷ []) receiver) (arriving 80000 2 (Sent.header 7)) is Answer.reply 0 86 0 7 0
+    -- 24: a real date, of a leap year where it is 29 February; entities and how many; two different ones
+    ∷ Asked.started 290228 81 72 [] is Answer.number 0
+    ∷ Asked.started 290200 81 72 [] is Answer.number 0
+    ∷ Asked.started 290227 81 72 [] is Answer.number 24
+    ∷ Asked.started 290226 81 72 [] is Answer.number 24
+    ∷ Asked.started 280227 81 72 [] is Answer.number 0
+    ∷ Asked.started 300228 81 72 [] is Answer.number 24
+    ∷ Asked.started 1140328 81 72 [] is Answer.number 24
+    ∷ Asked.started 140328 9999 0 (replicate 8 9999) is Answer.number 0
+    ∷ Asked.started 140328 10000 72 [] is Answer.number 24
+    ∷ Asked.started 140328 81 10000 [] is Answer.number 24
+    ∷ Asked.started 140328 81 81 [] is Answer.number 24
+    ∷ Asked.started 140328 81 72 (replicate 9 0) is Answer.number 24
+    ∷ Asked.started 140328 81 72 (10000 ∷ []) is Answer.number 24
+    -- the close is in order where both directions have ended, and a second before the hour there is none
+    ∷ Asked.close bothEnded (Call.clock 84599) is Answer.close Close.Open
+    ∷ Asked.close bothEnded (Call.clock 84600) is Answer.close Close.Ordered
+    ∷ Asked.close endedPresenter (Call.clock 84600) is Answer.close Close.Forced
+    ∷ Asked.close endedReceiver (Call.clock 84600) is Answer.close Close.Forced
+    ∷ Asked.close presenter (Call.clock 84600) is Answer.close Close.Forced
     ∷ []
     in
     map (λ (c : Case). answer (c .asked)) cases ≡ map (λ (c : Case). c .due) cases

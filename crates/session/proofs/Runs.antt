@@ -7,6 +7,7 @@ use mathlib.Core.List.{List, [], _∷_, _++_}
 use mathlib.Core.Logic.{_⊎_, inl, inr, ⊎-elim}
 use Prim.Native.Nat.{ℕ, suc}
 use lib.Dec.{eqb}
+use lib.IntN.{pos, negℤ}
 use lib.ListN.{replicate}
 use borrow.Author.Tests.{eqb-true}
 use Rattle.packed.specs.Part.{byteAt}
@@ -21,6 +22,7 @@ use Rattle.message.specs.declared.envelope.Kind.{Kind}
 use Rattle.message.specs.Envelope.{kindByte}
 use Rattle.session.specs.declared.report.Tally.{Tally}
 use Rattle.session.specs.declared.report.Awaited.{Awaited}
+use Rattle.session.specs.declared.report.Positions.{Positions}
 use Rattle.session.specs.declared.session.Close.{Close}
 use Rattle.session.specs.Hours.{close}
 use Rattle.session.specs.Reply.{replyCode}
@@ -102,6 +104,7 @@ record Standing : Type 0 where
   presented : Tally
   awaited : Awaited
   close : Close
+  positions : Positions
 
 abbrev standing : World → End → Standing
 standing w p =
@@ -112,6 +115,7 @@ standing w p =
       presented = presentedTally w p;
       awaited = reportAt w p .awaited;
       close = reportAt w p .close;
+      positions = reportAt w p .positions;
     }
 
 -- the numbers of the refused calls, and the codes of the replies that were written, the latest first
@@ -173,9 +177,19 @@ document entity nominal commission = drawnOn entity entity nominal commission
 abbrev tally : (lots : ℕ) → Totals → Tally
 tally lots t = record { lots = lots; gathered = t }
 
+-- positions of an end that gets, and of one that owes, and of one that does neither
+abbrev gets : (nominal commission : ℕ) → Positions
+gets nominal commission = record { nominal = pos nominal; commission = pos commission }
+
+abbrev owes : (nominal commission : ℕ) → Positions
+owes nominal commission = record { nominal = negℤ (pos nominal); commission = negℤ (pos commission) }
+
+abbrev even : Positions
+even = gets 0 0
+
 -- the same lots at both ends, and nothing awaited
-abbrev level : List LedgerLot → Tally → Close → Standing
-level lots t close = record { counted = lots; confirmed = lots; received = t; presented = t; awaited = Awaited.Neither; close = close }
+abbrev level : List LedgerLot → Tally → Close → Positions → Standing
+level lots t close positions = record { counted = lots; confirmed = lots; received = t; presented = t; awaited = Awaited.Neither; close = close; positions = positions }
 
 -- Lots of presented documents and of returns go both ways, then both session totals, and both ends close in order.
 abbrev near7 : LedgerLot
@@ -199,8 +213,8 @@ full =
 both-ways : Leads full (record {
   refused = [];
   replies = replicate 13 0;
-  near = level (near7 ∷ near8 ∷ []) (tally 2 (totals 4 44500 76)) Close.Ordered;
-  far = level (far7 ∷ []) (tally 1 (totals 2 10000 12)) Close.Ordered;
+  near = level (near7 ∷ near8 ∷ []) (tally 2 (totals 4 44500 76)) Close.Ordered (gets 34500 64);
+  far = level (far7 ∷ []) (tally 1 (totals 2 10000 12)) Close.Ordered (owes 34500 64);
 })
 unfolding computing
 both-ways = record { possible = possible full justStarted refl; leads = refl }
@@ -224,9 +238,9 @@ abbrev lost : List Step
 lost = exchanged End.near 1 (opening 7) ++ sent End.near (Sent.lotTotal 7 one) ∷ arrived End.near 3 (Sent.lotTotal 7 one) ∷ arrived End.near 3 (Sent.lotTotal 7 one) ∷ []
 
 abbrev ahead : Close → Standing
-ahead close = record { counted = lot 7 ∷ []; confirmed = []; received = tally 1 one; presented = tally 0 zeros; awaited = naming 7; close = close }
+ahead close = record { counted = lot 7 ∷ []; confirmed = []; received = tally 1 one; presented = tally 0 zeros; awaited = naming 7; close = close; positions = even }
 
-named-and-counted : Leads lost (record { refused = []; replies = replicate 4 0; near = ahead Close.Open; far = level [] (tally 0 zeros) Close.Open })
+named-and-counted : Leads lost (record { refused = []; replies = replicate 4 0; near = ahead Close.Open; far = level [] (tally 0 zeros) Close.Open (owes 15000 30) })
 unfolding computing
 named-and-counted = record { possible = possible lost justStarted refl; leads = refl }
 
@@ -234,7 +248,7 @@ named-and-counted = record { possible = possible lost justStarted refl; leads = 
 abbrev found : List Step
 found = lost ++ answered 80000 End.near 3 (Sent.lotTotal 7 one) Code.Accepted ∷ answered 80000 End.near 3 (Sent.lotTotal 7 one) Code.Accepted ∷ []
 
-settled-late : Leads found (record { refused = 35 ∷ []; replies = replicate 4 0; near = level (lot 7 ∷ []) (tally 1 one) Close.Open; far = level [] (tally 0 zeros) Close.Open })
+settled-late : Leads found (record { refused = 35 ∷ []; replies = replicate 4 0; near = level (lot 7 ∷ []) (tally 1 one) Close.Open (gets 15000 30); far = level [] (tally 0 zeros) Close.Open (owes 15000 30) })
 unfolding computing
 settled-late = record { possible = possible found justStarted refl; leads = refl }
 
@@ -259,7 +273,7 @@ again =
     ∷ answered 80000 End.near 3 (Sent.lotTotal 7 zeros) Code.WrongSequence
     ∷ exchanged End.near 4 (opening 7 ++ Sent.lotTotal 7 one ∷ [])
 
-number-used-again : Leads again (record { refused = 21 ∷ 21 ∷ 33 ∷ []; replies = 0 ∷ 0 ∷ 0 ∷ 7 ∷ 6 ∷ 0 ∷ []; near = level (lot 7 ∷ []) (tally 1 one) Close.Open; far = level [] (tally 0 zeros) Close.Open })
+number-used-again : Leads again (record { refused = 21 ∷ 21 ∷ 33 ∷ []; replies = 0 ∷ 0 ∷ 0 ∷ 7 ∷ 6 ∷ 0 ∷ []; near = level (lot 7 ∷ []) (tally 1 one) Close.Open (gets 15000 30); far = level [] (tally 0 zeros) Close.Open (owes 15000 30) })
 unfolding computing
 number-used-again = record { possible = possible again justStarted refl; leads = refl }
 
@@ -271,8 +285,8 @@ duplicate =
 named-not-counted : Leads duplicate (record {
   refused = [];
   replies = 4 ∷ replicate 5 0;
-  near = record { counted = lot 7 ∷ []; confirmed = lot 7 ∷ []; received = tally 1 one; presented = tally 1 one; awaited = naming 8; close = Close.Open };
-  far = level [] (tally 0 zeros) Close.Open;
+  near = record { counted = lot 7 ∷ []; confirmed = lot 7 ∷ []; received = tally 1 one; presented = tally 1 one; awaited = naming 8; close = Close.Open; positions = gets 15000 30 };
+  far = level [] (tally 0 zeros) Close.Open (owes 15000 30);
 })
 unfolding computing
 named-not-counted = record { possible = possible duplicate justStarted refl; leads = refl }
@@ -281,6 +295,6 @@ named-not-counted = record { possible = possible duplicate justStarted refl; lea
 abbrev late : List Step
 late = lost ++ closed ++ answered close End.near 3 (Sent.lotTotal 7 one) Code.Accepted ∷ record { at = End.near; call = Call.report; line = buffer } ∷ []
 
-named-after-close : Leads late (record { refused = 32 ∷ []; replies = replicate 4 0; near = ahead Close.Forced; far = level [] (tally 0 zeros) Close.Forced })
+named-after-close : Leads late (record { refused = 32 ∷ []; replies = replicate 4 0; near = ahead Close.Forced; far = level [] (tally 0 zeros) Close.Forced (owes 15000 30) })
 unfolding computing
 named-after-close = record { possible = possible late justStarted refl; leads = refl }

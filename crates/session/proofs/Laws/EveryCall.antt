@@ -1,4 +1,5 @@
--- Laws of all calls: a refused one gives everything back, the directions never touch each other, the parties never change, the premise is kept.
+-- Laws of all calls: a refused one gives everything back, the directions never touch each other, the parties never change, the last seen time and the
+-- close move as the paper says, the premise is kept.
 use mathlib.Core.Path.{_≡_, refl, ap, subst, sym, _∙_}
 use mathlib.Core.Bool.{Bool, true, false, cond, false≢true}
 use mathlib.Core.List.{List}
@@ -9,16 +10,18 @@ use Rattle.message.specs.Envelope.{envelopeOf, bodyOf}
 use Rattle.message.specs.Line.{wholeReply}
 use Rattle.session.specs.Parties.{Direction, opposite}
 use Rattle.session.specs.declared.counters.OpenLot.{OpenLot}
+use Rattle.session.specs.declared.session.Close.{Close}
 use Rattle.session.specs.declared.session.Presenting.{Presenting}
 use Rattle.session.specs.declared.session.Receiving.{Receiving}
 use Rattle.session.specs.declared.session.Session.{Session}
 use Rattle.session.specs.Running.{Running}
 use Rattle.session.specs.Outcome.{Held, Outcome, refused, decided, silent, wrote, held, withPresenting, withReceiving}
+use Rattle.session.specs.Hours.{atClose}
 use Rattle.session.specs.Time.{timeRefusal, clockRefusal}
 use Rattle.session.specs.Sending.{sendRefusal, send, headerStop, sessionTotalStop, sendHeader, sendDetail, sendLotTotal, sendSessionTotal}
 use Rattle.session.specs.Receiving.{isNext, receiveRefusal, receive, receivingAfter, afterNew, afterRepeat, afterMessage, replying}
 use Rattle.session.specs.Reply.{replyRefusal, takeReply}
-use Rattle.session.specs.Clock.{clock}
+use Rattle.session.specs.Clock.{closing, clock}
 use Rattle.session.specs.Premise.{PendingCarried, Sound, Carried, Kept, KeptBeside}
 use Rattle.session.specs.Engine.{Call, Engine, meaning, directionOf, lent, givenBack, performed, Ready}
 use Rattle.session.proofs.Laws.Decided.{either, unrefused, refused-keeps}
@@ -135,6 +138,42 @@ untouched (Call.receive time bytes) h = either (λ (o : Outcome). Untouched Dire
     either-way : (t : Bool) → Untouched Direction.receiving h (cond t (afterNew time (bodyOf bytes) h) (afterRepeat time h))
     either-way true = record { parties = refl; otherSide = refl }
     either-way false = record { parties = refl; otherSide = refl }
+
+-- 'An unrefused call makes its time the last seen', and only a clock call changes the close: both of a session, and as a call leaves them.
+pub record Stamp : Type 0 where
+  pub seen : ℕ
+  pub close : Close
+
+abbrev pub stampOf : Session → Stamp
+stampOf s = record { seen = s .seen; close = s .close }
+
+abbrev pub stamped : Call → Session → Stamp
+stamped (Call.header time moment centre number) s = record { seen = time; close = s .close }
+stamped (Call.detail time operation part) s = record { seen = time; close = s .close }
+stamped (Call.lotTotal time) s = record { seen = time; close = s .close }
+stamped (Call.sessionTotal time) s = record { seen = time; close = s .close }
+stamped (Call.receive time bytes) s = record { seen = time; close = s .close }
+stamped (Call.reply time bytes) s = record { seen = time; close = s .close }
+stamped (Call.clock time) s = record { seen = time; close = cond (atClose time) (closing s) (s .close) }
+stamped Call.report s = stampOf s
+
+stamp-decided : (stamp : Stamp) (n : ℕ) (h : Held) (done : Outcome) → stampOf (done .left .session) ≡ stamp → decided n h done .number ≡ 0 → stampOf (decided n h done .left .session) ≡ stamp
+stamp-decided stamp n h done d = either (λ (o : Outcome). o .number ≡ 0 → stampOf (o .left .session) ≡ stamp) n h done (λ (k : ℕ) (z : suc k ≡ 0). absurd (omega arith)) (λ (e : n ≡ 0) (z : done .number ≡ 0). d)
+
+pub stamps : (call : Call) (h : Held) → meaning call h .number ≡ 0 → stampOf (meaning call h .left .session) ≡ stamped call (h .session)
+unfolding meaning sendHeader sendDetail sendLotTotal sendSessionTotal send receive takeReply clock
+stamps (Call.header time moment centre number) h = stamp-decided _ _ h _ refl
+stamps (Call.detail time operation part) h = stamp-decided _ _ h _ refl
+stamps (Call.lotTotal time) h = stamp-decided _ _ h _ refl
+stamps (Call.sessionTotal time) h = stamp-decided _ _ h _ refl
+stamps (Call.reply time bytes) h = stamp-decided _ _ h _ refl
+stamps (Call.clock time) h = stamp-decided _ _ h _ refl
+stamps Call.report h = λ z. refl
+stamps (Call.receive time bytes) h = stamp-decided _ _ h _ (either-way (isNext bytes (h .session .receiving .serial)))
+  where
+    either-way : (t : Bool) → stampOf (cond t (afterNew time (bodyOf bytes) h) (afterRepeat time h) .session) ≡ stamped (Call.receive time bytes) (h .session)
+    either-way true = refl
+    either-way false = refl
 
 -- Every call keeps the premise of its direction.
 pub keeps : (call : Call) (h : Held) → Premise (directionOf call) h → Premise (directionOf call) (meaning call h .left)
