@@ -1,2 +1,3 @@
--- The laws that crates above cite.
+-- The laws that crates above cite, and cases computed of the definitions.
 pub mod Laws
+pub mod Cases

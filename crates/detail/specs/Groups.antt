@@ -14,8 +14,7 @@ use Rattle.document.specs.Operation.{isOperation}
 use Rattle.detail.specs.Limits.{headBytes, fullCount, mostGroups, groupBytes}
 use Rattle.document.specs.Part.{documentsOf}
 
--- 'Each count is 4, the last may be 1 to 4': the pieces of a full group's length, the last with what is left; the law `full-but-last` says it of
--- the counts
+-- 'Each count is 4, the last may be 1 to 4': the pieces of a full group's length, the last with what is left; Shape has the sentence as it is printed
 unfoldable pub groups : List ℕ → List (List ℕ)
 groups body = pieces groupBytes body
 

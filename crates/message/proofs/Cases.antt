@@ -1,9 +1,9 @@
 -- Bodies and envelopes at the edges that the paper draws, each beside the number that it earns: one table, one theorem.
-use mathlib.Core.Path.{_≡_, refl}
+use mathlib.Core.Path.{refl}
 use mathlib.Core.Bool.{not}
-use mathlib.Core.List.{List, [], _∷_, _++_, map}
+use mathlib.Core.List.{List, [], _∷_, _++_}
 use Prim.Native.Nat.{ℕ, _-_}
-use lib.ListN.{set, take}
+use lib.ListN.{take}
 use Rattle.packed.specs.Every.{every}
 use Rattle.packed.specs.Digits.{isDigits}
 use Rattle.packed.specs.Number.{byteValue, number}
@@ -12,6 +12,7 @@ use Rattle.codes.specs.Chain.{_when_, _orelse_}
 use Rattle.codes.specs.Numbered.{numbered}
 use Rattle.codes.specs.Code.{codes, codeByte, readCode, knownCode}
 use Rattle.codes.specs.Field.{earning, tableWritten}
+use Rattle.codes.proofs.Cases.{Case, _is_, AllDue, with-byte}
 use Rattle.amounts.specs.Totals.{totals}
 use Rattle.message.specs.declared.route.Route.{Route}
 use Rattle.message.specs.declared.envelope.Kind.{Kind}
@@ -22,19 +23,6 @@ use Rattle.message.specs.Header.{headerFields, header}
 use Rattle.message.specs.Total.{lotTotal, lotTotalFields, sessionTotal, sessionTotalFields}
 use Rattle.message.specs.Reply.{operationNumber, operationByte, replyOperation, replyGood}
 use Rattle.message.specs.Line.{Body, bodyBytes}
-
--- a case: the number that the definitions give, and the one that the paper gives
-record Case : Type 0 where
-  given : ℕ
-  due : ℕ
-
-infix 70 _is_
-abbrev _is_ : ℕ → ℕ → Case
-given is due = record { given = given; due = due }
-
--- bytes with another byte at a position
-abbrev with-byte : (position byte : ℕ) → List ℕ → List ℕ
-with-byte p b s = set s (p - 1) b
 
 -- entity 81 presents to entity 72 on 14 March 2028
 abbrev day : Route
@@ -169,6 +157,6 @@ operations =
     ∷ answer (0x00 ∷ 0x51 ∷ 0x88 ∷ []) is 86
     ∷ []
 
-all-due : let cases = bodies ++ lengths ++ envelopes ++ replies ++ operations in map (λ (c : Case). c .given) cases ≡ map (λ (c : Case). c .due) cases
+all-due : AllDue (bodies ++ lengths ++ envelopes ++ replies ++ operations)
 unfolding bodies lengths envelopes replies operations bodyBytes headerFields lotTotalFields sessionTotalFields envelopeFields tableWritten packedBytes packedByte bodyCode _when_ _orelse_ shapeGood envelopeGood replyGood knownCode readCode numbered codes codeByte operationByte byOperation every earning isDigits number byteValue
 all-due = refl

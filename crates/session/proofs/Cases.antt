@@ -3,16 +3,18 @@
 use mathlib.Core.Path.{_≡_, refl}
 use mathlib.Core.List.{List, [], _∷_, map}
 use Prim.Native.Nat.{ℕ, _-_}
-use lib.ListN.{set, drop, replicate}
+use lib.ListN.{drop, replicate}
 use Rattle.packed.specs.Part.{byteAt}
 use Rattle.packed.specs.Number.{byteValue}
 use Rattle.amounts.specs.declared.Totals.{Totals}
 use Rattle.amounts.specs.Totals.{totals, zeros}
 use Rattle.codes.specs.declared.code.Code.{Code}
+use Rattle.codes.proofs.Cases.{with-byte}
 use Rattle.document.specs.Operation.{presentedNumber}
 use Rattle.detail.specs.Limits.{headBytes}
 use Rattle.detail.specs.declared.checked.Checked.{Checked}
 use Rattle.detail.specs.Checked.{fourNumbers, programChecked}
+use Rattle.detail.proofs.Cases.{printed}
 use Rattle.session.specs.declared.counters.Counters.{Counters}
 use Rattle.session.specs.declared.session.Close.{Close}
 use Rattle.session.specs.Running.{documentsIn}
@@ -68,34 +70,6 @@ pub record Case : Type 0 where
 infix 70 _is_
 abbrev pub _is_ : Asked → Answer → Case
 asked is due = record { asked = asked; due = due }
-
--- 01, 'The check program': a detail of one document
-abbrev pub printed : List ℕ
-printed =
-    0x00 ∷ 0x51 ∷ 0x30 ∷ 0x01
-    ∷ 0x00 ∷ 0x00 ∷ 0x00 ∷ 0x00 ∷ 0x01
-    ∷ 0x00 ∷ 0x00
-    ∷ 0x02 ∷ 0x43 ∷ 0x41 ∷ 0x57
-    ∷ 0x14 ∷ 0x03
-    ∷ 0x00 ∷ 0x81
-    ∷ 0x01 ∷ 0x10
-    ∷ 0x28
-    ∷ 0x00 ∷ 0x72
-    ∷ 0x08
-    ∷ 0x00 ∷ 0x81 ∷ 0x01 ∷ 0x10
-    ∷ 0x00 ∷ 0x00 ∷ 0x00 ∷ 0x01 ∷ 0x50 ∷ 0x00
-    ∷ 0x00 ∷ 0x72
-    ∷ 0x01 ∷ 0x10
-    ∷ 0x00 ∷ 0x00 ∷ 0x12 ∷ 0x34 ∷ 0x56
-    ∷ 0x01
-    ∷ 0x00 ∷ 0x01
-    ∷ 0x00 ∷ 0x00 ∷ 0x00 ∷ 0x30
-    ∷ 0x00 ∷ 0x00 ∷ 0x00 ∷ 0x00
-    ∷ []
-
--- bytes with another byte at a position
-abbrev pub with-byte : (position byte : ℕ) → List ℕ → List ℕ
-with-byte p b s = set s (p - 1) b
 
 -- entity 0081 presents to entity 0072: both engines, just started
 abbrev pub presenter : Engine

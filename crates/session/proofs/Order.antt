@@ -6,12 +6,14 @@ use Prim.Native.Nat.{ℕ}
 use lib.ListN.{drop}
 use Rattle.amounts.specs.Totals.{totals, zeros}
 use Rattle.codes.specs.declared.code.Code.{Code}
+use Rattle.codes.proofs.Cases.{with-byte}
 use Rattle.document.specs.Operation.{presentedNumber}
 use Rattle.detail.specs.Limits.{headBytes}
+use Rattle.detail.proofs.Cases.{printed}
 use Rattle.session.specs.Engine.{Call, Engine}
 use Rattle.session.specs.Ends.{End}
 use Rattle.session.proofs.Examples.{computing, Sent, messageFrom, replyTo, sending}
-use Rattle.session.proofs.Cases.{Asked, Answer, answer, Case, _is_, printed, with-byte, presenter, receiver, arriving, after, openPresenter, openReceiver, holding, detail, drawnOn, total, five, withLots, withSerial, onePast}
+use Rattle.session.proofs.Cases.{Asked, Answer, answer, Case, _is_, presenter, receiver, arriving, after, openPresenter, openReceiver, holding, detail, drawnOn, total, five, withLots, withSerial, onePast}
 
 -- at the close, and with a header that awaits its reply
 abbrev closed : Engine
