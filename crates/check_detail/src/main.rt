@@ -1,9 +1,17 @@
 // The check program (01, 'The check program'): takes the bytes of a detail's body from standard input, and prints the code
 // in two digits and the three totals.
+mod line;
+
+use crate::line::LINE_BYTES;
+use crate::line::write_line;
 use detail::checked::Checked;
 use detail::checked::line_check_detail;
 ghost use mathlib.Core.Path.{_≡_};
+ghost use Prim.Native.Nat.{_≤_};
+ghost use lib.ListN.{length, take};
+ghost use Rattle.io.specs.Counts.{Counts};
 ghost use Rattle.detail.specs.Checked.{programChecked};
+ghost use Rattle.check_detail.specs.Line.{programLine};
 
 // The check of a body, for entity 0072 with nobody represented.
 fn checked(body: &[u8]) -> Checked
@@ -13,23 +21,20 @@ fn checked(body: &[u8]) -> Checked
     line_check_detail(body, 72, &nobody[..0])
 }
 
-fn print(c: Checked) {
-    if c.code < 10 {
-        io::write_all(1, b"0");
-    }
-    io::print_decimal(1, c.code as u64);
-    io::write_all(1, b" ");
-    io::print_decimal(1, c.documents);
-    io::write_all(1, b" ");
-    io::print_decimal(1, c.nominal);
-    io::write_all(1, b" ");
-    io::print_decimal(1, c.commission);
-    io::write_all(1, b"\n");
+// The line for a body stands at the start of the buffer, and is so long.
+fn answer(body: &[u8], line: &mut [u8]) -> usize
+    requires { ⌜ 66 ≤ length (now line) ⌝ }
+    ensures counts { λ r. ⌜ Counts r (now (line .exit)) ⌝ }
+    ensures written { λ r. ⌜ take r (now (line .exit)) ≡ programLine (now (body .entry)) ⌝ }
+{
+    write_line(checked(body), line)
 }
 
 // The buffer holds far more than the longest body, so that a body too long is seen to be so.
 fn main() {
     let mut input = io::large_buffer();
     let n = io::read_full(0, &mut input);
-    print(checked(&input[..n]));
+    let mut line = [0u8; LINE_BYTES];
+    let written = answer(&input[..n], &mut line);
+    io::write_all(1, &line[..written]);
 }

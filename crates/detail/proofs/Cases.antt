@@ -15,6 +15,7 @@ use Rattle.packed.specs.Writing.{packedByte, packedBytes}
 use Rattle.codes.specs.Chain.{_when_, _orelse_}
 use Rattle.codes.specs.Field.{Field, earning}
 use Rattle.codes.proofs.Cases.{Case, _is_, AllDue, with-byte}
+use Rattle.document.specs.Amounts.{nominal, commission, totalsOf}
 use Rattle.document.specs.Drawee.{drawee, draweeServed}
 use Rattle.document.specs.Fields.{documentFields, fieldsGood, amountsGood}
 use Rattle.document.specs.Operation.{presented, presentedNumber, returned, returnedNumber}
@@ -22,7 +23,7 @@ use Rattle.document.specs.Rules.{monthDays}
 use Rattle.detail.specs.Limits.{headBytes}
 use Rattle.detail.specs.Groups.{groups, groupGood, shapeGood, oneOperation, documents}
 use Rattle.detail.specs.Codes.{receiverCode, sendable, presenterCode}
-use Rattle.detail.specs.Checked.{checkedCode}
+use Rattle.detail.specs.Checked.{checkedCode, checked}
 
 -- 01, 'The check program': a detail of one document
 abbrev pub printed : List ℕ
@@ -162,8 +163,8 @@ own =
     ∷ []
 
 -- whoever unfolds this unfolds all that a case computes with
-unfoldable computing : Unit {0}
-unfolding checkedCode receiverCode presenterCode sendable shapeGood oneOperation documents groups groupGood fieldsGood amountsGood documentFields monthDays draweeServed drawee member every isDigits byteValue number cut packedByte packedBytes _when_ _orelse_ earning flatMap
+unfoldable pub computing : Unit {0}
+unfolding checked totalsOf nominal commission checkedCode receiverCode presenterCode sendable shapeGood oneOperation documents groups groupGood fieldsGood amountsGood documentFields monthDays draweeServed drawee member every isDigits byteValue number cut packedByte packedBytes _when_ _orelse_ earning flatMap
 computing = tt
 
 codes-due : AllDue byBytes

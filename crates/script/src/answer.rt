@@ -1,11 +1,11 @@
 // The answer to a line that was read: its words, then the bytes that the call wrote, and a line feed.
 use crate::player::Seat;
 use crate::wording::put_code;
-use crate::wording::put_decimal;
-use crate::wording::put_number;
 use crate::wording::put_signed;
 use crate::wording::put_text;
 use calls::report::report;
+use decimal::put_decimal;
+use decimal::put_number;
 use packed::writing::copy;
 use session::counters::Running;
 use session::report::Awaited;

@@ -1,6 +1,8 @@
 // The words of an answer, put one behind another at the start of a small buffer. Each function is told where the next one
 // goes and answers where the one after it does.
 use amounts::difference::magnitude;
+use decimal::put_decimal;
+use decimal::put_number;
 use packed::writing::copy;
 ghost use mathlib.Core.Path.{_≡_};
 ghost use Prim.Native.Nat.{_+_, _≤_, min};
@@ -34,26 +36,7 @@ pub fn put_text(head: &mut [u8], at: usize, text: &[u8]) -> usize
     at + text.len()
 }
 
-// No number has more than twenty digits.
-pub fn put_decimal(head: &mut [u8], at: usize, value: u64) -> usize
-    requires { ⌜ at + 20 ≤ length (now head) ⌝ }
-    ensures { λ r. ⌜ r ≤ at + 20 ⌝ }
-{
-    let mut digits = [0u8; 20];
-    let count = least(io::decimal(value, &mut digits), 20);
-    put_text(head, at, &digits[..count])
-}
-
-// A number behind a space.
-pub fn put_number(head: &mut [u8], at: usize, value: u64) -> usize
-    requires { ⌜ at + 21 ≤ length (now head) ⌝ }
-    ensures { λ r. ⌜ r ≤ at + 21 ⌝ }
-{
-    let next = put_text(head, at, b" ");
-    put_decimal(head, next, value)
-}
-
-// A signed one.
+// A signed number behind a space.
 pub fn put_signed(head: &mut [u8], at: usize, value: i64) -> usize
     requires { ⌜ at + 22 ≤ length (now head) ⌝ }
     ensures { λ r. ⌜ r ≤ at + 22 ⌝ }

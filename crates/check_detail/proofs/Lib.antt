@@ -1,0 +1,2 @@
+-- What the program writes for 01's example.
+pub mod Cases

@@ -1,0 +1,2 @@
+-- What the check program writes.
+pub mod Line

@@ -1,0 +1,2 @@
+-- A number as decimal text.
+pub mod Decimal
