@@ -3,13 +3,16 @@ use Prim.Native.Nat.{ℕ}
 use mathlib.Core.Bool.{cond}
 use mathlib.Core.List.{List, []}
 use lib.Dec.{eqb}
+use lib.IntN.{pos}
 use lib.ListN.{replicate}
 use Rattle.codes.specs.Chain.{_orelse_}
 use Rattle.outgoing.specs.Outgoing.{checkCode}
-use Rattle.session.specs.declared.report.Tally.{Tally}
+use Rattle.session.specs.declared.counters.Lot.{Lot}
+use Rattle.session.specs.declared.report.Awaited.{Awaited}
 use Rattle.session.specs.declared.report.Report.{Report}
 use Rattle.session.specs.declared.session.Close.{Close}
 use Rattle.session.specs.Hours.{close}
+use Rattle.session.specs.Running.{Running, empty}
 use Rattle.session.specs.Start.{start}
 use Rattle.session.specs.Report.{report}
 use Rattle.session.specs.Engine.{Call, Engine, withEmpty, performed}
@@ -20,27 +23,69 @@ use Rattle.message.specs.Limits.{messageRoom, replyRoom}
 use Rattle.exchange.specs.Fixed.{date, near, far}
 use Rattle.exchange.specs.Course.{Ends, bothDirections}
 
--- a report in plain numbers; the close is 0 for open, 1 for in order, 2 for forced
-abbrev pub sumsOf : Tally → Sums
-sumsOf t = record { lots = t .lots; documents = t .gathered .documents .0; nominal = t .gathered .nominal .0; commission = t .gathered .commission .0 }
+-- counts and sums in plain numbers, of so many lots
+abbrev pub sumsOf : (lots : ℕ) → Running → Sums
+sumsOf lots t = record { lots = lots; documents = t .documents .0; nominal = t .nominal .0; commission = t .commission .0 }
 
+-- 0 for open, 1 for in order, 2 for forced
 abbrev pub closeNumber : Close → ℕ
 closeNumber Close.Open = 0
 closeNumber Close.Ordered = 1
 closeNumber Close.Forced = 2
 
-abbrev pub sideOf : Report → Side
-sideOf r = record { presented = sumsOf (r .presented); received = sumsOf (r .received); close = closeNumber (r .close) }
+-- 0 for neither, 1 for a lot total, 2 for a session total
+abbrev pub awaitedNumber : Awaited → ℕ
+awaitedNumber Awaited.Neither = 0
+awaitedNumber (Awaited.LotTotal lot) = 1
+awaitedNumber Awaited.SessionTotal = 2
 
+-- the lot that is named; where none is, one of number 0 and no documents
+abbrev pub noLot : Lot
+noLot = record { number = 0; gathered = empty }
+
+abbrev pub namedLot : Awaited → Lot
+namedLot (Awaited.LotTotal lot) = lot
+namedLot Awaited.Neither = noLot
+namedLot Awaited.SessionTotal = noLot
+
+-- a report in plain numbers; a named lot is not among the accepted ones, so its sums count no lot
+abbrev pub sideOf : Report → Side
+sideOf r =
+    record {
+      presented = sumsOf (r .presented .lots) (r .presented .gathered);
+      received = sumsOf (r .received .lots) (r .received .gathered);
+      close = closeNumber (r .close);
+      awaited = awaitedNumber (r .awaited);
+      «lot_number» = namedLot (r .awaited) .number;
+      lot = sumsOf 0 (namedLot (r .awaited) .gathered);
+      «nominal_position» = r .positions .nominal;
+      «commission_position» = r .positions .commission;
+    }
+
+-- what stands beside a code
 abbrev pub noSums : Sums
-noSums = record { lots = 0; documents = 0; nominal = 0; commission = 0 }
+noSums = sumsOf 0 empty
 
 abbrev pub noSide : Side
-noSide = record { presented = noSums; received = noSums; close = 0 }
+noSide =
+    record {
+      presented = noSums;
+      received = noSums;
+      close = 0;
+      awaited = 0;
+      «lot_number» = 0;
+      lot = noSums;
+      «nominal_position» = pos 0;
+      «commission_position» = pos 0;
+    }
 
--- the report of an end after its clock call at the close, which uses no line buffer
+-- an end after its clock call at the close, which uses no line buffer
+unfoldable pub closedEnd : Engine → Engine
+closedEnd e = performed (Call.clock close) [] e .engine
+
+-- and its report
 unfoldable pub closedSide : Engine → Side
-closedSide e = sideOf (report (performed (Call.clock close) [] e .engine .session))
+closedSide e = sideOf (report (closedEnd e .session))
 
 -- an end just started, with nobody represented
 abbrev pub startedEnd : (own partner : ℕ) → Engine

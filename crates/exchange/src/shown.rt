@@ -1,9 +1,12 @@
 // What an evening shows: the two reports in plain numbers, as C takes them. include/line.h says what each is.
+use session::counters::Lot;
+use session::counters::Running;
+use session::counters::empty;
+use session::report::Awaited;
 use session::report::Report;
-use session::report::Tally;
 use session::session::Close;
 ghost use mathlib.Core.Path.{_≡_};
-ghost use Rattle.exchange.specs.Evening.{sumsOf, closeNumber, sideOf, noSide};
+ghost use Rattle.exchange.specs.Evening.{sumsOf, closeNumber, awaitedNumber, noLot, namedLot, sideOf, noSide};
 
 #[repr(C)]
 pub struct Sums {
@@ -18,6 +21,11 @@ pub struct Side {
     pub presented: Sums,
     pub received: Sums,
     pub close: u8,
+    pub awaited: u8,
+    pub lot_number: u64,
+    pub lot: Sums,
+    pub nominal_position: i64,
+    pub commission_position: i64,
 }
 
 #[repr(C)]
@@ -27,12 +35,11 @@ pub struct Evening {
     pub far: Side,
 }
 
-fn sums_of(t: Tally) -> Sums
-    ensures { λ r. ⌜ r ≡ sumsOf t ⌝ }
+fn sums_of(lots: u64, gathered: Running) -> Sums
+    ensures { λ r. ⌜ r ≡ sumsOf lots gathered ⌝ }
 {
-    let gathered = t.gathered;
     Sums {
-        lots: t.lots as u64,
+        lots: lots,
         documents: gathered.documents.0,
         nominal: gathered.nominal.0,
         commission: gathered.commission.0,
@@ -49,16 +56,54 @@ fn close_number(close: Close) -> u8
     }
 }
 
+fn awaited_number(awaited: Awaited) -> u8
+    ensures { λ r. ⌜ r ≡ awaitedNumber awaited ⌝ }
+{
+    match awaited {
+        Awaited::Neither => 0,
+        Awaited::LotTotal(_) => 1,
+        Awaited::SessionTotal => 2,
+    }
+}
+
+// A lot of nothing, where none is named.
+fn no_lot() -> Lot
+    ensures { λ r. ⌜ r ≡ noLot ⌝ }
+{
+    Lot {
+        number: 0,
+        gathered: empty(),
+    }
+}
+
+// The lot that is named.
+fn named_lot(awaited: Awaited) -> Lot
+    ensures { λ r. ⌜ r ≡ namedLot awaited ⌝ }
+{
+    match awaited {
+        Awaited::Neither => no_lot(),
+        Awaited::LotTotal(lot) => lot,
+        Awaited::SessionTotal => no_lot(),
+    }
+}
+
 pub fn side_of(r: Report) -> Side
     ensures { λ s. ⌜ s ≡ sideOf r ⌝ }
 {
     let presented = r.presented;
     let received = r.received;
     let close = r.close;
+    let awaited = r.awaited;
+    let lot = named_lot(awaited);
     Side {
-        presented: sums_of(presented),
-        received: sums_of(received),
+        presented: sums_of(presented.lots as u64, presented.gathered),
+        received: sums_of(received.lots as u64, received.gathered),
         close: close_number(close),
+        awaited: awaited_number(awaited),
+        lot_number: lot.number as u64,
+        lot: sums_of(0, lot.gathered),
+        nominal_position: r.positions.nominal,
+        commission_position: r.positions.commission,
     }
 }
 
@@ -66,15 +111,15 @@ pub fn side_of(r: Report) -> Side
 pub fn no_side() -> Side
     ensures { λ s. ⌜ s ≡ noSide ⌝ }
 {
-    let zeros = Sums {
-        lots: 0,
-        documents: 0,
-        nominal: 0,
-        commission: 0,
-    };
+    let nothing = sums_of(0, empty());
     Side {
-        presented: zeros,
-        received: zeros,
+        presented: nothing,
+        received: nothing,
         close: 0,
+        awaited: 0,
+        lot_number: 0,
+        lot: nothing,
+        nominal_position: 0,
+        commission_position: 0,
     }
 }
