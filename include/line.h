@@ -65,7 +65,14 @@ typedef struct line_sums {
 typedef struct line_side {
     line_sums presented;
     line_sums received;
-    uint8_t close; /* 0 open, 1 closed in order, 2 closed forced */
+    uint8_t close;       /* 0 open, 1 closed in order, 2 closed forced */
+    uint8_t awaited;     /* what awaits a reply: 0 neither, 1 a lot total,
+                            2 a session total */
+    uint64_t lot_number; /* of the lot whose total is awaited, else 0 */
+    line_sums lot;       /* its documents and sums, else 0; lots is 0, since
+                            it is not among the accepted ones */
+    int64_t nominal_position;    /* presented less received */
+    int64_t commission_position; /* the same of the commissions */
 } line_side;
 
 /* What an evening gives. Both sides are 0 unless code is 0. */
@@ -89,6 +96,10 @@ typedef struct line_evening {
  * What is refused or replied to with a code stays unsent: nobody mends it,
  * and the reports show what was accepted. Two lots with the same three totals
  * are such a case, so the amounts of a measurement should differ.
+ *
+ * Whatever lies in the trays, each end's received sums are then the other's
+ * presented ones, and neither end awaits a reply. That is proved:
+ * docs/AGREEMENT.md, 'An evening of the driver'.
  *
  * Lengths, pointers and threads are as for line_check_detail. The call needs
  * less than 128 kB of stack and no heap.

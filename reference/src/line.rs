@@ -1,8 +1,8 @@
 //! The bindings to what the line exports for C: the detail check that its driver calls, the
 //! script player for the comparison, and the evening for measurements.
 
-use crate::session::report::Report;
-use crate::session::totals::SessionTotals;
+use crate::session::report::{AwaitedTotal, Report};
+use crate::session::totals::{SessionTotals, Totals};
 use crate::session::Close;
 use crate::Checked;
 use std::cell::RefCell;
@@ -36,13 +36,19 @@ pub struct Side {
     pub received: Sums,
     /// 0 open, 1 in order, 2 forced.
     pub close: u8,
+    /// 0 neither, 1 a lot total, 2 a session total.
+    pub awaited: u8,
+    /// Of the lot whose total is awaited, which is not among the accepted ones; else 0.
+    pub lot_number: u64,
+    pub lot: Sums,
+    pub nominal_position: i64,
+    pub commission_position: i64,
 }
 
-impl From<SessionTotals> for Sums {
-    fn from(of_session: SessionTotals) -> Sums {
-        let totals = of_session.totals;
+impl Sums {
+    fn of(lots: u64, totals: Totals) -> Sums {
         Sums {
-            lots: of_session.lots,
+            lots,
             documents: totals.documents,
             nominal: totals.nominal,
             commission: totals.commission,
@@ -50,8 +56,19 @@ impl From<SessionTotals> for Sums {
     }
 }
 
+impl From<SessionTotals> for Sums {
+    fn from(of_session: SessionTotals) -> Sums {
+        Sums::of(of_session.lots, of_session.totals)
+    }
+}
+
 impl From<Report> for Side {
     fn from(report: Report) -> Side {
+        let (awaited, lot_number, lot) = match report.awaited {
+            AwaitedTotal::None => (0, 0, Sums::default()),
+            AwaitedTotal::Lot(lot) => (1, lot.number.into(), Sums::of(0, lot.totals)),
+            AwaitedTotal::Session => (2, 0, Sums::default()),
+        };
         Side {
             presented: report.presented.into(),
             received: report.received.into(),
@@ -60,6 +77,11 @@ impl From<Report> for Side {
                 Close::Ordered => 1,
                 Close::Forced => 2,
             },
+            awaited,
+            lot_number,
+            lot,
+            nominal_position: report.nominal_position,
+            commission_position: report.commission_position,
         }
     }
 }

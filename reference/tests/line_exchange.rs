@@ -20,6 +20,14 @@ fn compare(near: [usize; 2], far: [usize; 2]) {
     assert_eq!(of_line(&near, &far), expected);
 }
 
+/// What is proved of every evening.
+fn settled(evening: &Evening) {
+    let (near, far) = (&evening.near, &evening.far);
+    assert_eq!(near.received, far.presented);
+    assert_eq!(far.received, near.presented);
+    assert_eq!([near.awaited, far.awaited], [0, 0]);
+}
+
 #[test]
 fn evenings_of_every_size() {
     let sizes = [
@@ -52,7 +60,7 @@ fn one_document_too_many() {
     let far = trays(2, 0, 0, 81);
     let evening = of_line(&near, &far);
     assert_eq!(evening.code, 0);
-    assert_eq!(evening.near.presented, evening.far.received);
+    settled(&evening);
     let taken = (
         evening.near.presented.lots,
         evening.near.presented.documents,
@@ -89,8 +97,7 @@ fn a_bad_document_stays() {
             bad[field..field + 2].fill(byte);
             let evening = of_line(&near, &far);
             assert_eq!(evening.code, 0);
-            assert_eq!(evening.near.presented, evening.far.received);
-            assert_eq!(evening.near.received, evening.far.presented);
+            settled(&evening);
             assert_eq!(evening.near.presented.documents, (at / 200 * 200) as u64);
             assert_eq!(evening.far.presented.documents, 600);
         }

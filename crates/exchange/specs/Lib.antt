@@ -4,3 +4,4 @@ pub mod Fixed
 pub mod Cursors
 pub mod Course
 pub mod Evening
+pub mod Together

@@ -72,7 +72,7 @@ module _ (x : End) (call : Call) (line : List ℕ) (e f : Engine) (bp : Presente
       (receiver-step x e ready different (presentsWith f bp) br trace (subst (λ (route : Route). Joined route (presentsWith f bp) (receivesWith e br) trace) way j) call line brought)
 
 -- what holds of the engine after a call, and of the other end, holds of both
-both-ends : (Q : End → Engine → Type 0) (x : End) (e : Engine) (engine : End → Engine) → Q x e → Q (other x) (engine (other x)) → (y : End) → Q y (replaced x e engine y)
+pub both-ends : (Q : End → Engine → Type 0) (x : End) (e : Engine) (engine : End → Engine) → Q x e → Q (other x) (engine (other x)) → (y : End) → Q y (replaced x e engine y)
 both-ends Q End.near e engine here there End.near = here
 both-ends Q End.near e engine here there End.far = there
 both-ends Q End.far e engine here there End.near = there

@@ -6,6 +6,7 @@ pub mod Codes
 pub mod Allowed
 pub mod Sound
 pub mod EveryCall
+pub mod Clocked
 pub mod Running
 pub mod Ledger
 pub mod Lists
@@ -17,3 +18,4 @@ pub mod Entries
 pub mod Written
 pub mod Presenter
 pub mod Receiver
+pub mod Steps

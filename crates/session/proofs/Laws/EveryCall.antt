@@ -10,6 +10,7 @@ use Rattle.message.specs.Envelope.{envelopeOf, bodyOf}
 use Rattle.message.specs.Line.{wholeReply}
 use Rattle.session.specs.Parties.{Direction, opposite}
 use Rattle.session.specs.declared.counters.OpenLot.{OpenLot}
+use Rattle.session.specs.declared.effect.Effect.{Effect}
 use Rattle.session.specs.declared.session.Close.{Close}
 use Rattle.session.specs.declared.session.Presenting.{Presenting}
 use Rattle.session.specs.declared.session.Receiving.{Receiving}
@@ -256,3 +257,28 @@ serial-taken time body h = refl
 pub repeat-told : (time : ℕ) (bytes : List ℕ) (h : Held) → receiveRefusal time bytes (length (h .line)) (h .session) ≡ 0 → isNext bytes (h .session .receiving .serial) ≡ false → receive time bytes h ≡ wrote (wholeReply (envelopeOf bytes) (h .session .receiving .reply)) (afterRepeat time h)
 unfolding receive
 repeat-told time bytes h e n = (λ i. decided (e i) h (replying bytes (cond (n i) (afterNew time (bodyOf bytes) h) (afterRepeat time h)))) ∙ unrefused h (replying bytes (afterRepeat time h))
+
+-- A refused call leaves the engine as it was.
+pub refused-engine : (call : Call) (line : List ℕ) (e : Engine) → (performed call line e .number ≡ 0 → ⊥) → performed call line e .engine ≡ e
+unfolding performed
+refused-engine call line e = go (directionOf call)
+  where
+    go : (d : Direction) → (meaning call (lent d line e) .number ≡ 0 → ⊥) → givenBack d (meaning call (lent d line e) .left) e ≡ e
+    go Direction.presenting n = ap (λ (o : Outcome). givenBack Direction.presenting (o .left) e) (gives-back call (lent Direction.presenting line e) n)
+    go Direction.receiving n = ap (λ (o : Outcome). givenBack Direction.receiving (o .left) e) (gives-back call (lent Direction.receiving line e) n)
+
+-- What is pending at an end: nothing after a reply call that was not refused, and what was before after receiving and after a clock call.
+abbrev pub pendingIn : Engine → Effect
+pendingIn e = e .session .presenting .pending
+
+pub none-pending : (time : ℕ) (bytes line : List ℕ) (e : Engine) → performed (Call.reply time bytes) line e .number ≡ 0 → pendingIn (performed (Call.reply time bytes) line e .engine) ≡ Effect.Nothing
+unfolding performed meaning takeReply
+none-pending time bytes line e = either (λ (o : Outcome). o .number ≡ 0 → o .left .session .presenting .pending ≡ Effect.Nothing) (replyRefusal time bytes (e .session)) (lent Direction.presenting line e) _ (λ (k : ℕ) (z : suc k ≡ 0). absurd (omega arith)) (λ n z. refl)
+
+pub received-pending : (time : ℕ) (bytes line : List ℕ) (e : Engine) → pendingIn (performed (Call.receive time bytes) line e .engine) ≡ pendingIn e
+unfolding performed
+received-pending time bytes line e = ap (λ (p : Presenting). p .pending) (untouched (Call.receive time bytes) (lent Direction.receiving line e) .otherSide)
+
+pub ticked-pending : (time : ℕ) (line : List ℕ) (e : Engine) → pendingIn (performed (Call.clock time) line e .engine) ≡ pendingIn e
+unfolding performed meaning clock
+ticked-pending time line e = either (λ (o : Outcome). o .left .session .presenting .pending ≡ pendingIn e) (clockRefusal time (e .session .seen) (e .session .close)) (lent Direction.presenting line e) _ (λ (k : ℕ). refl) (λ n. refl)

@@ -1,0 +1,283 @@
+-- A round is a list of possible calls: one, if its send is refused, or three, of which the second and the third are those that recovery speaks of. After
+-- it both clocks allow a call again, and nothing is pending.
+use mathlib.Core.Path.{_≡_, refl, ap, sym, subst, _∙_}
+use mathlib.Core.Bool.{Bool, true, false, _&&_, cond}
+use mathlib.Core.List.{List, [], _∷_, _++_}
+use mathlib.Core.Option.{some}
+use Prim.Native.Nat.{ℕ, zero, suc, _≤_}
+use native.Mathlib.Omega.{arith}
+use lib.ListN.{length}
+use lib.Seq.{length-sets}
+use borrow.Author.Tests.{eq-eqb}
+use Rattle.packed.specs.Every.{every}
+use Rattle.codes.specs.Chain.{_when_}
+use Rattle.document.specs.Rules.{monthDays}
+use Rattle.message.specs.Limits.{replyRoom}
+use Rattle.message.specs.Envelope.{envelopeOf, bodyOf}
+use Rattle.message.specs.Line.{wholeReply}
+use Rattle.session.specs.declared.effect.Effect.{Effect}
+use Rattle.session.specs.declared.session.Session.{Session}
+use Rattle.session.specs.Hours.{opening}
+use Rattle.session.specs.Parties.{Direction, realDate, partiesGood}
+use Rattle.session.specs.Start.{start}
+use Rattle.session.specs.Outcome.{Held, Outcome}
+use Rattle.session.specs.Receiving.{isNext, afterNew, afterRepeat, replying, receive}
+use Rattle.session.specs.Ledger.{Entry}
+use Rattle.session.specs.Engine.{Call, Engine, meaning, lent, Performed, performed, saidBy}
+use Rattle.session.specs.Ends.{End, other, Event, World, Step, replaced, act, run, Brought, Possible, StartsAccepted}
+use Rattle.session.specs.Entering.{PresenterLedger, presenterEnters, sameEnd, presenterLedgerAt}
+use Rattle.session.specs.Claim.{Agreement}
+use Rattle.session.specs.Recovery.{ClockAllows, saidAt, Unrefused, delivery, GetsThrough, CanBeAnswered}
+use Rattle.session.proofs.Laws.EveryCall.{stamped, refused-engine, pendingIn, none-pending, received-pending}
+use Rattle.session.proofs.Laws.Clocked.{still-allowed}
+use Rattle.session.proofs.Laws.Decided.{either}
+use Rattle.session.proofs.Laws.Steps.{run-append, possible-append}
+use Rattle.session.proofs.Agreement.{both-ends, agreement}
+use Rattle.session.proofs.Recovery.{recovery}
+use Rattle.exchange.specs.Fixed.{date, near, far}
+use Rattle.exchange.specs.Course.{Ends, endsAfter, roundMade}
+use Rattle.exchange.specs.Together.{bothStarted}
+use Rattle.exchange.proofs.Laws.Rounds.{replied, heard as answer, unheard}
+
+-- a world that calls which the line allows lead to
+pub record Led (w : World) : Type 0 where
+  pub steps : List Step
+  pub possible : Possible steps bothStarted
+  pub leads : run steps bothStarted ≡ w
+
+-- by one call more
+pub one-more : (w : World) → Led w → (s : Step) → Brought (s .call) (w .trace) → Led (act s w)
+unfolding run Possible
+one-more w l s brought =
+    record {
+      steps = l .steps ++ s ∷ [];
+      possible = possible-append (l .steps) (s ∷ []) bothStarted (l .possible) (subst (Possible (s ∷ [])) (sym (l .leads)) (brought, tt));
+      leads = run-append (l .steps) (s ∷ []) bothStarted ∙ ap (act s) (l .leads);
+    }
+
+-- both starts are accepted
+starts : StartsAccepted date near far (λ (x : End). [])
+unfolding start partiesGood realDate monthDays every _when_
+starts = record { near = refl; far = refl }
+
+-- so what is claimed of both ends holds of it
+pub agrees : (w : World) → Led w → (p : End) → Agreement w p
+agrees w l = subst (λ (v : World). (p : End) → Agreement v p) (l .leads) (agreement date near far (λ (x : End). []) starts (l .steps) (l .possible))
+
+answers : (w : World) → Led w → (p : End) → CanBeAnswered w p
+answers w l = subst (λ (v : World). (p : End) → CanBeAnswered v p) (l .leads) (recovery date near far (λ (x : End). []) starts (l .steps) (l .possible))
+
+-- an end between two rounds: its clock allows a call at the opening, and nothing is pending
+pub record Quiet (e : Engine) : Type 0 where
+  pub clock : ClockAllows opening e
+  pub idle : pendingIn e ≡ Effect.Nothing
+
+-- the two ends of a world, one of them to present, with two line buffers
+abbrev endsAt : World → End → (message reply : List ℕ) → Ends
+endsAt w p message reply = record { presenter = w .engine p; receiver = w .engine (other p); message = message; reply = reply }
+
+-- where an evening stands between two rounds, with the end p to present
+pub record Stands (p : End) (e : Ends) : Type 0 where
+  pub world : World
+  pub led : Led world
+  pub quiet : (x : End) → Quiet (world .engine x)
+  pub same : endsAt world p (e .message) (e .reply) ≡ e
+  pub room : replyRoom ≤ length (e .reply)
+
+-- the calls that a round begins with: a send at the opening
+pub data SendAtOpening : Call → Type 0 where
+  header : {moment centre number : ℕ} → SendAtOpening (Call.header opening moment centre number)
+  detail : {operation : ℕ} {part : List ℕ} → SendAtOpening (Call.detail opening operation part)
+  lotTotal : SendAtOpening (Call.lotTotal opening)
+  sessionTotal : SendAtOpening (Call.sessionTotal opening)
+
+-- such a call brings nothing, and makes the opening the last seen time
+send-brings : {call : Call} → SendAtOpening call → (trace : List Event) → Brought call trace
+send-brings header trace = tt
+send-brings detail trace = tt
+send-brings lotTotal trace = tt
+send-brings sessionTotal trace = tt
+
+send-stamps : {call : Call} → SendAtOpening call → (s : Session) → stamped call s ≡ record { seen = opening; close = s .close }
+send-stamps header s = refl
+send-stamps detail s = refl
+send-stamps lotTotal s = refl
+send-stamps sessionTotal s = refl
+
+-- its message waits, as it was written
+record Waits (b : PresenterLedger) (written : List ℕ) : Type 0 where
+  entry : Entry
+  waiting : b .waiting ≡ some entry
+  message : b .message ≡ written
+
+entered : {call : Call} → SendAtOpening call → (written : List ℕ) (b : PresenterLedger) → Waits (presenterEnters call written b) written
+entered header written b = record { entry = _; waiting = refl; message = refl }
+entered detail written b = record { entry = _; waiting = refl; message = refl }
+entered lotTotal written b = record { entry = _; waiting = refl; message = refl }
+entered sessionTotal written b = record { entry = _; waiting = refl; message = refl }
+
+at-its-end : (p : End) (call : Call) (number : ℕ) (written : List ℕ) (trace : List Event) → number ≡ 0 → presenterLedgerAt p (record { at = p; call = call; said = record { number = number; bytes = written } } ∷ trace) ≡ presenterEnters call written (presenterLedgerAt p trace)
+unfolding presenterLedgerAt
+at-its-end p call number written trace z =
+    ap (λ (t : Bool). cond t (presenterEnters call written (presenterLedgerAt p trace)) (presenterLedgerAt p trace)) (λ i. itself p i && eq-eqb number 0 z i)
+  where
+    itself : (x : End) → sameEnd x x ≡ true
+    itself End.near = refl
+    itself End.far = refl
+
+-- which engine a call changes
+changed : (x : End) (e : Engine) (engine : End → Engine) → replaced x e engine x ≡ e
+changed End.near e engine = refl
+changed End.far e engine = refl
+
+kept : (x : End) (e : Engine) (engine : End → Engine) → replaced x e engine (other x) ≡ engine (other x)
+kept End.near e engine = refl
+kept End.far e engine = refl
+
+kept-here : (x : End) (e : Engine) (engine : End → Engine) → replaced (other x) e engine x ≡ engine x
+kept-here End.near e engine = refl
+kept-here End.far e engine = refl
+
+-- what holds of both ends of a direction holds of every end
+at-both : (Q : Engine → Type 0) (p : End) (engine : End → Engine) → Q (engine p) → Q (engine (other p)) → (x : End) → Q (engine x)
+at-both Q End.near engine here there End.near = here
+at-both Q End.near engine here there End.far = there
+at-both Q End.far engine here there End.far = here
+at-both Q End.far engine here there End.near = there
+
+-- receiving keeps the length of its line buffer
+line-kept : (time : ℕ) (bytes line : List ℕ) (e : Engine) → length (performed (Call.receive time bytes) line e .line) ≡ length line
+unfolding performed meaning receive
+line-kept time bytes line e =
+    either (λ (o : Outcome). length (o .left .line) ≡ length line) _ (lent Direction.receiving line e) _ (λ (k : ℕ). refl)
+    (λ n. either-way (isNext bytes (e .session .receiving .serial)) (afterNew time (bodyOf bytes) (lent Direction.receiving line e)) (afterRepeat time (lent Direction.receiving line e)) refl refl)
+  where
+    either-way : (t : Bool) (a b : Held) → a .line ≡ line → b .line ≡ line → length (replying bytes (cond t a b) .left .line) ≡ length line
+    either-way true a b x y = length-sets (a .line) 0 (wholeReply (envelopeOf bytes) (a .session .receiving .reply)) ∙ ap length x
+    either-way false a b x y = length-sets (b .line) 0 (wholeReply (envelopeOf bytes) (b .session .receiving .reply)) ∙ ap length y
+
+-- a round
+module _ (w : World) (led : Led w) (quiet : (x : End) → Quiet (w .engine x)) (p : End) (message reply : List ℕ) (room : replyRoom ≤ length reply) {call : Call} (sends : SendAtOpening call) where
+  abbrev here : Engine
+  here = w .engine p
+
+  abbrev there : Engine
+  there = w .engine (other p)
+
+  abbrev turn : Performed
+  turn = performed call message here
+
+  abbrev sending : Step
+  sending = record { at = p; call = call; line = message }
+
+  abbrev sent : World
+  sent = act sending w
+
+  sent-led : Led sent
+  sent-led = one-more w led sending (send-brings sends (w .trace))
+
+  sent-here : sent .engine p ≡ turn .engine
+  unfolding act
+  sent-here = changed p (turn .engine) (w .engine)
+
+  sent-there : sent .engine (other p) ≡ there
+  unfolding act
+  sent-there = kept p (turn .engine) (w .engine)
+
+  sent-clock : ClockAllows opening (turn .engine)
+  sent-clock = still-allowed call message here opening (send-stamps sends (here .session)) (quiet p .clock)
+
+  -- what the round leaves, as the definition has it
+  abbrev left : Ends
+  left = roundMade call (endsAt w p message reply)
+
+  -- the send is refused: one call, after which both ends are as they were
+  refused-round : (turn .number ≡ 0 → ⊥) → Stands p left
+  unfolding roundMade act
+  refused-round stopped =
+      subst (Stands p) (ap endsAfter (unheard call opening message reply here there turn refl stopped))
+      (record {
+        world = sent;
+        led = sent-led;
+        quiet = both-ends (λ (x : End) (e : Engine). Quiet e) p (turn .engine) (w .engine) (subst Quiet (sym (refused-engine call message here stopped)) (quiet p)) (quiet (other p));
+        same = λ i. record { presenter = sent-here i; receiver = sent-there i; message = turn .line; reply = reply };
+        room = room;
+      })
+
+  -- it is not: the message waits, so it can be received and its reply taken
+  module _ (none : turn .number ≡ 0) where
+    waits : Waits (presenterLedgerAt p (sent .trace)) (saidBy turn .bytes)
+    unfolding act
+    waits = subst (λ (b : PresenterLedger). Waits b (saidBy turn .bytes)) (sym (at-its-end p call (turn .number) (saidBy turn .bytes) (w .trace) none)) (entered sends (saidBy turn .bytes) (presenterLedgerAt p (w .trace)))
+
+    through : GetsThrough sent p opening opening reply
+    through = answers sent sent-led p (waits .entry) (waits .waiting) opening opening reply (subst (ClockAllows opening) (sym sent-there) (quiet (other p) .clock)) (subst (ClockAllows opening) (sym sent-here) sent-clock) room
+
+    abbrev first : Step
+    first = delivery sent p opening reply
+
+    abbrev second : Step
+    second = record { at = p; call = Call.reply opening (saidAt first sent .bytes); line = [] }
+
+    abbrev after : World
+    after = act second (act first sent)
+
+    -- as the driver makes them
+    abbrev heard : Performed
+    heard = performed (Call.receive opening (saidBy turn .bytes)) reply there
+
+    abbrev told : Performed
+    told = performed (Call.reply opening (saidBy heard .bytes)) [] (turn .engine)
+
+    heard-so : performed (first .call) reply (sent .engine (other p)) ≡ heard
+    heard-so = λ i. performed (Call.receive opening (waits .message i)) reply (sent-there i)
+
+    told-so : performed (second .call) [] (act first sent .engine p) ≡ told
+    unfolding act
+    told-so = λ i. performed (Call.reply opening (saidBy (heard-so i) .bytes)) [] ((kept-here p (performed (first .call) reply (sent .engine (other p)) .engine) (sent .engine) ∙ sent-here) i)
+
+    after-here : after .engine p ≡ told .engine
+    unfolding act
+    after-here = changed p _ _ ∙ ap (λ (t : Performed). t .engine) told-so
+
+    after-there : after .engine (other p) ≡ heard .engine
+    unfolding act
+    after-there = kept p _ _ ∙ changed (other p) _ (sent .engine) ∙ ap (λ (t : Performed). t .engine) heard-so
+
+    received : heard .number ≡ 0
+    unfolding Unrefused
+    received = sym (ap (λ (t : Performed). t .number) heard-so) ∙ through .unrefused .0
+
+    replied-to : told .number ≡ 0
+    unfolding Unrefused
+    replied-to = sym (ap (λ (t : Performed). t .number) told-so) ∙ through .unrefused .1 .0
+
+    answered-round : Stands p left
+    unfolding roundMade Possible
+    answered-round =
+        subst (Stands p)
+        (ap endsAfter (answer call opening message reply here there turn refl (turn .number) _ none none (replied opening (saidBy turn .bytes) reply (turn .engine) there heard refl told received refl)))
+        (record {
+          world = after;
+          led = one-more (act first sent) (one-more sent sent-led first (through .possible .0)) second (through .possible .1 .0);
+          quiet = at-both Quiet p (after .engine) (subst Quiet (sym after-here) quiet-here) (subst Quiet (sym after-there) quiet-there);
+          same = λ i. record { presenter = after-here i; receiver = after-there i; message = turn .line; reply = heard .line };
+          room = omega (arith, room, line-kept opening (saidBy turn .bytes) reply there);
+        })
+      where
+        quiet-here : Quiet (told .engine)
+        quiet-here = record { clock = still-allowed (Call.reply opening (saidBy heard .bytes)) [] (turn .engine) opening refl sent-clock; idle = none-pending opening (saidBy heard .bytes) [] (turn .engine) replied-to }
+
+        quiet-there : Quiet (heard .engine)
+        quiet-there = record { clock = still-allowed (Call.receive opening (saidBy turn .bytes)) reply there opening refl (quiet (other p) .clock); idle = received-pending opening (saidBy turn .bytes) reply there ∙ quiet (other p) .idle }
+
+  round-stands : Stands p left
+  round-stands = go (turn .number) refl
+    where
+      go : (n : ℕ) → turn .number ≡ n → Stands p left
+      go zero z = answered-round z
+      go (suc n) z = refused-round (λ (q : turn .number ≡ 0). omega (arith, z, q))
+
+-- so an evening that stands somewhere stands somewhere after any round
+pub round-more : (p : End) (e : Ends) → Stands p e → {call : Call} → SendAtOpening call → Stands p (roundMade call e)
+round-more p e s {call = call} sends = subst (λ (x : Ends). Stands p (roundMade call x)) (s .same) (round-stands (s .world) (s .led) (s .quiet) p (e .message) (e .reply) (s .room) sends)

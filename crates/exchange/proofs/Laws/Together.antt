@@ -1,0 +1,168 @@
+-- An evening is a list of possible calls, since rounds are all that a direction is made of; and where it ends, nothing is awaited, so both directions are
+-- level.
+use mathlib.Core.Path.{_≡_, refl, ap, sym, _∙_}
+use mathlib.Core.Bool.{Bool, true, false, _||_, cond}
+use mathlib.Core.List.{List, []}
+use mathlib.Core.Logic.{_⊎_, inl, inr}
+use Prim.Native.Nat.{ℕ, zero, suc, _+_}
+use native.Mathlib.Omega.{arith}
+use lib.Dec.{eqb}
+use lib.ListN.{length}
+use Rattle.packed.specs.Every.{every}
+use Rattle.codes.specs.Chain.{_when_, _orelse_}
+use Rattle.document.specs.Part.{countIn}
+use Rattle.document.specs.Rules.{monthDays}
+use Rattle.session.specs.declared.counters.Lot.{Lot}
+use Rattle.session.specs.declared.effect.Effect.{Effect}
+use Rattle.session.specs.declared.report.Tally.{Tally}
+use Rattle.session.specs.declared.report.Awaited.{Awaited}
+use Rattle.session.specs.declared.report.Report.{Report}
+use Rattle.session.specs.Hours.{opening, close}
+use Rattle.session.specs.Parties.{realDate, partiesGood}
+use Rattle.session.specs.Limits.{mostLots, passesLot}
+use Rattle.session.specs.Time.{clockRefusal, timeRefusal}
+use Rattle.session.specs.Start.{fresh, start}
+use Rattle.session.specs.Engine.{Call, Engine}
+use Rattle.session.specs.Ends.{End, World, Step, act, run, Possible, begun}
+use Rattle.session.specs.Report.{awaited, report}
+use Rattle.session.specs.Claim.{reportAt, presentedTally, receivedTally, Level, Ahead}
+use Rattle.session.proofs.Laws.EveryCall.{pendingIn, ticked-pending}
+use Rattle.exchange.specs.declared.shown.Sums.{Sums}
+use Rattle.exchange.specs.Fixed.{moment, office, lotParts}
+use Rattle.exchange.specs.Cursors.{unmoved, partAt, same}
+use Rattle.exchange.specs.Course.{Ends, Standing, inOpenLot, partSent, detailSent, whileMoving, nextPart, filled, roundBetween, wholeLot, lotMade, lotsMade, directionMade, across, bothDirections}
+use Rattle.exchange.specs.Evening.{sumsOf, awaitedNumber, noSide, closedEnd, closedSide, beginning, evening, traysCode, exchanged}
+use Rattle.exchange.specs.Together.{bothStarted, LedTo, EveningIsAList, Settled, EveningIsSettled}
+use Rattle.exchange.proofs.Laws.Led.{Led, one-more, agrees, Quiet, Stands, SendAtOpening, round-more}
+
+-- an evening that stands somewhere does so after all that a direction is made of
+module _ (p : End) where
+  -- one of two
+  either-stands : (t : Bool) (a b : Standing) → Stands p (a .ends) → Stands p (b .ends) → Stands p (cond t a b .ends)
+  either-stands true a b x y = x
+  either-stands false a b x y = y
+
+  -- steps, until one moves no cursor
+  while-stands : (step : ℕ → Standing → Standing) → ((number : ℕ) (s : Standing) → Stands p (s .ends) → Stands p (step number s .ends)) → (most number : ℕ) (s : Standing) → Stands p (s .ends) → Stands p (whileMoving most step number s .ends)
+  unfolding whileMoving
+  while-stands step keeps zero number s x = x
+  while-stands step keeps (suc most) number s x =
+      let once = keeps number s x in
+      either-stands (same (s .cursors) (step number s .cursors)) (step number s) (whileMoving most step (suc number) (step number s)) once (while-stands step keeps most (suc number) (step number s) once)
+
+  module _ (presentations returns : List ℕ) where
+    part-stands : (number : ℕ) (s : Standing) → Stands p (s .ends) → Stands p (detailSent presentations returns s .ends)
+    unfolding detailSent partSent
+    part-stands number s x =
+        let part = partAt presentations returns (s .cursors) in
+        either-stands (eqb (countIn part) 0 || passesLot (inOpenLot (s .ends) + countIn part)) s (partSent presentations part s) x (round-more p (s .ends) x SendAtOpening.detail)
+
+    lot-stands : (number : ℕ) (s : Standing) → Stands p (s .ends) → Stands p (lotMade presentations returns number s .ends)
+    unfolding lotMade filled
+    lot-stands number s x =
+        let opened = roundBetween (Call.header opening moment office number) s in
+        let full = filled presentations returns opened in
+        either-stands (eqb (length (partAt presentations returns (s .cursors))) 0) s (wholeLot number presentations returns s) x
+        (round-more p (full .ends) (while-stands (nextPart presentations returns) part-stands lotParts 0 opened (round-more p (s .ends) x SendAtOpening.header)) SendAtOpening.lotTotal)
+
+    direction-stands : (e : Ends) → Stands p e → Stands p (directionMade presentations returns e)
+    unfolding directionMade lotsMade
+    direction-stands e x = round-more p _ (while-stands (lotMade presentations returns) lot-stands mostLots 1 (record { ends = e; cursors = unmoved }) x) SendAtOpening.sessionTotal
+
+-- the other end presents
+across-stands : (e : Ends) → Stands End.near e → Stands End.far (across e)
+across-stands e s = record { world = s .world; led = s .led; quiet = s .quiet; same = ap across (s .same); room = s .room }
+
+-- from the beginning, so an evening stands somewhere before its clock calls
+begins : Stands End.near beginning
+unfolding beginning begun run Possible start partiesGood realDate monthDays every _when_ _orelse_ fresh timeRefusal clockRefusal
+begins = record { world = bothStarted; led = record { steps = []; possible = tt; leads = refl }; quiet = quiet; same = refl; room = omega arith }
+  where
+    quiet : (x : End) → Quiet (bothStarted .engine x)
+    quiet End.near = record { clock = refl; idle = refl }
+    quiet End.far = record { clock = refl; idle = refl }
+
+module _ (nearPresentations nearReturns farPresentations farReturns : List ℕ) where
+  abbrev last : Ends
+  last = bothDirections nearPresentations nearReturns farPresentations farReturns beginning
+
+  stands : Stands End.far last
+  unfolding bothDirections
+  stands = direction-stands End.far farPresentations farReturns _ (across-stands _ (direction-stands End.near nearPresentations nearReturns beginning begins))
+
+  -- both clock calls
+  abbrev ticking : End → Step
+  ticking x = record { at = x; call = Call.clock close; line = [] }
+
+  abbrev before : World
+  before = stands .world
+
+  abbrev after : World
+  after = act (ticking End.far) (act (ticking End.near) before)
+
+  led : Led after
+  led = one-more (act (ticking End.near) before) (one-more before (stands .led) (ticking End.near) tt) (ticking End.far) tt
+
+  near-so : after .engine End.near ≡ closedEnd (last .receiver)
+  unfolding act closedEnd
+  near-so = ap (λ (e : Ends). closedEnd (e .receiver)) (stands .same)
+
+  far-so : after .engine End.far ≡ closedEnd (last .presenter)
+  unfolding act closedEnd
+  far-so = ap (λ (e : Ends). closedEnd (e .presenter)) (stands .same)
+
+  list : LedTo (closedEnd (last .receiver)) (closedEnd (last .presenter))
+  list = record { steps = led .steps; possible = led .possible; near-end = ap (λ (w : World). w .engine End.near) (led .leads) ∙ near-so; far-end = ap (λ (w : World). w .engine End.far) (led .leads) ∙ far-so }
+
+  -- nothing is awaited, so the ends are level
+  idle : (x : End) → pendingIn (after .engine x) ≡ Effect.Nothing
+  unfolding act
+  idle End.near = ticked-pending close [] (before .engine End.near) ∙ stands .quiet End.near .idle
+  idle End.far = ticked-pending close [] (before .engine End.far) ∙ stands .quiet End.far .idle
+
+  none-awaited : (x : End) → reportAt after x .awaited ≡ Awaited.Neither
+  unfolding report
+  none-awaited x = ap awaited (idle x)
+
+  level : (p : End) → receivedTally after p ≡ presentedTally after p
+  level p = go (agrees after led p .agreed)
+    where
+      go : Level after p ⊎ Ahead after p → receivedTally after p ≡ presentedTally after p
+      go (inl l) = l .totals
+      go (inr a) = absurd (not-named (sym (none-awaited p) ∙ a .named))
+        where
+          not-named : {l : Lot} → Awaited.Neither ≡ Awaited.LotTotal l → ⊥
+          not-named e = let z : _≡_ {A = ℕ} 0 1 = ap awaitedNumber e in omega arith
+
+  -- and their reports say so
+  abbrev inSums : Tally → Sums
+  inSums t = sumsOf (t .lots) (t .gathered)
+
+  near-report : report (closedEnd (last .receiver) .session) ≡ reportAt after End.near
+  near-report = ap (λ (e : Engine). report (e .session)) (sym near-so)
+
+  far-report : report (closedEnd (last .presenter) .session) ≡ reportAt after End.far
+  far-report = ap (λ (e : Engine). report (e .session)) (sym far-so)
+
+  settled-evening : Settled (evening nearPresentations nearReturns farPresentations farReturns)
+  unfolding evening closedSide
+  settled-evening =
+      record {
+        near-received = ap inSums (ap (λ (r : Report). r .received) near-report ∙ level End.far ∙ ap (λ (r : Report). r .presented) (sym far-report));
+        far-received = ap inSums (ap (λ (r : Report). r .received) far-report ∙ level End.near ∙ ap (λ (r : Report). r .presented) (sym near-report));
+        near-awaits = ap (λ (r : Report). awaitedNumber (r .awaited)) near-report ∙ ap awaitedNumber (none-awaited End.near);
+        far-awaits = ap (λ (r : Report). awaitedNumber (r .awaited)) far-report ∙ ap awaitedNumber (none-awaited End.far);
+      }
+
+  -- also where a tray is bad, and all is 0
+  settled : (t : Bool) (code : ℕ) → Settled (cond t (evening nearPresentations nearReturns farPresentations farReturns) (record { code = code; near = noSide; far = noSide }))
+  settled true code = settled-evening
+  settled false code = record { near-received = refl; far-received = refl; near-awaits = refl; far-awaits = refl }
+
+-- The claims of specs/Together.
+pub evening-is-a-list : EveningIsAList
+evening-is-a-list = list
+
+pub evening-is-settled : EveningIsSettled
+unfolding exchanged
+evening-is-settled nearPresentations nearReturns farPresentations farReturns = let code = traysCode nearPresentations nearReturns farPresentations farReturns in settled nearPresentations nearReturns farPresentations farReturns (eqb code 0) code

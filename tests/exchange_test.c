@@ -1,0 +1,103 @@
+/* Runs evenings through line_exchange: one of a document each way, one whose
+   near document the far end does not take, and one with a tray that is cut.
+   Use: exchange_test, without arguments. */
+#include "line.h"
+
+#include <inttypes.h>
+#include <stdio.h>
+#include <string.h>
+
+#define DOCUMENT 51
+
+/* The places of the receiving entity, the drawee and the nominal. */
+#define ENTITY 18
+#define DRAWEE 31
+#define NOMINAL 25
+
+/* The document of the check program's example, for entity 0072. */
+static const uint8_t example[DOCUMENT] = {
+    0x00, 0x00, 0x00, 0x00, 0x01, 0x00, 0x00, 0x02, 0x43, 0x41, 0x57,
+    0x14, 0x03, 0x00, 0x81, 0x01, 0x10, 0x28, 0x00, 0x72, 0x08, 0x00,
+    0x81, 0x01, 0x10, 0x00, 0x00, 0x00, 0x01, 0x50, 0x00, 0x00, 0x72,
+    0x01, 0x10, 0x00, 0x00, 0x12, 0x34, 0x56, 0x01, 0x00, 0x01, 0x00,
+    0x00, 0x00, 0x30, 0x00, 0x00, 0x00, 0x00,
+};
+
+static int passed, failed;
+
+static void same(const char *what, int64_t got, int64_t wanted)
+{
+    if (got == wanted) {
+        passed++;
+        return;
+    }
+    failed++;
+    fprintf(stderr, "%s: %" PRId64 ", not %" PRId64 "\n", what, got, wanted);
+}
+
+static void same_sums(const char *what, line_sums got, line_sums wanted)
+{
+    same(what, (int64_t)got.lots, (int64_t)wanted.lots);
+    same(what, (int64_t)got.documents, (int64_t)wanted.documents);
+    same(what, (int64_t)got.nominal, (int64_t)wanted.nominal);
+    same(what, (int64_t)got.commission, (int64_t)wanted.commission);
+}
+
+static void same_side(const char *what, line_side got, line_side wanted)
+{
+    same_sums(what, got.presented, wanted.presented);
+    same_sums(what, got.received, wanted.received);
+    same(what, got.close, wanted.close);
+    same(what, got.awaited, wanted.awaited);
+    same(what, (int64_t)got.lot_number, (int64_t)wanted.lot_number);
+    same_sums(what, got.lot, wanted.lot);
+    same(what, got.nominal_position, wanted.nominal_position);
+    same(what, got.commission_position, wanted.commission_position);
+}
+
+/* An end that presented and received these, and closed in order. */
+static line_side side(line_sums presented, line_sums received)
+{
+    line_side s = { presented, received, 1, 0, 0, { 0, 0, 0, 0 }, 0, 0 };
+
+    s.nominal_position = (int64_t)presented.nominal - (int64_t)received.nominal;
+    s.commission_position =
+        (int64_t)presented.commission - (int64_t)received.commission;
+    return s;
+}
+
+int main(void)
+{
+    const line_sums none = { 0, 0, 0, 0 };
+    const line_sums presented = { 1, 1, 15000, 30 };
+    const line_sums returned = { 1, 1, 15099, 30 };
+    uint8_t back[DOCUMENT], strange[DOCUMENT];
+    line_evening evening;
+
+    memcpy(back, example, DOCUMENT);
+    back[ENTITY + 1] = back[DRAWEE + 1] = 0x81;
+    back[NOMINAL + 5] = 0x99;
+    evening = line_exchange(example, DOCUMENT, example, 0, example, 0, back,
+                            DOCUMENT);
+    same("both ways", evening.code, 0);
+    same_side("both ways, near", evening.near, side(presented, returned));
+    same_side("both ways, far", evening.far, side(returned, presented));
+
+    memcpy(strange, example, DOCUMENT);
+    strange[DRAWEE + 1] = 0x73;
+    evening = line_exchange(strange, DOCUMENT, example, 0, example, 0, back,
+                            DOCUMENT);
+    same("not served", evening.code, 0);
+    same_side("not served, near", evening.near, side(none, returned));
+    same_side("not served, far", evening.far, side(returned, none));
+
+    evening = line_exchange(example, DOCUMENT, example, 50, example, 0, back,
+                            DOCUMENT);
+    same("a cut tray", evening.code, 25);
+    same_sums("a cut tray", evening.near.presented, none);
+    same("a cut tray", evening.far.close, 0);
+    same("a cut tray", evening.far.nominal_position, 0);
+
+    printf("%d of %d numbers as wanted\n", passed, passed + failed);
+    return failed != 0;
+}
