@@ -1,9 +1,9 @@
--- 01, 'Layouts', its last sentence, of every message that a send writes: whoever reads it finds the envelope and the fields that were meant. So every
--- number that a presenter writes fits its field, at the limits that are in force. Proved in proofs/Laws/Written.
+-- 01, 'Layouts', its last sentence, of whole messages with a detail, and of every message that a send writes: whoever reads it finds the envelope and
+-- the fields that were meant. So every number that a presenter writes fits its field, at the limits that are in force. Proved in proofs/Laws/Written.
 use Prim.Native.Nat.{ℕ}
 use mathlib.Core.Path.{_≡_}
 use mathlib.Core.Bool.{not}
-use mathlib.Core.List.{List}
+use mathlib.Core.List.{List, _++_}
 use lib.ListN.{take}
 use Rattle.packed.specs.Every.{every}
 use Rattle.packed.specs.Writing.{packedByte}
@@ -12,12 +12,15 @@ use Rattle.codes.specs.Chain.{_when_}
 use Rattle.document.specs.Drawee.{draweeServed}
 use Rattle.document.specs.Part.{documentsOf}
 use Rattle.detail.specs.Groups.{documents}
-use Rattle.detail.specs.Codes.{receiverCode}
+use Rattle.detail.specs.Codes.{receiverCode, presenterCode}
+use Rattle.detail.specs.Writing.{writtenDetail}
+use Rattle.detail.specs.RoundTrip.{partOf, clearedGroups}
 use Rattle.message.specs.declared.envelope.Envelope.{Envelope}
 use Rattle.message.specs.declared.envelope.Kind.{Kind}
 use Rattle.message.specs.Envelope.{bodyOf}
-use Rattle.message.specs.Line.{Body}
-use Rattle.message.specs.RoundTrip.{EnvelopeRead, BodyRead}
+use Rattle.message.specs.Limits.{envelopeBytes}
+use Rattle.message.specs.Line.{Body, wholeMessage}
+use Rattle.message.specs.RoundTrip.{EnvelopeFits, EnvelopeRead, BodyRead}
 use Rattle.session.specs.Parties.{Direction}
 use Rattle.session.specs.Outcome.{Held}
 use Rattle.session.specs.Sending.{nextEnvelope, headerBody, lotTotalBody, sessionTotalBody}
@@ -34,6 +37,14 @@ pub record ReadsAsDetail (e : Envelope) (operation : ℕ) (part bytes : List ℕ
   pub operation-read : operationOf (bodyOf bytes) ≡ packedByte operation
   pub documents-read : documents (bodyOf bytes) ≡ documentsOf part
   pub code-there : (represented : List ℕ) → receiverCode (e .route .receiving) represented (bodyOf bytes) ≡ (6 when not (every (draweeServed (packedByte operation) (e .route .receiving) represented) (documentsOf part)))
+
+-- a message with a detail that is written and read
+abbrev pub DetailWrittenThenRead : Type 0
+DetailWrittenThenRead = (e : Envelope) (operation : ℕ) (part : List ℕ) → EnvelopeFits e → presenterCode operation (e .route .receiving) part ≡ 0 → ReadsAsDetail e operation part (wholeMessage e (writtenDetail (packedByte operation) part))
+
+-- and one that is read, accepted and written, its free bytes becoming 00
+abbrev pub DetailReadThenWritten : Type 0
+DetailReadThenWritten = (e : Envelope) (represented bytes : List ℕ) → EnvelopeRead Kind.Message e bytes → let body = bodyOf bytes in receiverCode (e .route .receiving) represented body ≡ 0 → wholeMessage e (writtenDetail (operationOf body) (partOf body)) ≡ take envelopeBytes bytes ++ clearedGroups body
 
 -- what a call that sends means to say, with what it is lent; the others write no message
 abbrev pub AsMeant : Call → Held → (bytes : List ℕ) → Type 0

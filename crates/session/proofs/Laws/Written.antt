@@ -2,7 +2,7 @@
 -- presenter's own codes bound the arguments. A limit that let a total grow past its field has no proof here.
 use mathlib.Core.Path.{_≡_, ap, sym, subst, _∙_}
 use mathlib.Core.Bool.{true, not, _&&_}
-use mathlib.Core.List.{List}
+use mathlib.Core.List.{List, _++_}
 use Prim.Native.Nat.{ℕ, suc, _+_, _<_, _^_}
 use native.Mathlib.Omega.{arith}
 use lib.Dec.{lit<}
@@ -16,14 +16,14 @@ use Rattle.detail.specs.Codes.{receiverCode, presenterCode, sendable as sendabl
 use Rattle.detail.specs.Writing.{writtenDetail}
 use Rattle.detail.proofs.Laws.Codes.{accepted-part, sendable-part}
 use Rattle.detail.proofs.Laws.Writing.{written-bytes}
-use Rattle.detail.proofs.Laws.RoundTrip.{fields-again, accepted-there}
+use Rattle.detail.proofs.Laws.RoundTrip.{fields-again, accepted-there, accepted-again}
 use Rattle.message.specs.declared.envelope.Kind.{Kind}
-use Rattle.message.specs.Limits.{envelopeBytes, messageRoom, largestSerial}
-use Rattle.message.specs.Envelope.{lengthGood}
+use Rattle.message.specs.Limits.{envelopeBytes, messageRoom}
+use Rattle.message.specs.Envelope.{lengthGood, bodyOf}
 use Rattle.message.specs.Header.{sendable}
 use Rattle.message.specs.Line.{wholeMessage}
 use Rattle.message.specs.RoundTrip.{BodyFits}
-use Rattle.message.proofs.Laws.Envelope.{body-told, written-then-read}
+use Rattle.message.proofs.Laws.Envelope.{body-told, written-then-read, read-then-written}
 use Rattle.message.proofs.Laws.Header.{in-range}
 use Rattle.message.proofs.Laws.Total.{lot-in-range, session-in-range}
 use Rattle.message.proofs.Laws.Line.{message-read}
@@ -37,7 +37,7 @@ use Rattle.session.specs.Outcome.{Held, Outcome}
 use Rattle.session.specs.Sending.{nextEnvelope, sendRefusal, posted, send, headerStop, detailStop, openNumber, headerBody, lotTotalBody, sessionTotalBody, sendHeader, sendDetail, sendLotTotal, sendSessionTotal}
 use Rattle.session.specs.Premise.{Fits, OpenSound, Sound}
 use Rattle.session.specs.Engine.{Call, meaning}
-use Rattle.session.specs.Written.{ReadsAsDetail, AsMeant, WrittenAsMeant}
+use Rattle.session.specs.Written.{DetailWrittenThenRead, DetailReadThenWritten, AsMeant, WrittenAsMeant}
 use Rattle.session.proofs.Laws.Decided.{either, first-bytes}
 use Rattle.session.proofs.Laws.Refusals.{SendTold, send-told}
 use Rattle.session.proofs.Laws.Foreign.{next-fits}
@@ -76,20 +76,21 @@ module _ (s : Session) (sound : Sound s) where
       let lots = sound .presenting .lots in
       session-in-range (record { number = c .lots; stated = c .gathered }) (omega (arith, lots)) (omega (arith, lots, f .documents)) (omega (arith, lots, f .documents, f .nominal)) (omega (arith, lots, f .documents, f .commission))
 
-  -- and a detail, whose documents are read one by one
-  detail-read : (operation : ℕ) (part : List ℕ) (t : Running) → s .presenting .serial < largestSerial → detailStop operation (s .parties .partner) part t (s .presenting) ≡ 0 → ReadsAsDetail (nextEnvelope s) operation part (wholeMessage (nextEnvelope s) (writtenDetail (packedByte operation) part))
-  unfolding detailStop
-  detail-read operation part t more z =
-      let own = none-both (presenterCode operation (s .parties .partner) part) _ z .0 in
-      let may = accepted-part operation (s .parties .partner) part own .0 in
-      let body = writtenDetail (packedByte operation) part in
-      let follows = body-told Kind.Message (nextEnvelope s) body in
-      record {
-        envelope = written-then-read Kind.Message (nextEnvelope s) body (next-fits s sound more) (detail-long operation part may);
-        operation-read = ap operationOf follows ∙ fields-again operation part may .0;
-        documents-read = ap documents follows ∙ fields-again operation part may .1;
-        code-there = λ (represented : List ℕ). ap (receiverCode (s .parties .partner) represented) follows ∙ accepted-there operation (s .parties .partner) part represented own;
-      }
+-- messages with a detail, whose documents are read one by one
+pub detail-read : DetailWrittenThenRead
+detail-read e operation part fits own =
+    let may = accepted-part operation (e .route .receiving) part own .0 in
+    let body = writtenDetail (packedByte operation) part in
+    let follows = body-told Kind.Message e body in
+    record {
+      envelope = written-then-read Kind.Message e body fits (detail-long operation part may);
+      operation-read = ap operationOf follows ∙ fields-again operation part may .0;
+      documents-read = ap documents follows ∙ fields-again operation part may .1;
+      code-there = λ (represented : List ℕ). ap (receiverCode (e .route .receiving) represented) follows ∙ accepted-there operation (e .route .receiving) part represented own;
+    }
+
+pub detail-again : DetailReadThenWritten
+detail-again e represented bytes read own = λ i. read-then-written Kind.Message bytes e (sym read) i ++ accepted-again (e .route .receiving) represented (bodyOf bytes) own i
 
 -- what stands at the start of the line buffer after a send is what was posted
 module _ (call : Call) (time code : ℕ) (effect : Effect) (body : List ℕ) (h : Held) where
@@ -105,13 +106,15 @@ module _ (call : Call) (time code : ℕ) (effect : Effect) (body : List ℕ) (h 
       (λ (e : refusal ≡ 0) (n : 0 ≡ 0). let told = send-told time code bytes h e in subst (AsMeant call h) (sym (first-bytes bytes (h .line) (told .room))) (meant told))
 
 pub written-as-meant : WrittenAsMeant
-unfolding meaning sendHeader sendDetail sendLotTotal sendSessionTotal
+unfolding meaning sendHeader sendDetail sendLotTotal sendSessionTotal detailStop
 written-as-meant (Call.header time moment centre number) h sound carried =
     let s = h .session in
     sent-so (Call.header time moment centre number) time _ _ _ h
     (λ told. message-read (nextEnvelope s) (headerBody moment centre number) (next-fits s sound (told .more)) (header-takes s sound time moment centre number (told .unstopped)))
 written-as-meant (Call.detail time operation part) h sound carried =
-    sent-so (Call.detail time operation part) time _ _ _ h (λ told. detail-read (h .session) sound operation part (h .running) (told .more) (told .unstopped))
+    let s = h .session in
+    sent-so (Call.detail time operation part) time _ _ _ h
+    (λ told. detail-read (nextEnvelope s) operation part (next-fits s sound (told .more)) (none-both (presenterCode operation (s .parties .partner) part) _ (told .unstopped) .0))
 written-as-meant (Call.lotTotal time) h sound carried =
     let s = h .session in
     sent-so (Call.lotTotal time) time _ _ _ h (λ told. message-read (nextEnvelope s) (lotTotalBody (s .presenting .counters) (h .running)) (next-fits s sound (told .more)) (lot-total-takes s sound (h .running) (carried .fits)))
