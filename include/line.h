@@ -53,7 +53,8 @@ line_checked line_check_detail(const uint8_t *body, size_t body_len,
                                const uint16_t *represented,
                                size_t represented_len);
 
-/* The accepted lots of a direction, as one end reports them. */
+/* The accepted lots of a direction, or one lot whose total is awaited, as an
+   end reports them. */
 typedef struct line_sums {
     uint64_t lots;
     uint64_t documents;
@@ -98,8 +99,8 @@ typedef struct line_evening {
  * are such a case, so the amounts of a measurement should differ.
  *
  * Whatever lies in the trays, each end's received sums are then the other's
- * presented ones, and neither end awaits a reply. That is proved:
- * docs/AGREEMENT.md, 'An evening of the driver'.
+ * presented ones, and neither end awaits a reply: the theorem
+ * EveningIsSettled (docs/AGREEMENT.md, 'An evening of the driver').
  *
  * Lengths, pointers and threads are as for line_check_detail. The call needs
  * less than 128 kB of stack and no heap.

@@ -66,37 +66,44 @@ static line_side side(line_sums presented, line_sums received)
     return s;
 }
 
+/* The evening of a near presentation and some bytes of a near return, and of
+   a far return. */
+static void run(const char *what, const uint8_t *presented, size_t cut,
+                const uint8_t *back, line_evening wanted)
+{
+    line_evening got = line_exchange(presented, DOCUMENT, example, cut,
+                                     example, 0, back, DOCUMENT);
+
+    same(what, got.code, wanted.code);
+    same_side(what, got.near, wanted.near);
+    same_side(what, got.far, wanted.far);
+}
+
+/* Both ends as they close, each having received what the other presented. */
+static line_evening closed(line_sums near, line_sums far)
+{
+    line_evening e = { 0, side(near, far), side(far, near) };
+
+    return e;
+}
+
 int main(void)
 {
     const line_sums none = { 0, 0, 0, 0 };
     const line_sums presented = { 1, 1, 15000, 30 };
     const line_sums returned = { 1, 1, 15099, 30 };
+    const line_evening refused = { .code = 25 };
     uint8_t back[DOCUMENT], strange[DOCUMENT];
-    line_evening evening;
 
     memcpy(back, example, DOCUMENT);
     back[ENTITY + 1] = back[DRAWEE + 1] = 0x81;
     back[NOMINAL + 5] = 0x99;
-    evening = line_exchange(example, DOCUMENT, example, 0, example, 0, back,
-                            DOCUMENT);
-    same("both ways", evening.code, 0);
-    same_side("both ways, near", evening.near, side(presented, returned));
-    same_side("both ways, far", evening.far, side(returned, presented));
-
     memcpy(strange, example, DOCUMENT);
     strange[DRAWEE + 1] = 0x73;
-    evening = line_exchange(strange, DOCUMENT, example, 0, example, 0, back,
-                            DOCUMENT);
-    same("not served", evening.code, 0);
-    same_side("not served, near", evening.near, side(none, returned));
-    same_side("not served, far", evening.far, side(returned, none));
 
-    evening = line_exchange(example, DOCUMENT, example, 50, example, 0, back,
-                            DOCUMENT);
-    same("a cut tray", evening.code, 25);
-    same_sums("a cut tray", evening.near.presented, none);
-    same("a cut tray", evening.far.close, 0);
-    same("a cut tray", evening.far.nominal_position, 0);
+    run("both ways", example, 0, back, closed(presented, returned));
+    run("not served", strange, 0, back, closed(none, returned));
+    run("a cut tray", example, 50, back, refused);
 
     printf("%d of %d numbers as wanted\n", passed, passed + failed);
     return failed != 0;

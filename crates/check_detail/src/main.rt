@@ -11,7 +11,7 @@ ghost use Prim.Native.Nat.{_≤_};
 ghost use lib.ListN.{length, take};
 ghost use Rattle.io.specs.Counts.{Counts};
 ghost use Rattle.detail.specs.Checked.{programChecked};
-ghost use Rattle.check_detail.specs.Line.{programLine};
+ghost use Rattle.check_detail.specs.Line.{programLine, mostLineBytes};
 
 // The check of a body, for entity 0072 with nobody represented.
 fn checked(body: &[u8]) -> Checked
@@ -23,7 +23,7 @@ fn checked(body: &[u8]) -> Checked
 
 // The line for a body stands at the start of the buffer, and is so long.
 fn answer(body: &[u8], line: &mut [u8]) -> usize
-    requires { ⌜ 66 ≤ length (now line) ⌝ }
+    requires { ⌜ mostLineBytes ≤ length (now line) ⌝ }
     ensures counts { λ r. ⌜ Counts r (now (line .exit)) ⌝ }
     ensures written { λ r. ⌜ take r (now (line .exit)) ≡ programLine (now (body .entry)) ⌝ }
 {

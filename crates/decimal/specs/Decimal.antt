@@ -13,9 +13,13 @@ unfoldable pub digitsUpTo : (most v : ℕ) → List ℕ
 digitsUpTo zero v = []
 digitsUpTo (suc n) v = cond (ltb v 10) [] (digitsUpTo n (v / 10)) ++ glyph (v % 10) ∷ []
 
--- all of them, one at least and none too many: no value has more digits than units, but for 0
+-- all of them: v + 1 is at least as many as v has
 unfoldable pub decimal : ℕ → List ℕ
 decimal v = digitsUpTo (suc v) v
+
+-- a number of 64 bits has no more digits
+abbrev pub mostDigits : ℕ
+mostDigits = 20
 
 -- a number behind a space
 abbrev pub space : ℕ
@@ -23,3 +27,6 @@ space = 0x20
 
 abbrev pub behindSpace : ℕ → List ℕ
 behindSpace v = space ∷ decimal v
+
+abbrev pub mostBehindSpace : ℕ
+mostBehindSpace = suc mostDigits

@@ -3,7 +3,7 @@
 use mathlib.Core.Path.{_≡_, refl}
 use mathlib.Core.Bool.{Bool, true, not, _&&_}
 use mathlib.Core.List.{List, [], _∷_, _++_, flatMap}
-use Prim.Native.Nat.{ℕ, _-_}
+use Prim.Native.Nat.{ℕ, _*_}
 use lib.Dec.{eqb}
 use lib.ListN.{take, drop, replicate}
 use lib.Seq.{sets}
@@ -24,6 +24,11 @@ use Rattle.detail.specs.Limits.{headBytes}
 use Rattle.detail.specs.Groups.{groups, groupGood, shapeGood, oneOperation, documents}
 use Rattle.detail.specs.Codes.{receiverCode, sendable, presenterCode}
 use Rattle.detail.specs.Checked.{checkedCode, checked}
+
+-- whoever unfolds this unfolds all that a case computes with
+unfoldable pub computing : Unit {0}
+unfolding checked totalsOf nominal commission checkedCode receiverCode presenterCode sendable shapeGood oneOperation documents groups groupGood fieldsGood amountsGood documentFields monthDays draweeServed drawee member every anyOf isDigits byteValue number cut packedByte packedBytes _when_ _orelse_ earning flatMap
+computing = tt
 
 -- 01, 'The check program': a detail of one document
 abbrev pub printed : List ℕ
@@ -78,7 +83,7 @@ rules :
     let rows : List Edges =
     -- identification, 0000 or 80NN
     edges presented 10 2 (0 ∷ 8000 ∷ 8099 ∷ []) (1 ∷ 7999 ∷ 8100 ∷ [])
-    -- DDMM: the first and the last day of each month, 29 February among them, and what lies around them
+    -- DDMM: the last day of each month, 29 February among them, and the day after it; day 00, months 00 and 13
     ∷ edges presented 16 2 (101 ∷ 3101 ∷ 102 ∷ 2902 ∷ 3103 ∷ 3004 ∷ 3105 ∷ 3006 ∷ 3107 ∷ 3108 ∷ 3009 ∷ 3110 ∷ 3011 ∷ 112 ∷ 3112 ∷ []) (1 ∷ 12 ∷ 100 ∷ 113 ∷ 3201 ∷ 3002 ∷ 3203 ∷ 3104 ∷ 3205 ∷ 3106 ∷ 3207 ∷ 3208 ∷ 3109 ∷ 3210 ∷ 3111 ∷ 3212 ∷ [])
     -- both provinces
     ∷ edges presented 22 1 (1 ∷ 52 ∷ []) (0 ∷ 53 ∷ [])
@@ -104,7 +109,7 @@ rules :
     ∷ []
     in
     every hold rows ≡ true
-unfolding every anyOf documentFields monthDays
+unfolding computing
 rules = refl
 
 -- a group of two documents, and a full one with another behind it
@@ -114,7 +119,7 @@ two first second = with-byte 4 0x02 first ++ drop headBytes second
 abbrev twoGroups : (second : List ℕ) → List ℕ
 twoGroups second = with-byte 4 0x04 (printed ++ drop headBytes printed ++ drop headBytes printed ++ drop headBytes printed) ++ second
 
-abbrev byBytes : List Case
+abbrev byBytes : List (Case ℕ)
 byBytes =
     -- free bytes and keys are not read, digits are
     code (with-byte 1 0xFF (sets printed 51 (replicate 4 0xFF))) is 0
@@ -145,8 +150,8 @@ byBytes =
     ∷ checkedCode 72 (replicate 9 0) printed is 24
     ∷ []
 
--- a presenter's own, of a part for entity 0072: an operation, whole documents, one at least; then 01 for fields and 03, and never 06
-abbrev own : List Case
+-- a presenter's own, of a part for entity 0072: an operation, 1 to 200 whole documents; then 01 for fields and 03, and never 06
+abbrev own : List (Case ℕ)
 own =
     let part = drop headBytes printed in
     presenterCode presentedNumber 72 part is 0
@@ -156,16 +161,13 @@ own =
     ∷ presenterCode presentedNumber 72 [] is 1
     ∷ presenterCode presentedNumber 72 (take 50 part) is 1
     ∷ presenterCode presentedNumber 72 (part ++ 0x00 ∷ []) is 1
+    ∷ (1 when not (sendable presentedNumber (replicate (200 * 51) 0x00))) is 0
+    ∷ (1 when not (sendable presentedNumber (replicate (201 * 51) 0x00))) is 1
     ∷ presenterCode presentedNumber 73 part is 1
     ∷ presenterCode presentedNumber 72 (drop headBytes (with-byte 35 0x0A printed) ++ drop headBytes (with-byte 22 0x53 printed)) is 1
     ∷ presenterCode presentedNumber 72 (drop headBytes (with-byte 35 0x0A printed)) is 3
     ∷ presenterCode presentedNumber 72 (drop headBytes (with-byte 37 0x73 printed)) is 0
     ∷ []
-
--- whoever unfolds this unfolds all that a case computes with
-unfoldable pub computing : Unit {0}
-unfolding checked totalsOf nominal commission checkedCode receiverCode presenterCode sendable shapeGood oneOperation documents groups groupGood fieldsGood amountsGood documentFields monthDays draweeServed drawee member every isDigits byteValue number cut packedByte packedBytes _when_ _orelse_ earning flatMap
-computing = tt
 
 codes-due : AllDue byBytes
 unfolding computing

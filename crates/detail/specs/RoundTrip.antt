@@ -18,9 +18,13 @@ use Rattle.detail.specs.Writing.{writtenDetail}
 abbrev pub WrittenThenRead : Type 0
 WrittenThenRead = (operation : ℕ) (part : List ℕ) → sendable operation part ≡ true → let body = writtenDetail (packedByte operation) part in (operationOf body ≡ packedByte operation) × (documents body ≡ documentsOf part)
 
--- and where its presenter lets it pass, its receiver, whomever that represents, finds no fault in it but a drawee that is not served: 06, or none
+-- 06 where a drawee of a part is not one whom its receiver serves, or none
+abbrev pub draweeCode : (operation partner : ℕ) (represented part : List ℕ) → ℕ
+draweeCode operation partner represented part = 6 when not (every (draweeServed (packedByte operation) partner represented) (documentsOf part))
+
+-- and where its presenter lets it pass, its receiver, whomever that represents, finds no other fault in it
 abbrev pub WrittenThenAccepted : Type 0
-WrittenThenAccepted = (operation partner : ℕ) (part represented : List ℕ) → presenterCode operation partner part ≡ 0 → receiverCode partner represented (writtenDetail (packedByte operation) part) ≡ (6 when not (every (draweeServed (packedByte operation) partner represented) (documentsOf part)))
+WrittenThenAccepted = (operation partner : ℕ) (part represented : List ℕ) → presenterCode operation partner part ≡ 0 → receiverCode partner represented (writtenDetail (packedByte operation) part) ≡ draweeCode operation partner represented part
 
 -- the documents of a body as one part
 unfoldable pub partOf : List ℕ → List ℕ

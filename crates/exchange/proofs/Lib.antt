@@ -1,2 +1,3 @@
--- Laws that the proofs of this crate cite.
+-- Laws that the proofs of this crate cite, and rows of what an evening shows.
 pub mod Laws
+pub mod Cases

@@ -39,16 +39,16 @@ awaitedNumber Awaited.Neither = 0
 awaitedNumber (Awaited.LotTotal lot) = 1
 awaitedNumber Awaited.SessionTotal = 2
 
--- the lot that is named; where none is, one of number 0 and no documents
+-- the lot whose total is awaited; where none is, one of number 0 and no documents
 abbrev pub noLot : Lot
 noLot = record { number = 0; gathered = empty }
 
-abbrev pub namedLot : Awaited → Lot
-namedLot (Awaited.LotTotal lot) = lot
-namedLot Awaited.Neither = noLot
-namedLot Awaited.SessionTotal = noLot
+abbrev pub awaitedLot : Awaited → Lot
+awaitedLot (Awaited.LotTotal lot) = lot
+awaitedLot Awaited.Neither = noLot
+awaitedLot Awaited.SessionTotal = noLot
 
--- a report in plain numbers; a named lot is not among the accepted ones, so its sums count no lot
+-- a report in plain numbers; an awaited lot is not among the accepted ones, so its sums count no lot
 abbrev pub sideOf : Report → Side
 sideOf r =
     record {
@@ -56,8 +56,8 @@ sideOf r =
       received = sumsOf (r .received .lots) (r .received .gathered);
       close = closeNumber (r .close);
       awaited = awaitedNumber (r .awaited);
-      «lot_number» = namedLot (r .awaited) .number;
-      lot = sumsOf 0 (namedLot (r .awaited) .gathered);
+      «lot_number» = awaitedLot (r .awaited) .number;
+      lot = sumsOf 0 (awaitedLot (r .awaited) .gathered);
       «nominal_position» = r .positions .nominal;
       «commission_position» = r .positions .commission;
     }

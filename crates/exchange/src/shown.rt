@@ -6,7 +6,7 @@ use session::report::Awaited;
 use session::report::Report;
 use session::session::Close;
 ghost use mathlib.Core.Path.{_≡_};
-ghost use Rattle.exchange.specs.Evening.{sumsOf, closeNumber, awaitedNumber, noLot, namedLot, sideOf, noSide};
+ghost use Rattle.exchange.specs.Evening.{sumsOf, closeNumber, awaitedNumber, noLot, awaitedLot, sideOf, noSide};
 
 #[repr(C)]
 pub struct Sums {
@@ -76,9 +76,9 @@ fn no_lot() -> Lot
     }
 }
 
-// The lot that is named.
-fn named_lot(awaited: Awaited) -> Lot
-    ensures { λ r. ⌜ r ≡ namedLot awaited ⌝ }
+// The lot whose total is awaited.
+fn awaited_lot(awaited: Awaited) -> Lot
+    ensures { λ r. ⌜ r ≡ awaitedLot awaited ⌝ }
 {
     match awaited {
         Awaited::Neither => no_lot(),
@@ -94,7 +94,7 @@ pub fn side_of(r: Report) -> Side
     let received = r.received;
     let close = r.close;
     let awaited = r.awaited;
-    let lot = named_lot(awaited);
+    let lot = awaited_lot(awaited);
     Side {
         presented: sums_of(presented.lots as u64, presented.gathered),
         received: sums_of(received.lots as u64, received.gathered),

@@ -2,7 +2,7 @@
 use mathlib.Core.Path.{refl}
 use mathlib.Core.Bool.{not}
 use mathlib.Core.List.{List, [], _∷_, _++_}
-use Prim.Native.Nat.{ℕ, _-_}
+use Prim.Native.Nat.{ℕ}
 use lib.ListN.{take}
 use Rattle.packed.specs.Every.{every}
 use Rattle.packed.specs.Digits.{isDigits}
@@ -50,7 +50,7 @@ one-lot = lot 7 1 15000 30
 abbrev no-lots : List ℕ
 no-lots = bodyBytes day (Body.sessionEnding (record { number = 0; stated = totals 0 0 0 }))
 
-bodies : List Case
+bodies : List (Case ℕ)
 bodies =
     bodyCode (header day) plain is 0
     ∷ bodyCode (header day) (headed day 23595999 9999) is 0
@@ -84,6 +84,7 @@ bodies =
     ∷ bodyCode sessionTotal (with-byte 9 0x0A no-lots) is 1
     ∷ bodyCode sessionTotal (with-byte 10 0xA0 no-lots) is 3
     ∷ bodyCode sessionTotal (with-byte 25 0x0A no-lots) is 3
+    ∷ bodyCode sessionTotal (with-byte 9 0x0A (with-byte 25 0x0A no-lots)) is 1
     ∷ []
 
 -- the shortest message, and a reply
@@ -99,7 +100,7 @@ replied operation code = 0x00 ∷ 0x51 ∷ operation ∷ code ∷ []
 abbrev refused : Kind → List ℕ → ℕ
 refused kind bytes = 21 when not (envelopeGood kind bytes)
 
-lengths : List Case
+lengths : List (Case ℕ)
 lengths =
     (21 when not (lengthGood Kind.Message 12)) is 21
     ∷ (21 when not (lengthGood Kind.Message 13)) is 0
@@ -110,7 +111,7 @@ lengths =
     ∷ (21 when not (lengthGood Kind.Reply 17)) is 21
     ∷ []
 
-envelopes : List Case
+envelopes : List (Case ℕ)
 envelopes =
     refused Kind.Message shortest is 0
     ∷ refused Kind.Message (opening Kind.Message 990099 99999999 ++ 0x00 ∷ []) is 0
@@ -125,7 +126,7 @@ envelopes =
     ∷ refused Kind.Reply (opening Kind.Reply 140328 1 ++ replied 0x86 0x00 ++ 0x00 ∷ []) is 21
     ∷ []
 
-replies : List Case
+replies : List (Case ℕ)
 replies =
     (22 when not (replyGood (replied 0x86 0x00))) is 0
     ∷ (22 when not (replyGood (with-byte 1 0xFF (replied 0x97 0x12)))) is 0
@@ -142,7 +143,7 @@ replies =
 abbrev answer : List ℕ → ℕ
 answer body = operationNumber (replyOperation (contentOf body))
 
-operations : List Case
+operations : List (Case ℕ)
 operations =
     answer [] is 86
     ∷ answer (0x00 ∷ 0x51 ∷ []) is 86

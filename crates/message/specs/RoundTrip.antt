@@ -35,17 +35,21 @@ EnvelopeRead kind e bytes = readEnvelope kind bytes ≡ envelopeSaid (ReadEnvelo
 abbrev pub BodyRead : Envelope → Body → (body : List ℕ) → Type 0
 BodyRead e x body = readBody (layoutOf (e .route) x) body ≡ reading 0 (valuesOf (e .route) x)
 
+-- a whole message is read as both
+abbrev pub MessageRead : Envelope → Body → (bytes : List ℕ) → Type 0
+MessageRead e x bytes = EnvelopeRead Kind.Message e bytes × BodyRead e x (bodyOf bytes)
+
 -- the bytes of a message or a reply, with the free byte of its body 00
 abbrev pub clearedBody : (bytes : List ℕ) → List ℕ
 clearedBody bytes = take envelopeBytes bytes ++ cleared (bodyOf bytes)
 
 -- a message that is written and read
 abbrev pub MessageWrittenThenRead : Type 0
-MessageWrittenThenRead = (e : Envelope) (x : Body) → EnvelopeFits e → BodyFits e x → let bytes = wholeMessage e (bodyBytes (e .route) x) in EnvelopeRead Kind.Message e bytes × BodyRead e x (bodyOf bytes)
+MessageWrittenThenRead = (e : Envelope) (x : Body) → EnvelopeFits e → BodyFits e x → MessageRead e x (wholeMessage e (bodyBytes (e .route) x))
 
 -- a message that is read and written
 abbrev pub MessageReadThenWritten : Type 0
-MessageReadThenWritten = (e : Envelope) (x : Body) (bytes : List ℕ) → EnvelopeRead Kind.Message e bytes → BodyRead e x (bodyOf bytes) → wholeMessage e (bodyBytes (e .route) x) ≡ clearedBody bytes
+MessageReadThenWritten = (e : Envelope) (x : Body) (bytes : List ℕ) → MessageRead e x bytes → wholeMessage e (bodyBytes (e .route) x) ≡ clearedBody bytes
 
 -- a reply that is written and read
 abbrev pub ReplyWrittenThenRead : Type 0

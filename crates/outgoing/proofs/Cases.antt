@@ -7,23 +7,26 @@ use Rattle.codes.specs.Chain.{_when_}
 use Rattle.codes.proofs.Cases.{_is_, AllDue}
 use Rattle.outgoing.specs.Outgoing.{next, checkCode}
 
--- so many documents, each filled with one byte
+-- a document filled with one byte, and a tray of so many of the same
+abbrev document : (byte : ℕ) → List ℕ
+document byte = replicate 51 byte
+
 abbrev tray : (documents byte : ℕ) → List ℕ
 tray documents byte = replicate (documents * 51) byte
 
--- presentations of ones, returns of twos
+-- three presentations and two returns, each with its own byte
 abbrev presentations : List ℕ
-presentations = tray 3 1
+presentations = document 1 ++ document 2 ++ document 3
 
 abbrev returns : List ℕ
-returns = tray 2 2
+returns = document 4 ++ document 5
 
 -- the next part of these trays: how long it is, and its first byte, 0 where it has none
 abbrev size : (presentationsSent returnsSent : ℕ) → ℕ
 size p r = length (next presentations returns p r)
 
-abbrev kind : (presentationsSent returnsSent : ℕ) → ℕ
-kind p r = getD (next presentations returns p r) 0 0
+abbrev first : (presentationsSent returnsSent : ℕ) → ℕ
+first p r = getD (next presentations returns p r) 0 0
 
 all-due : AllDue
     -- a length that is no multiple of 51, in either tray
@@ -41,11 +44,11 @@ all-due : AllDue
     ∷ length (next presentations (returns ++ 2 ∷ []) 0 0) is 0
     -- presentations while any remain, then returns, then nothing
     ∷ size 0 0 is 153
-    ∷ kind 0 0 is 1
+    ∷ first 0 0 is 1
     ∷ size 2 1 is 51
-    ∷ kind 2 1 is 1
+    ∷ first 2 1 is 3
     ∷ size 3 1 is 51
-    ∷ kind 3 1 is 2
+    ∷ first 3 1 is 5
     ∷ size 3 2 is 0
     -- 200, or all that remain
     ∷ length (next (tray 201 1) [] 0 0) is 10200

@@ -26,12 +26,13 @@ use Rattle.session.specs.Premise.{PendingSound}
 use Rattle.session.specs.Ledger.{LedgerLot, Ledger, Entry, blank, enter, moved, lotSum, lotsSum, tallied}
 use Rattle.session.specs.Engine.{Call, Engine, performed, saidBy, withEmpty, Ready}
 use Rattle.session.specs.Ends.{End, other, Event, World, Step, replaced, act, run, Brought, Possible, engines, begun, StartsAccepted}
-use Rattle.session.specs.Entering.{namedLot, awaitedBy, toBeNamed, PresenterLedger, unpresented, ReceiverLedger, presenterEnters, receiverEnters, presenterLedgerAt, receiverLedgerAt}
+use Rattle.session.specs.Entering.{Waiting, namedLot, namedBy, awaitedBy, toBeNamed, PresenterLedger, unpresented, ReceiverLedger, presenterEnters, receiverEnters, presenterLedgerAt, receiverLedgerAt}
 use Rattle.session.specs.Claim.{oneMore, confirmed, counted, reportAt, presentedTally, receivedTally, Level, Ahead, JustReplied, Agreement, AfterAnyCalls, BothEndsTogether}
 use Rattle.session.proofs.Laws.Parties.{Told, told}
 use Rattle.session.proofs.Laws.Ledger.{openOf, lotOf, lots-last, one-longer}
 use Rattle.session.proofs.Laws.Line.{accepts}
-use Rattle.session.proofs.Laws.Joined.{waitingEffect, Link, Joined, PresentingEnd, ReceivingEnd, presentingEnd, receivingEnd}
+use Rattle.session.proofs.Laws.Joined.{pendingAs, waitingEffect, Link, Joined, PresentingEnd, ReceivingEnd, presentingEnd, receivingEnd}
+use Rattle.session.proofs.Laws.Steps.{every-end, both-ends, at-its-end}
 use Rattle.session.proofs.Laws.Presenter.{presenter-step}
 use Rattle.session.proofs.Laws.Receiver.{receiver-step}
 use Rattle.session.proofs.Laws.Sound.{fresh-sound, fresh-carried}
@@ -70,13 +71,6 @@ module _ (x : End) (call : Call) (line : List ℕ) (e f : Engine) (bp : Presente
   at-receiver way j =
       subst (λ (route : Route). Joined route (presentsWith f bp) (receivesWith d (cond (eqb (event .said .number) 0) (receiverEnters call (event .said .bytes) br) br)) (event ∷ trace)) (sym way)
       (receiver-step x e ready different (presentsWith f bp) br trace (subst (λ (route : Route). Joined route (presentsWith f bp) (receivesWith e br) trace) way j) call line brought)
-
--- what holds of the engine after a call, and of the other end, holds of both
-pub both-ends : (Q : End → Engine → Type 0) (x : End) (e : Engine) (engine : End → Engine) → Q x e → Q (other x) (engine (other x)) → (y : End) → Q y (replaced x e engine y)
-both-ends Q End.near e engine here there End.near = here
-both-ends Q End.near e engine here there End.far = there
-both-ends Q End.far e engine here there End.near = there
-both-ends Q End.far e engine here there End.far = here
 
 -- every call keeps both directions
 module _ (w : World) (all : Whole w) (call : Call) (line : List ℕ) (brought : Brought call (w .trace)) where
@@ -118,7 +112,7 @@ fresh-joined a b route =
       receiver = record { course = refl; kept = refl; once = tt; new = tt };
       seen = record { earlier = refl; last-seen = inl refl };
       link = Link.idle refl refl refl;
-      waits = λ (e : Entry) (w : none ≡ some e). absurd (Option·none-ne-some e w);
+      waits = λ (m : Waiting) (w : none ≡ some m). absurd (Option·none-ne-some m w);
       messages = λ (bytes : List ℕ) (w : ⊥). absurd w;
       replies = λ (bytes : List ℕ) (w : ⊥). absurd w;
     }
@@ -137,10 +131,6 @@ unfolding start
 just-started date own partner represented n =
     let good = not-false (partiesGood date own partner represented) (none-test 24 (not (partiesGood date own partner represented)) (lit< tt) n) in
     (told date own partner represented good, ap (λ (t : Bool). cond t (started date own partner represented) (fresh nobody Close.Forced)) (sym good))
-
-two-ends : (Q : End → Engine → Type 0) (a b : Engine) → Q End.near a → Q End.far b → (x : End) → Q x (engines a b x)
-two-ends Q a b here there End.near = here
-two-ends Q a b here there End.far = there
 
 begun-whole : (date one two : ℕ) (represented : End → List ℕ) → StartsAccepted date one two represented → Whole (begun date one two represented)
 unfolding begun fresh presenterLedgerAt receiverLedgerAt
@@ -163,17 +153,11 @@ begun-whole date one two represented begins =
     whole : Told date one two (represented End.near) → Told date two one (represented End.far) → Whole world
     whole a b =
         record {
-          ready = two-ends (λ (x : End) (e : Engine). Ready e) _ _ (fresh-ready date one two (represented End.near) a) (fresh-ready date two one (represented End.far) b);
-          different = two-ends (λ (x : End) (e : Engine). e .session .parties .own ≡ e .session .parties .partner → ⊥) _ _ (a .different) (b .different);
+          ready = every-end (λ (x : End) (e : Engine). Ready e) End.near (world .engine) (fresh-ready date one two (represented End.near) a) (fresh-ready date two one (represented End.far) b);
+          different = every-end (λ (x : End) (e : Engine). e .session .parties .own ≡ e .session .parties .partner → ⊥) End.near (world .engine) (a .different) (b .different);
           ways = ways;
           joined = joined;
         }
-
--- after a reply call that was not refused nothing waits
-none-after : (p : End) (time : ℕ) (bytes said : List ℕ) (earlier : List Event) → presenterLedgerAt p (record { at = p; call = Call.reply time bytes; said = record { number = 0; bytes = said } } ∷ earlier) .waiting ≡ none
-unfolding presenterLedgerAt
-none-after End.near time bytes said earlier = refl
-none-after End.far time bytes said earlier = refl
 
 -- joined ends agree
 module _ (w : World) (all : Whole w) (p : End) where
@@ -208,13 +192,16 @@ module _ (w : World) (all : Whole w) (p : End) where
       lot none h = absurd (false≢true (ap isOpen h))
       lot (some l) h = refl
 
-      go : (waiting : Option Entry) → PendingSound (waitingEffect waiting (bp .ledger)) (e .session .presenting .counters) → awaited (waitingEffect waiting (bp .ledger)) ≡ awaitedBy waiting (bp .ledger .current)
+      by-entry : (d : Entry) → PendingSound (pendingAs d (bp .ledger)) (e .session .presenting .counters) → awaited (pendingAs d (bp .ledger)) ≡ namedBy d (bp .ledger .current)
+      by-entry (Entry.header number) s = refl
+      by-entry (Entry.detail ds) s = refl
+      by-entry Entry.lotTotal s = lot (bp .ledger .current) (sym same-open ∙ s)
+      by-entry Entry.sessionTotal s = refl
+      by-entry Entry.unknown s = refl
+
+      go : (waiting : Option Waiting) → PendingSound (waitingEffect waiting (bp .ledger)) (e .session .presenting .counters) → awaited (waitingEffect waiting (bp .ledger)) ≡ awaitedBy waiting (bp .ledger .current)
       go none s = refl
-      go (some (Entry.header number)) s = refl
-      go (some (Entry.detail ds)) s = refl
-      go (some Entry.lotTotal) s = lot (bp .ledger .current) (sym same-open ∙ s)
-      go (some Entry.sessionTotal) s = refl
-      go (some Entry.unknown) s = refl
+      go (some m) s = by-entry (m .entry) s
 
   level : counted w p ≡ confirmed w p → Level w p
   level same = record { lots = same; totals = received ∙ ap tallied same ∙ sym presented }
@@ -240,11 +227,11 @@ module _ (w : World) (all : Whole w) (p : End) where
       lots-of : {a b : Ledger} → a ≡ b → a .lots ≡ b .lots
       lots-of h = ap (λ (l : Ledger). l .lots) h
 
-      ended : (current : Option LedgerLot) → bp .waiting ≡ some Entry.lotTotal → bp .ledger .current ≡ current → counted w p ≡ moved (confirmed w p) current → Level w p ⊎ Ahead w p
-      ended none w c h = inl (level h)
-      ended (some l) w c h = inr (ahead l c (λ i. awaitedBy (w i) (c i)) h)
+      ended : (current : Option LedgerLot) → toBeNamed bp ≡ namedLot (bp .ledger .current) → bp .ledger .current ≡ current → counted w p ≡ moved (confirmed w p) current → Level w p ⊎ Ahead w p
+      ended none n c h = inl (level h)
+      ended (some l) n c h = inr (ahead l c (n ∙ ap namedLot c) h)
 
-      entered : (d : Entry) (accepted : Bool) → bp .waiting ≡ some d → br .ledger ≡ enter d accepted (bp .ledger) → Level w p ⊎ Ahead w p
+      entered : (d : Entry) (accepted : Bool) → toBeNamed bp ≡ namedBy d (bp .ledger .current) → br .ledger ≡ enter d accepted (bp .ledger) → Level w p ⊎ Ahead w p
       entered (Entry.header number) true w h = inl (level (lots-of h))
       entered (Entry.header number) false w h = inl (level (lots-of h))
       entered (Entry.detail ds) true w h = inl (level (lots-of h))
@@ -257,13 +244,13 @@ module _ (w : World) (all : Whole w) (p : End) where
       go : Link (e .session .presenting) (f .session .receiving) (bp .waiting) (bp .ledger) (br .ledger) → Level w p ⊎ Ahead w p
       go (Link.idle w s b) = inl (level (lots-of (sym b)))
       go (Link.sent d w s b) = inl (level (lots-of (sym b)))
-      go (Link.taken d w s b o) = entered d (accepts (f .session .receiving .reply .code)) w b
+      go (Link.taken m w s b o) = entered (m .entry) (accepts (f .session .receiving .reply .code)) (ap (λ (o : Option Waiting). awaitedBy o (bp .ledger .current)) w) b
 
   settled : JustReplied w p → (reportAt w p .awaited ≡ Awaited.Neither) × Level w p
-  settled just = (named ∙ ap (λ (o : Option Entry). awaitedBy o (bp .ledger .current)) waits, go (all .joined p .link))
+  settled just = (named ∙ ap (λ (o : Option Waiting). awaitedBy o (bp .ledger .current)) waits, go (all .joined p .link))
     where
       waits : bp .waiting ≡ none
-      waits = ap (λ (trace : List Event). presenterLedgerAt p trace .waiting) (just .latest) ∙ none-after p (just .time) (just .bytes) (just .said) (just .earlier)
+      waits = ap (λ (trace : List Event). presenterLedgerAt p trace .waiting) (just .latest) ∙ ap (λ (b : PresenterLedger). b .waiting) (at-its-end p (Call.reply (just .time) (just .bytes)) 0 (just .said) (just .earlier) refl)
 
       go : Link (e .session .presenting) (f .session .receiving) (bp .waiting) (bp .ledger) (br .ledger) → Level w p
       go (Link.idle h s b) = level (ap (λ (l : Ledger). l .lots) (sym b))

@@ -1,15 +1,15 @@
--- 01, 'Cases': the starred ones, each beside what the paper says of it: one table, one theorem. A second table has the numbers that no starred
--- case earns.
-use mathlib.Core.Path.{_≡_, refl}
-use mathlib.Core.List.{List, [], _∷_, map}
-use Prim.Native.Nat.{ℕ, _-_}
+-- 01, 'Cases': the starred ones, each beside what the paper says of it: one table, one theorem. A second table has what else decides a number, a start
+-- among it, and the closes.
+use mathlib.Core.Path.{refl}
+use mathlib.Core.List.{List, [], _∷_, _++_}
+use Prim.Native.Nat.{ℕ}
 use lib.ListN.{drop, replicate}
 use Rattle.packed.specs.Part.{byteAt}
 use Rattle.packed.specs.Number.{byteValue}
 use Rattle.amounts.specs.declared.Totals.{Totals}
 use Rattle.amounts.specs.Totals.{totals, zeros}
 use Rattle.codes.specs.declared.code.Code.{Code}
-use Rattle.codes.proofs.Cases.{with-byte}
+use Rattle.codes.proofs.Cases.{Case, _is_, AllDue, with-byte}
 use Rattle.document.specs.Operation.{presentedNumber}
 use Rattle.detail.specs.Limits.{headBytes}
 use Rattle.detail.specs.declared.checked.Checked.{Checked}
@@ -25,18 +25,7 @@ use Rattle.session.specs.Engine.{Call, Engine, Performed, performed, sai
 use Rattle.session.specs.Ends.{End}
 use Rattle.session.proofs.Examples.{computing, buffer, moment, Sent, messageFrom, replyTo, sending, receiving, replied}
 
--- what a case asks: what the check program shows of a body; the number of a start, and of a call; its number and the reply that it writes; all that it
--- says and leaves; its number with a line buffer of so many bytes; the close that it leaves
-pub data Asked : Type 0 where
-  checked : (body : List ℕ) → Asked
-  started : (date own partner : ℕ) (represented : List ℕ) → Asked
-  number : Engine → Call → Asked
-  reply : Engine → Call → Asked
-  everything : Engine → Call → Asked
-  inRoom : (bytes : ℕ) → Engine → Call → Asked
-  close : Engine → Call → Asked
-
--- and what it gets; beside a reply stand the open lot, 0 for none, and its documents
+-- what a case gets; beside a reply stand the open lot, 0 for none, and its documents
 pub data Answer : Type 0 where
   checked : Checked → Answer
   number : ℕ → Answer
@@ -44,32 +33,37 @@ pub data Answer : Type 0 where
   everything : Performed → Answer
   close : Close → Answer
 
-abbrev replied-by : Performed → Answer
-replied-by d =
-    Answer.reply (d .number) (byteValue (byteAt 15 (saidBy d .bytes))) (byteValue (byteAt 16 (saidBy d .bytes)))
-    (openNumber (d .engine .session .receiving .counters .current)) (documentsIn (d .engine .receiving))
+-- what the check program shows of a body, and the printed line: code, documents, nominal, commission
+abbrev checkedOf : (body : List ℕ) → Answer
+checkedOf body = Answer.checked (programChecked body)
 
-abbrev pub answer : Asked → Answer
-answer (Asked.checked body) = Answer.checked (programChecked body)
-answer (Asked.started date own partner represented) = Answer.number (start date own partner represented .number)
-answer (Asked.number e call) = Answer.number (performed call buffer e .number)
-answer (Asked.reply e call) = replied-by (performed call buffer e)
-answer (Asked.everything e call) = Answer.everything (performed call buffer e)
-answer (Asked.inRoom bytes e call) = Answer.number (performed call (replicate bytes 0) e .number)
-answer (Asked.close e call) = Answer.close (performed call buffer e .engine .session .close)
-
--- the printed line: code, documents, nominal, commission
 abbrev shows : ℕ → Totals → Answer
 shows code t = Answer.checked (fourNumbers code t)
 
--- a case beside the paper's answer
-pub record Case : Type 0 where
-  pub asked : Asked
-  pub due : Answer
+-- the number of a start, and of a call, also with a line buffer of so many bytes
+abbrev startOf : (date own partner : ℕ) (represented : List ℕ) → Answer
+startOf date own partner represented = Answer.number (start date own partner represented .number)
 
-infix 70 _is_
-abbrev pub _is_ : Asked → Answer → Case
-asked is due = record { asked = asked; due = due }
+abbrev pub numberOf : Engine → Call → Answer
+numberOf e call = Answer.number (performed call buffer e .number)
+
+abbrev pub numberInRoom : (bytes : ℕ) → Engine → Call → Answer
+numberInRoom bytes e call = Answer.number (performed call (replicate bytes 0) e .number)
+
+-- its number and the reply that it writes; all that it says and leaves; the close that it leaves
+abbrev repliedBy : Performed → Answer
+repliedBy d =
+    Answer.reply (d .number) (byteValue (byteAt 15 (saidBy d .bytes))) (byteValue (byteAt 16 (saidBy d .bytes)))
+    (openNumber (d .engine .session .receiving .counters .current)) (documentsIn (d .engine .receiving))
+
+abbrev pub replyOf : Engine → Call → Answer
+replyOf e call = repliedBy (performed call buffer e)
+
+abbrev everythingOf : Engine → Call → Answer
+everythingOf e call = Answer.everything (performed call buffer e)
+
+abbrev closeOf : Engine → Call → Answer
+closeOf e call = Answer.close (performed call buffer e .engine .session .close)
 
 -- entity 0081 presents to entity 0072: both engines, just started
 abbrev pub presenter : Engine
@@ -124,38 +118,38 @@ fifth-again time =
 
 starred-cases :
     -- beside a reply: number of the call, operation, code, open lot or 0, its documents
-    let cases : List Case =
+    let cases : List (Case Answer) =
     -- the printed body, and as it is changed
-    Asked.checked printed is shows 0 (totals 1 15000 30)
-    ∷ Asked.checked (with-byte 35 0x0A printed) is shows 3 zeros
-    ∷ Asked.checked (with-byte 36 0x00 (with-byte 37 0x73 printed)) is shows 6 zeros
-    ∷ Asked.checked (with-byte 35 0x0A (with-byte 22 0x53 printed)) is shows 1 zeros
-    ∷ Asked.checked [] is shows 1 zeros
+    checkedOf printed is shows 0 (totals 1 15000 30)
+    ∷ checkedOf (with-byte 35 0x0A printed) is shows 3 zeros
+    ∷ checkedOf (with-byte 36 0x00 (with-byte 37 0x73 printed)) is shows 6 zeros
+    ∷ checkedOf (with-byte 35 0x0A (with-byte 22 0x53 printed)) is shows 1 zeros
+    ∷ checkedOf [] is shows 1 zeros
     -- a header at 83,699 and at 83,700: sent, then received
-    ∷ Asked.number presenter (sending 83699 (Sent.header 7)) is Answer.number 0
-    ∷ Asked.number presenter (sending 83700 (Sent.header 7)) is Answer.number 10
-    ∷ Asked.reply receiver (arriving 83699 1 (Sent.header 7)) is Answer.reply 0 86 0 7 0
-    ∷ Asked.reply receiver (arriving 83700 1 (Sent.header 7)) is Answer.reply 0 86 10 0 0
+    ∷ numberOf presenter (sending 83699 (Sent.header 7)) is Answer.number 0
+    ∷ numberOf presenter (sending 83700 (Sent.header 7)) is Answer.number 10
+    ∷ replyOf receiver (arriving 83699 1 (Sent.header 7)) is Answer.reply 0 86 0 7 0
+    ∷ replyOf receiver (arriving 83700 1 (Sent.header 7)) is Answer.reply 0 86 10 0 0
     -- a detail to 2,600 and to 2,601: sent, then received
-    ∷ Asked.number (holding 2599 openPresenter) (sending 80000 detail) is Answer.number 0
-    ∷ Asked.number (holding 2600 openPresenter) (sending 80000 detail) is Answer.number 12
-    ∷ Asked.reply (holding 2599 openReceiver) (arriving 80000 2 detail) is Answer.reply 0 86 0 7 2600
-    ∷ Asked.reply (holding 2600 openReceiver) (arriving 80000 2 detail) is Answer.reply 0 86 12 7 2600
+    ∷ numberOf (holding 2599 openPresenter) (sending 80000 detail) is Answer.number 0
+    ∷ numberOf (holding 2600 openPresenter) (sending 80000 detail) is Answer.number 12
+    ∷ replyOf (holding 2599 openReceiver) (arriving 80000 2 detail) is Answer.reply 0 86 0 7 2600
+    ∷ replyOf (holding 2600 openReceiver) (arriving 80000 2 detail) is Answer.reply 0 86 12 7 2600
     -- a lot total with no accepted detail
-    ∷ Asked.reply openReceiver (arriving 80000 2 (Sent.lotTotal 7 zeros)) is Answer.reply 0 87 7 0 0
+    ∷ replyOf openReceiver (arriving 80000 2 (Sent.lotTotal 7 zeros)) is Answer.reply 0 87 7 0 0
     -- two lots of the same totals
-    ∷ Asked.reply (after (arriving 80000 2 detail ∷ []) openReceiver) (arriving 80000 3 (total 7)) is Answer.reply 0 87 0 0 0
-    ∷ Asked.reply five (arriving 80000 6 (total 8)) is Answer.reply 0 87 4 0 0
+    ∷ replyOf (after (arriving 80000 2 detail ∷ []) openReceiver) (arriving 80000 3 (total 7)) is Answer.reply 0 87 0 0 0
+    ∷ replyOf five (arriving 80000 6 (total 8)) is Answer.reply 0 87 4 0 0
     -- after serial 5: 5 with its own body and with another, 4, 7
-    ∷ Asked.everything five (arriving 80001 5 detail) is Answer.everything (fifth-again 80001)
-    ∷ Asked.everything five (arriving 80001 5 (Sent.header 9)) is Answer.everything (fifth-again 80001)
-    ∷ Asked.number five (arriving 80001 4 (Sent.header 8)) is Answer.number 35
-    ∷ Asked.number five (arriving 80001 7 (total 8)) is Answer.number 35
+    ∷ everythingOf five (arriving 80001 5 detail) is Answer.everything (fifth-again 80001)
+    ∷ everythingOf five (arriving 80001 5 (Sent.header 9)) is Answer.everything (fifth-again 80001)
+    ∷ numberOf five (arriving 80001 4 (Sent.header 8)) is Answer.number 35
+    ∷ numberOf five (arriving 80001 7 (total 8)) is Answer.number 35
     -- a session total of zeros with no lot
-    ∷ Asked.reply receiver (arriving 80000 1 (Sent.sessionTotal 0 zeros)) is Answer.reply 0 97 0 0 0
+    ∷ replyOf receiver (arriving 80000 1 (Sent.sessionTotal 0 zeros)) is Answer.reply 0 97 0 0 0
     ∷ []
     in
-    map (λ (c : Case). answer (c .asked)) cases ≡ map (λ (c : Case). c .due) cases
+    AllDue cases
 unfolding computing
 starred-cases = refl
 
@@ -192,20 +186,23 @@ onePast = after (arriving 80000 2 detail ∷ arriving 80000 3 (total 7) ∷ []) 
 abbrev endedReceiver : Engine
 endedReceiver = after (arriving 80000 1 (Sent.sessionTotal 0 zeros) ∷ []) receiver
 
--- the presenter when its direction has ended, and when both have
+-- the presenter when its session total was answered with a code, when that ended its direction, and when both have ended
+abbrev totalAnswered : Code → Engine
+totalAnswered code = after (sending 80000 (Sent.sessionTotal 0 zeros) ∷ replied 80000 End.near 1 (Sent.sessionTotal 0 zeros) code ∷ []) presenter
+
 abbrev endedPresenter : Engine
-endedPresenter = after (sending 80000 (Sent.sessionTotal 0 zeros) ∷ replied 80000 End.near 1 (Sent.sessionTotal 0 zeros) Code.Accepted ∷ []) presenter
+endedPresenter = totalAnswered Code.Accepted
 
 abbrev bothEnded : Engine
 bothEnded = after (receiving 80000 End.far 1 (Sent.sessionTotal 0 zeros) ∷ []) endedPresenter
 
--- entity 0072 that represents 0073, with lot 7 open
+-- entity 0072 that represents eight, 0073 the last of them, with lot 7 open
 abbrev representing : Engine
-representing = after (arriving 80000 1 (Sent.header 7) ∷ []) (withEmpty (start 140328 72 81 (73 ∷ []) .session))
+representing = after (arriving 80000 1 (Sent.header 7) ∷ []) (withEmpty (start 140328 72 81 (replicate 7 0 ++ 73 ∷ []) .session))
 
 -- the printed document with another drawee
-abbrev pub drawnOn : (byte : ℕ) → Sent
-drawnOn b = Sent.detail presentedNumber (drop headBytes (with-byte 37 b printed))
+abbrev pub withDrawee : (byte : ℕ) → Sent
+withDrawee b = Sent.detail presentedNumber (drop headBytes (with-byte 37 b printed))
 
 -- a header but for its operation, which is none of 01's
 abbrev strange : Call
@@ -214,91 +211,94 @@ strange = Call.receive 80000 (with-byte 15 0x02 (messageFrom End.near 1 (Sent.he
 -- Beside the starred cases, every other number that the state, the clock, the line or the buffer decides, each where it begins and where it does
 -- not yet, and every close: one table, one theorem.
 every-number :
-    let cases : List Case =
+    let cases : List (Case Answer) =
     -- 20, 30, 31, 32
-    Asked.number presenter (sending 86400 (Sent.header 7)) is Answer.number 20
-    ∷ Asked.number (after (Call.clock 80000 ∷ []) presenter) (sending 79999 (Sent.header 7)) is Answer.number 30
-    ∷ Asked.number (after (Call.clock 80000 ∷ []) presenter) (sending 80000 (Sent.header 7)) is Answer.number 0
-    ∷ Asked.number presenter (sending 75599 (Sent.header 7)) is Answer.number 31
-    ∷ Asked.number presenter (sending 75600 (Sent.header 7)) is Answer.number 0
-    ∷ Asked.number presenter (sending 84599 (Sent.sessionTotal 0 zeros)) is Answer.number 0
-    ∷ Asked.number presenter (sending 84600 (Sent.sessionTotal 0 zeros)) is Answer.number 31
-    ∷ Asked.number presenter (Call.clock 0) is Answer.number 0
-    ∷ Asked.number (after (Call.clock 84600 ∷ []) presenter) (Call.clock 84601) is Answer.number 32
+    numberOf presenter (sending 86400 (Sent.header 7)) is Answer.number 20
+    ∷ numberOf (after (Call.clock 80000 ∷ []) presenter) (sending 79999 (Sent.header 7)) is Answer.number 30
+    ∷ numberOf (after (Call.clock 80000 ∷ []) presenter) (sending 80000 (Sent.header 7)) is Answer.number 0
+    ∷ numberOf presenter (sending 75599 (Sent.header 7)) is Answer.number 31
+    ∷ numberOf presenter (sending 75600 (Sent.header 7)) is Answer.number 0
+    ∷ numberOf presenter (sending 84599 (Sent.sessionTotal 0 zeros)) is Answer.number 0
+    ∷ numberOf presenter (sending 84600 (Sent.sessionTotal 0 zeros)) is Answer.number 31
+    ∷ numberOf presenter (Call.clock 0) is Answer.number 0
+    ∷ numberOf (after (Call.clock 84600 ∷ []) presenter) (Call.clock 84601) is Answer.number 32
     -- 21, 33, 22, 35: what the line hands over
-    ∷ Asked.number receiver (Call.receive 80000 (replyTo End.near 1 (Sent.header 7) Code.Accepted)) is Answer.number 21
-    ∷ Asked.number presenter (Call.reply 80000 (messageFrom End.near 1 (Sent.header 7))) is Answer.number 21
-    ∷ Asked.number presenter (Call.receive 80000 (messageFrom End.near 1 (Sent.header 7))) is Answer.number 33
-    ∷ Asked.number receiver (Call.reply 80000 (replyTo End.near 1 (Sent.header 7) Code.Accepted)) is Answer.number 33
-    ∷ Asked.number presenter (Call.reply 80000 (with-byte 16 0x13 (replyTo End.near 1 (Sent.header 7) Code.Accepted))) is Answer.number 22
-    ∷ Asked.number presenter (replied 80000 End.near 1 (Sent.header 7) Code.Accepted) is Answer.number 35
-    ∷ Asked.number (after (sending 80000 (Sent.header 7) ∷ []) presenter) (replied 80000 End.near 1 (total 7) Code.Accepted) is Answer.number 35
-    ∷ Asked.number receiver (arriving 80000 2 (Sent.header 7)) is Answer.number 35
+    ∷ numberOf receiver (Call.receive 80000 (replyTo End.near 1 (Sent.header 7) Code.Accepted)) is Answer.number 21
+    ∷ numberOf presenter (Call.reply 80000 (messageFrom End.near 1 (Sent.header 7))) is Answer.number 21
+    ∷ numberOf presenter (Call.receive 80000 (messageFrom End.near 1 (Sent.header 7))) is Answer.number 33
+    ∷ numberOf receiver (Call.reply 80000 (replyTo End.near 1 (Sent.header 7) Code.Accepted)) is Answer.number 33
+    ∷ numberOf presenter (Call.reply 80000 (with-byte 16 0x13 (replyTo End.near 1 (Sent.header 7) Code.Accepted))) is Answer.number 22
+    ∷ numberOf presenter (replied 80000 End.near 1 (Sent.header 7) Code.Accepted) is Answer.number 35
+    ∷ numberOf (after (sending 80000 (Sent.header 7) ∷ []) presenter) (replied 80000 End.near 1 (total 7) Code.Accepted) is Answer.number 35
+    ∷ numberOf receiver (arriving 80000 2 (Sent.header 7)) is Answer.number 35
     -- 34, 36, 23
-    ∷ Asked.number (after (sending 80000 (Sent.header 7) ∷ []) presenter) (sending 80000 (Sent.header 8)) is Answer.number 34
-    ∷ Asked.number (withSerial 99999998 presenter) (sending 80000 (Sent.header 7)) is Answer.number 0
-    ∷ Asked.number (withSerial 99999999 presenter) (sending 80000 (Sent.header 7)) is Answer.number 36
-    ∷ Asked.inRoom 30 presenter (sending 80000 (Sent.header 7)) is Answer.number 23
-    ∷ Asked.inRoom 31 presenter (sending 80000 (Sent.header 7)) is Answer.number 0
-    ∷ Asked.inRoom 15 receiver (arriving 80000 1 (Sent.header 7)) is Answer.number 23
-    ∷ Asked.inRoom 16 receiver (arriving 80000 1 (Sent.header 7)) is Answer.number 0
+    ∷ numberOf (after (sending 80000 (Sent.header 7) ∷ []) presenter) (sending 80000 (Sent.header 8)) is Answer.number 34
+    ∷ numberOf (withSerial 99999998 presenter) (sending 80000 (Sent.header 7)) is Answer.number 0
+    ∷ numberOf (withSerial 99999999 presenter) (sending 80000 (Sent.header 7)) is Answer.number 36
+    ∷ numberInRoom 30 presenter (sending 80000 (Sent.header 7)) is Answer.number 23
+    ∷ numberInRoom 31 presenter (sending 80000 (Sent.header 7)) is Answer.number 0
+    ∷ numberInRoom 15 receiver (arriving 80000 1 (Sent.header 7)) is Answer.number 23
+    ∷ numberInRoom 16 receiver (arriving 80000 1 (Sent.header 7)) is Answer.number 0
     -- 01 and 07 of a presenter's own calls
-    ∷ Asked.number presenter (Call.header 80000 24000000 1 7) is Answer.number 1
-    ∷ Asked.number presenter (Call.header 80000 moment 1 0) is Answer.number 1
-    ∷ Asked.number presenter (Call.detail 80000 31 (drop headBytes printed)) is Answer.number 1
-    ∷ Asked.number openPresenter (sending 80000 (Sent.header 8)) is Answer.number 7
-    ∷ Asked.number presenter (sending 80000 detail) is Answer.number 7
-    ∷ Asked.number presenter (sending 80000 (total 7)) is Answer.number 7
-    ∷ Asked.number openPresenter (sending 80000 (Sent.sessionTotal 0 zeros)) is Answer.number 7
-    ∷ Asked.number openPresenter (sending 80000 (total 7)) is Answer.number 0
+    ∷ numberOf presenter (Call.header 80000 24000000 1 7) is Answer.number 1
+    ∷ numberOf presenter (Call.header 80000 moment 1 0) is Answer.number 1
+    ∷ numberOf presenter (Call.detail 80000 31 (drop headBytes printed)) is Answer.number 1
+    ∷ numberOf openPresenter (sending 80000 (Sent.header 8)) is Answer.number 7
+    ∷ numberOf presenter (sending 80000 detail) is Answer.number 7
+    ∷ numberOf presenter (sending 80000 (total 7)) is Answer.number 7
+    ∷ numberOf openPresenter (sending 80000 (Sent.sessionTotal 0 zeros)) is Answer.number 7
+    ∷ numberOf openPresenter (sending 80000 (total 7)) is Answer.number 0
+    ∷ numberOf endedPresenter (sending 80000 (Sent.header 7)) is Answer.number 7
+    ∷ numberOf endedPresenter (sending 80000 (Sent.sessionTotal 0 zeros)) is Answer.number 7
     -- 07 in replies
-    ∷ Asked.reply openReceiver (arriving 80000 2 (Sent.header 8)) is Answer.reply 0 86 7 7 0
-    ∷ Asked.reply receiver (arriving 80000 1 detail) is Answer.reply 0 86 7 0 0
-    ∷ Asked.reply (after (arriving 80000 2 detail ∷ []) openReceiver) (arriving 80000 3 (total 8)) is Answer.reply 0 87 7 0 0
-    ∷ Asked.reply openReceiver (arriving 80000 2 (Sent.sessionTotal 0 zeros)) is Answer.reply 0 97 7 7 0
-    ∷ Asked.reply endedReceiver (arriving 80000 2 (Sent.header 7)) is Answer.reply 0 86 7 0 0
-    ∷ Asked.reply endedReceiver (arriving 80000 2 (Sent.sessionTotal 0 zeros)) is Answer.reply 0 97 7 0 0
+    ∷ replyOf openReceiver (arriving 80000 2 (Sent.header 8)) is Answer.reply 0 86 7 7 0
+    ∷ replyOf receiver (arriving 80000 1 detail) is Answer.reply 0 86 7 0 0
+    ∷ replyOf (after (arriving 80000 2 detail ∷ []) openReceiver) (arriving 80000 3 (total 8)) is Answer.reply 0 87 7 0 0
+    ∷ replyOf openReceiver (arriving 80000 2 (Sent.sessionTotal 0 zeros)) is Answer.reply 0 97 7 7 0
+    ∷ replyOf endedReceiver (arriving 80000 2 (Sent.header 7)) is Answer.reply 0 86 7 0 0
+    ∷ replyOf endedReceiver (arriving 80000 2 (Sent.sessionTotal 0 zeros)) is Answer.reply 0 97 7 0 0
     -- 04, 11, 08
-    ∷ Asked.reply onePast (arriving 80000 4 (Sent.header 7)) is Answer.reply 0 86 4 0 0
-    ∷ Asked.reply (withLots 63 receiver) (arriving 80000 1 (Sent.header 7)) is Answer.reply 0 86 0 7 0
-    ∷ Asked.reply (withLots 64 receiver) (arriving 80000 1 (Sent.header 7)) is Answer.reply 0 86 11 0 0
-    ∷ Asked.number (withLots 63 presenter) (sending 80000 (Sent.header 7)) is Answer.number 0
-    ∷ Asked.number (withLots 64 presenter) (sending 80000 (Sent.header 7)) is Answer.number 11
-    ∷ Asked.reply (after (arriving 80000 2 detail ∷ []) openReceiver) (arriving 80000 3 (Sent.lotTotal 7 (totals 1 15000 31))) is Answer.reply 0 87 8 0 0
-    ∷ Asked.reply onePast (arriving 80000 4 (Sent.sessionTotal 1 (totals 1 15000 30))) is Answer.reply 0 97 0 0 0
-    ∷ Asked.reply onePast (arriving 80000 4 (Sent.sessionTotal 2 (totals 1 15000 30))) is Answer.reply 0 97 8 0 0
-    ∷ Asked.reply onePast (arriving 80000 4 (Sent.sessionTotal 1 (totals 1 15001 30))) is Answer.reply 0 97 8 0 0
+    ∷ replyOf onePast (arriving 80000 4 (Sent.header 7)) is Answer.reply 0 86 4 0 0
+    ∷ replyOf (withLots 63 receiver) (arriving 80000 1 (Sent.header 7)) is Answer.reply 0 86 0 7 0
+    ∷ replyOf (withLots 64 receiver) (arriving 80000 1 (Sent.header 7)) is Answer.reply 0 86 11 0 0
+    ∷ numberOf (withLots 63 presenter) (sending 80000 (Sent.header 7)) is Answer.number 0
+    ∷ numberOf (withLots 64 presenter) (sending 80000 (Sent.header 7)) is Answer.number 11
+    ∷ replyOf (after (arriving 80000 2 detail ∷ []) openReceiver) (arriving 80000 3 (Sent.lotTotal 7 (totals 1 15000 31))) is Answer.reply 0 87 8 0 0
+    ∷ replyOf onePast (arriving 80000 4 (Sent.sessionTotal 1 (totals 1 15000 30))) is Answer.reply 0 97 0 0 0
+    ∷ replyOf onePast (arriving 80000 4 (Sent.sessionTotal 2 (totals 1 15000 30))) is Answer.reply 0 97 8 0 0
+    ∷ replyOf onePast (arriving 80000 4 (Sent.sessionTotal 1 (totals 1 15001 30))) is Answer.reply 0 97 8 0 0
     -- 04 goes by what is stated, not by what was gathered
-    ∷ Asked.reply five (arriving 80000 6 (Sent.lotTotal 8 (totals 1 15000 31))) is Answer.reply 0 87 8 0 0
+    ∷ replyOf five (arriving 80000 6 (Sent.lotTotal 8 (totals 1 15000 31))) is Answer.reply 0 87 8 0 0
     -- 06 asks the represented entities too
-    ∷ Asked.reply representing (arriving 80000 2 (drawnOn 0x73)) is Answer.reply 0 86 0 7 1
-    ∷ Asked.reply representing (arriving 80000 2 (drawnOn 0x74)) is Answer.reply 0 86 6 7 0
-    -- 01 for another operation; neither that nor a refused session total ends the direction
-    ∷ Asked.reply receiver strange is Answer.reply 0 86 1 0 0
-    ∷ Asked.reply (after (strange ∷ []) receiver) (arriving 80000 2 (Sent.header 7)) is Answer.reply 0 86 0 7 0
-    ∷ Asked.reply (after (arriving 80000 1 (Sent.sessionTotal 1 zeros) ∷ []) receiver) (arriving 80000 2 (Sent.header 7)) is Answer.reply 0 86 0 7 0
+    ∷ replyOf representing (arriving 80000 2 (withDrawee 0x73)) is Answer.reply 0 86 0 7 1
+    ∷ replyOf representing (arriving 80000 2 (withDrawee 0x74)) is Answer.reply 0 86 6 7 0
+    -- 01 for another operation; neither that nor a refused session total ends the direction, at either end
+    ∷ replyOf receiver strange is Answer.reply 0 86 1 0 0
+    ∷ replyOf (after (strange ∷ []) receiver) (arriving 80000 2 (Sent.header 7)) is Answer.reply 0 86 0 7 0
+    ∷ replyOf (after (arriving 80000 1 (Sent.sessionTotal 1 zeros) ∷ []) receiver) (arriving 80000 2 (Sent.header 7)) is Answer.reply 0 86 0 7 0
+    ∷ numberOf (totalAnswered Code.WrongTotals) (sending 80000 (Sent.header 7)) is Answer.number 0
     -- 24: a real date, of a leap year where it is 29 February; entities and how many; two different ones
-    ∷ Asked.started 290228 81 72 [] is Answer.number 0
-    ∷ Asked.started 290200 81 72 [] is Answer.number 0
-    ∷ Asked.started 290227 81 72 [] is Answer.number 24
-    ∷ Asked.started 290226 81 72 [] is Answer.number 24
-    ∷ Asked.started 280227 81 72 [] is Answer.number 0
-    ∷ Asked.started 300228 81 72 [] is Answer.number 24
-    ∷ Asked.started 1140328 81 72 [] is Answer.number 24
-    ∷ Asked.started 140328 9999 0 (replicate 8 9999) is Answer.number 0
-    ∷ Asked.started 140328 10000 72 [] is Answer.number 24
-    ∷ Asked.started 140328 81 10000 [] is Answer.number 24
-    ∷ Asked.started 140328 81 81 [] is Answer.number 24
-    ∷ Asked.started 140328 81 72 (replicate 9 0) is Answer.number 24
-    ∷ Asked.started 140328 81 72 (10000 ∷ []) is Answer.number 24
+    ∷ startOf 290228 81 72 [] is Answer.number 0
+    ∷ startOf 290200 81 72 [] is Answer.number 0
+    ∷ startOf 290227 81 72 [] is Answer.number 24
+    ∷ startOf 290226 81 72 [] is Answer.number 24
+    ∷ startOf 280227 81 72 [] is Answer.number 0
+    ∷ startOf 300228 81 72 [] is Answer.number 24
+    ∷ startOf 1140328 81 72 [] is Answer.number 24
+    ∷ startOf 140328 9999 0 (replicate 8 9999) is Answer.number 0
+    ∷ startOf 140328 10000 72 [] is Answer.number 24
+    ∷ startOf 140328 81 10000 [] is Answer.number 24
+    ∷ startOf 140328 81 81 [] is Answer.number 24
+    ∷ startOf 140328 81 72 (replicate 9 0) is Answer.number 24
+    ∷ startOf 140328 81 72 (10000 ∷ []) is Answer.number 24
     -- the close is in order where both directions have ended, and a second before the hour there is none
-    ∷ Asked.close bothEnded (Call.clock 84599) is Answer.close Close.Open
-    ∷ Asked.close bothEnded (Call.clock 84600) is Answer.close Close.Ordered
-    ∷ Asked.close endedPresenter (Call.clock 84600) is Answer.close Close.Forced
-    ∷ Asked.close endedReceiver (Call.clock 84600) is Answer.close Close.Forced
-    ∷ Asked.close presenter (Call.clock 84600) is Answer.close Close.Forced
+    ∷ closeOf bothEnded (Call.clock 84599) is Answer.close Close.Open
+    ∷ closeOf bothEnded (Call.clock 84600) is Answer.close Close.Ordered
+    ∷ closeOf endedPresenter (Call.clock 84600) is Answer.close Close.Forced
+    ∷ closeOf endedReceiver (Call.clock 84600) is Answer.close Close.Forced
+    ∷ closeOf presenter (Call.clock 84600) is Answer.close Close.Forced
     ∷ []
     in
-    map (λ (c : Case). answer (c .asked)) cases ≡ map (λ (c : Case). c .due) cases
+    AllDue cases
 unfolding computing
 every-number = refl

@@ -1,27 +1,16 @@
 -- An evening for the examples: the near end is entity 0081, the far end entity 0072, the date 14 March 2028, and nobody is represented.
 -- Here are its messages, replies and calls, and the names of all definitions that an example computes with.
 use Prim.Native.Nat.{ℕ}
-use mathlib.Core.List.{List, flatMap}
+use mathlib.Core.List.{List}
 use lib.ListN.{replicate}
-use Rattle.packed.specs.Every.{every, anyOf, member}
-use Rattle.packed.specs.Digits.{isDigits}
-use Rattle.packed.specs.Number.{byteValue, number}
-use Rattle.packed.specs.Pieces.{cut}
-use Rattle.packed.specs.Writing.{packedByte, packedBytes}
+use Rattle.packed.specs.Writing.{packedByte}
 use Rattle.amounts.specs.declared.Totals.{Totals}
 use Rattle.codes.specs.declared.code.Code.{Code}
-use Rattle.codes.specs.Chain.{_when_, _orelse_}
-use Rattle.codes.specs.Field.{earning, tableWritten}
+use Rattle.codes.specs.Field.{tableWritten}
 use Rattle.codes.specs.Numbered.{numbered}
 use Rattle.codes.specs.Code.{codes, codeByte, codeNumbered, readCode, knownCode}
-use Rattle.document.specs.Amounts.{nominal, commission, totalsOf}
-use Rattle.document.specs.Drawee.{drawee, draweeServed}
-use Rattle.document.specs.Fields.{documentFields, fieldsGood, amountsGood}
-use Rattle.document.specs.Rules.{monthDays}
-use Rattle.detail.specs.Codes as DetailCodes
-use Rattle.detail.specs.Groups as Groups
-use Rattle.detail.specs.Checked.{checkedCode, checked}
 use Rattle.detail.specs.Writing.{writtenDetail}
+use Rattle.detail.proofs.Cases.{computing as detailComputing}
 use Rattle.message.specs.declared.envelope.Envelope.{Envelope}
 use Rattle.message.specs.declared.route.Route.{Route}
 use Rattle.message.specs.Content.{byOperation, contentOf}
@@ -47,9 +36,9 @@ use Rattle.session.specs.Engine.{Call, meaning, performed}
 use Rattle.session.specs.Ends.{End, act, run, begun}
 use Rattle.session.specs.Entering.{presenterLedgerAt, receiverLedgerAt}
 
--- whoever unfolds this unfolds them all
+-- whoever unfolds this unfolds them all, those of a detail among them
 unfoldable pub computing : Unit {0}
-unfolding checked checkedCode flatMap every anyOf isDigits byteValue number cut packedByte packedBytes _when_ _orelse_ earning tableWritten numbered codes codeByte codeNumbered readCode knownCode nominal commission totalsOf drawee draweeServed member documentFields fieldsGood amountsGood monthDays DetailCodes.receiverCode DetailCodes.sendable DetailCodes.presenterCode Groups.groups Groups.groupGood Groups.shapeGood Groups.oneOperation Groups.documents writtenDetail byOperation envelopeFields envelopeGood headerFields sendable shapeGood bodyCode bodyBytes operationByte replyGood lotTotalFields sessionTotalFields realDate partiesGood padded fresh start advance kept headerSequence lotSequence lotTotalSequence sessionTotalSequence decided clockRefusal timeRefusal sendRefusal send headerStop detailStop lotTotalStop sessionTotalStop sendHeader sendDetail sendLotTotal sendSessionTotal headerCode detailCode lotTotalCode sessionTotalCode receivedCode receivedEffect receivingAfter receiveRefusal receive isAwaited replyRefusal takeReply clock report enter receivedEntry sum lotsSum meaning performed act run presenterLedgerAt receiverLedgerAt begun
+unfolding detailComputing tableWritten numbered codes codeByte codeNumbered readCode knownCode writtenDetail byOperation envelopeFields envelopeGood headerFields sendable shapeGood bodyCode bodyBytes operationByte replyGood lotTotalFields sessionTotalFields realDate partiesGood padded fresh start advance kept headerSequence lotSequence lotTotalSequence sessionTotalSequence decided clockRefusal timeRefusal sendRefusal send headerStop detailStop lotTotalStop sessionTotalStop sendHeader sendDetail sendLotTotal sendSessionTotal headerCode detailCode lotTotalCode sessionTotalCode receivedCode receivedEffect receivingAfter receiveRefusal receive isAwaited replyRefusal takeReply clock report enter receivedEntry sum lotsSum meaning performed act run presenterLedgerAt receiverLedgerAt begun
 computing = tt
 
 -- the route on which an end presents

@@ -10,6 +10,7 @@ pub mod Clocked
 pub mod Running
 pub mod Ledger
 pub mod Lists
+pub mod Steps
 pub mod Line
 pub mod Joined
 pub mod Mirror
@@ -18,4 +19,3 @@ pub mod Entries
 pub mod Written
 pub mod Presenter
 pub mod Receiver
-pub mod Steps

@@ -1,19 +1,20 @@
 -- 01, 'Order, first that applies': of each printed line, and of the codes that each message can earn, every two neighbours in a case where both apply,
--- beside the first of them: one table, one theorem.
-use mathlib.Core.Path.{_≡_, refl}
-use mathlib.Core.List.{List, [], _∷_, map}
+-- beside the first of them: one table, one theorem. The codes that bytes alone decide are in order among themselves in the tables of `message` and of
+-- `detail`; here each message has its last one before 07.
+use mathlib.Core.Path.{refl}
+use mathlib.Core.List.{List, [], _∷_}
 use Prim.Native.Nat.{ℕ}
 use lib.ListN.{drop}
 use Rattle.amounts.specs.Totals.{totals, zeros}
 use Rattle.codes.specs.declared.code.Code.{Code}
-use Rattle.codes.proofs.Cases.{with-byte}
+use Rattle.codes.proofs.Cases.{Case, _is_, AllDue, with-byte}
 use Rattle.document.specs.Operation.{presentedNumber}
 use Rattle.detail.specs.Limits.{headBytes}
 use Rattle.detail.proofs.Cases.{printed}
 use Rattle.session.specs.Engine.{Call, Engine}
 use Rattle.session.specs.Ends.{End}
 use Rattle.session.proofs.Examples.{computing, Sent, messageFrom, replyTo, sending}
-use Rattle.session.proofs.Cases.{Asked, Answer, answer, Case, _is_, presenter, receiver, arriving, after, openPresenter, openReceiver, holding, detail, drawnOn, total, five, withLots, withSerial, onePast}
+use Rattle.session.proofs.Cases.{Answer, numberOf, numberInRoom, replyOf, presenter, receiver, arriving, after, openPresenter, openReceiver, holding, detail, withDrawee, total, five, withLots, withSerial, onePast}
 
 -- at the close, and with a header that awaits its reply
 abbrev closed : Engine
@@ -22,7 +23,7 @@ closed = after (Call.clock 84600 ∷ []) presenter
 abbrev awaiting : Engine
 awaiting = after (sending 80000 (Sent.header 7) ∷ []) presenter
 
--- a reply whose code is none; a message whose last byte, which is an amount's, is no digit
+-- a reply with an unknown code; a message whose last byte, which is an amount's, is no digit
 abbrev unknownReply : Call
 unknownReply = Call.reply 80000 (with-byte 16 0x13 (replyTo End.near 1 (Sent.header 7) Code.Accepted))
 
@@ -30,51 +31,51 @@ abbrev noDigit : (serial bytes : ℕ) → Sent → Call
 noDigit serial bytes x = Call.receive 80000 (with-byte bytes 0x0A (messageFrom End.near serial x))
 
 in-order :
-    let cases : List Case =
+    let cases : List (Case Answer) =
     -- all calls with a time: 20, 32, 30, 31, and then the call's own
-    Asked.number closed (Call.clock 86400) is Answer.number 20
-    ∷ Asked.number closed (Call.clock 84599) is Answer.number 32
-    ∷ Asked.number (after (Call.clock 80000 ∷ []) presenter) (sending 75599 (Sent.header 7)) is Answer.number 30
-    ∷ Asked.number receiver (Call.receive 75599 []) is Answer.number 31
-    ∷ Asked.number presenter (Call.reply 75599 []) is Answer.number 31
-    ∷ Asked.number awaiting (sending 84600 (Sent.header 7)) is Answer.number 31
+    numberOf closed (Call.clock 86400) is Answer.number 20
+    ∷ numberOf closed (Call.clock 84599) is Answer.number 32
+    ∷ numberOf (after (Call.clock 80000 ∷ []) presenter) (sending 75599 (Sent.header 7)) is Answer.number 30
+    ∷ numberOf receiver (Call.receive 75599 []) is Answer.number 31
+    ∷ numberOf presenter (Call.reply 75599 []) is Answer.number 31
+    ∷ numberOf awaiting (sending 84600 (Sent.header 7)) is Answer.number 31
     -- receiving: 21, 33, 35, 23, then codes
-    ∷ Asked.number presenter (Call.receive 80000 (replyTo End.near 1 (Sent.header 7) Code.Accepted)) is Answer.number 21
-    ∷ Asked.number presenter (Call.receive 80000 (messageFrom End.near 2 (Sent.header 7))) is Answer.number 33
-    ∷ Asked.inRoom 15 receiver (arriving 80000 2 (Sent.header 7)) is Answer.number 35
-    ∷ Asked.inRoom 15 receiver (arriving 80000 1 detail) is Answer.number 23
+    ∷ numberOf presenter (Call.receive 80000 (replyTo End.near 1 (Sent.header 7) Code.Accepted)) is Answer.number 21
+    ∷ numberOf presenter (Call.receive 80000 (messageFrom End.near 2 (Sent.header 7))) is Answer.number 33
+    ∷ numberInRoom 15 receiver (arriving 80000 2 (Sent.header 7)) is Answer.number 35
+    ∷ numberInRoom 15 receiver (arriving 80000 1 detail) is Answer.number 23
     -- reply: 21, 33, 22, 35
-    ∷ Asked.number receiver (Call.reply 80000 (messageFrom End.near 1 (Sent.header 7))) is Answer.number 21
-    ∷ Asked.number receiver unknownReply is Answer.number 33
-    ∷ Asked.number presenter unknownReply is Answer.number 22
+    ∷ numberOf receiver (Call.reply 80000 (messageFrom End.near 1 (Sent.header 7))) is Answer.number 21
+    ∷ numberOf receiver unknownReply is Answer.number 33
+    ∷ numberOf presenter unknownReply is Answer.number 22
     -- sending: 34, 36, codes, 23
-    ∷ Asked.number (withSerial 99999999 awaiting) (sending 80000 (Sent.header 7)) is Answer.number 34
-    ∷ Asked.number (withSerial 99999999 presenter) (sending 83700 (Sent.header 7)) is Answer.number 36
-    ∷ Asked.inRoom 30 presenter (sending 83700 (Sent.header 7)) is Answer.number 10
+    ∷ numberOf (withSerial 99999999 awaiting) (sending 80000 (Sent.header 7)) is Answer.number 34
+    ∷ numberOf (withSerial 99999999 presenter) (sending 83700 (Sent.header 7)) is Answer.number 36
+    ∷ numberInRoom 30 presenter (sending 83700 (Sent.header 7)) is Answer.number 10
     -- a header sent: 01, 07, 10, 11
-    ∷ Asked.number openPresenter (sending 80000 (Sent.header 0)) is Answer.number 1
-    ∷ Asked.number openPresenter (sending 83700 (Sent.header 8)) is Answer.number 7
-    ∷ Asked.number (withLots 64 presenter) (sending 83700 (Sent.header 7)) is Answer.number 10
+    ∷ numberOf openPresenter (sending 80000 (Sent.header 0)) is Answer.number 1
+    ∷ numberOf openPresenter (sending 83700 (Sent.header 8)) is Answer.number 7
+    ∷ numberOf (withLots 64 presenter) (sending 83700 (Sent.header 7)) is Answer.number 10
     -- received: 01, 07, 10, 04, 11
-    ∷ Asked.reply openReceiver (arriving 80000 2 (Sent.header 0)) is Answer.reply 0 86 1 7 0
-    ∷ Asked.reply openReceiver (arriving 83700 2 (Sent.header 8)) is Answer.reply 0 86 7 7 0
-    ∷ Asked.reply onePast (arriving 83700 4 (Sent.header 7)) is Answer.reply 0 86 10 0 0
-    ∷ Asked.reply (withLots 64 onePast) (arriving 80000 4 (Sent.header 7)) is Answer.reply 0 86 4 0 0
-    -- a detail sent: its own codes, then 07, 12
-    ∷ Asked.number presenter (Call.detail 80000 presentedNumber (drop headBytes (with-byte 35 0x0A printed))) is Answer.number 3
-    ∷ Asked.number (holding 2600 presenter) (sending 80000 detail) is Answer.number 7
+    ∷ replyOf openReceiver (arriving 80000 2 (Sent.header 0)) is Answer.reply 0 86 1 7 0
+    ∷ replyOf openReceiver (arriving 83700 2 (Sent.header 8)) is Answer.reply 0 86 7 7 0
+    ∷ replyOf onePast (arriving 83700 4 (Sent.header 7)) is Answer.reply 0 86 10 0 0
+    ∷ replyOf (withLots 64 onePast) (arriving 80000 4 (Sent.header 7)) is Answer.reply 0 86 4 0 0
+    -- a detail sent: its own codes, then 07, 12; no calls lead to documents with no lot open, so 07 before 12 is of the definitions alone
+    ∷ numberOf presenter (Call.detail 80000 presentedNumber (drop headBytes (with-byte 35 0x0A printed))) is Answer.number 3
+    ∷ numberOf (holding 2600 presenter) (sending 80000 detail) is Answer.number 7
     -- received
-    ∷ Asked.reply receiver (arriving 80000 1 (drawnOn 0x73)) is Answer.reply 0 86 6 0 0
-    ∷ Asked.reply (holding 2600 receiver) (arriving 80000 1 detail) is Answer.reply 0 86 7 0 2600
+    ∷ replyOf receiver (arriving 80000 1 (withDrawee 0x73)) is Answer.reply 0 86 6 0 0
+    ∷ replyOf (holding 2600 receiver) (arriving 80000 1 detail) is Answer.reply 0 86 7 0 2600
     -- a lot total received: 03, 07, 04, 08
-    ∷ Asked.reply receiver (noDigit 1 34 (total 7)) is Answer.reply 0 87 3 0 0
-    ∷ Asked.reply onePast (arriving 80000 4 (total 8)) is Answer.reply 0 87 7 0 0
-    ∷ Asked.reply (holding 2 five) (arriving 80000 6 (total 8)) is Answer.reply 0 87 4 0 0
+    ∷ replyOf receiver (noDigit 1 34 (total 7)) is Answer.reply 0 87 3 0 0
+    ∷ replyOf onePast (arriving 80000 4 (total 8)) is Answer.reply 0 87 7 0 0
+    ∷ replyOf (after (arriving 80000 6 detail ∷ []) five) (arriving 80000 7 (total 8)) is Answer.reply 0 87 4 0 0
     -- a session total received: 03, 07, 08
-    ∷ Asked.reply openReceiver (noDigit 2 37 (Sent.sessionTotal 0 zeros)) is Answer.reply 0 97 3 7 0
-    ∷ Asked.reply openReceiver (arriving 80000 2 (Sent.sessionTotal 1 (totals 1 15000 30))) is Answer.reply 0 97 7 7 0
+    ∷ replyOf openReceiver (noDigit 2 37 (Sent.sessionTotal 0 zeros)) is Answer.reply 0 97 3 7 0
+    ∷ replyOf openReceiver (arriving 80000 2 (Sent.sessionTotal 1 (totals 1 15000 30))) is Answer.reply 0 97 7 7 0
     ∷ []
     in
-    map (λ (c : Case). answer (c .asked)) cases ≡ map (λ (c : Case). c .due) cases
+    AllDue cases
 unfolding computing
 in-order = refl

@@ -33,12 +33,14 @@ use Rattle.session.specs.Receiving.{isNext, isExpected, afterNew, afterR
 use Rattle.session.specs.Reply.{awaitedOperation, isAwaited, isAccepted, replyRefusal, replied, takeReply}
 use Rattle.session.specs.Ledger.{Entry, Ledger}
 use Rattle.session.specs.Engine.{Call, Engine, Said, performed, performedBy, saidBy, meaning, lent}
-use Rattle.session.specs.Ends.{End, other, World, Step, replaced, act, run, Brought, Possible, begun}
-use Rattle.session.specs.Entering.{PresenterLedger, ReceiverLedger, presenterLedgerAt, receiverLedgerAt}
+use Rattle.session.specs.Ends.{End, other, World, Step, act, run, Brought, Possible, begun}
+use Rattle.session.specs.Entering.{Waiting, PresenterLedger, ReceiverLedger, presenterLedgerAt, receiverLedgerAt}
 use Rattle.session.specs.Claim.{JustReplied}
-use Rattle.session.specs.Recovery.{ClockAllows, saidAt, Unrefused, delivery, GetsThrough, WhatWaitsCanBeAnswered}
+use Rattle.session.specs.Recovery.{ClockAllows, saidAt, Unrefused, delivery, deliveryAndReply, Settles, WhatWaitsCanBeAnswered}
 use Rattle.session.proofs.Laws.Decided.{first-bytes}
-use Rattle.session.proofs.Laws.Joined.{waitingEffect, replyFor, OnLine, Link}
+use Rattle.session.proofs.Laws.EveryCall.{same-line}
+use Rattle.session.proofs.Laws.Steps.{unchanged-here}
+use Rattle.session.proofs.Laws.Joined.{pendingAs, waitingEffect, replyFor, OnLine, Link}
 use Rattle.session.proofs.Laws.Foreign.{reply-fits}
 use Rattle.session.proofs.Laws.Presenter.{pending-some}
 use Rattle.session.proofs.Laws.Receiver.{reply-entry}
@@ -52,18 +54,14 @@ next-expected : (bytes : List ℕ) (last : ℕ) → isNext bytes last ≡ true �
 next-expected bytes last next = simp (next, or-true)
 
 -- what a presenter awaits is the reply to what waits
-awaits : (d : Entry) (b : Ledger) → awaitedOperation (waitingEffect (some d) b) ≡ replyFor d
+awaits : (d : Entry) (b : Ledger) → awaitedOperation (pendingAs d b) ≡ replyFor d
 awaits (Entry.header number) b = refl
 awaits (Entry.detail ds) b = refl
 awaits Entry.lotTotal b = refl
 awaits Entry.sessionTotal b = refl
 awaits Entry.unknown b = refl
 
-same-here : (x : End) (g : Engine) (engine : End → Engine) → replaced (other x) g engine x ≡ engine x
-same-here End.near g engine = refl
-same-here End.far g engine = refl
-
-module _ (w : World) (all : Whole w) (p : End) (d : Entry) (waiting : presenterLedgerAt p (w .trace) .waiting ≡ some d) where
+module _ (w : World) (all : Whole w) (p : End) (m : Waiting) (waiting : presenterLedgerAt p (w .trace) .waiting ≡ some m) where
   abbrev e : Engine
   e = w .engine p
 
@@ -77,13 +75,13 @@ module _ (w : World) (all : Whole w) (p : End) (d : Entry) (waiting : presenterL
   br = receiverLedgerAt (other p) (w .trace)
 
   abbrev bytes : List ℕ
-  bytes = bp .message
+  bytes = m .message
 
   abbrev last : ℕ
   last = f .session .receiving .serial
 
-  found : OnLine (presentingRoute (e .session .parties)) (e .session .presenting .serial) d bytes (w .trace)
-  found = all .joined p .waits d waiting
+  found : OnLine (presentingRoute (e .session .parties)) (e .session .presenting .serial) m (w .trace)
+  found = all .joined p .waits m waiting
 
   way-there : envelopeOf bytes .route ≡ receivingRoute (f .session .parties)
   way-there = found .way ∙ all .ways p
@@ -98,7 +96,7 @@ module _ (w : World) (all : Whole w) (p : End) (d : Entry) (waiting : presenterL
     -- it is new, or the last again; either way the kept reply is one to it
     record Heard : Type 0 where
       expected : isExpected bytes last ≡ true
-      operation : kept .operation ≡ replyFor d
+      operation : kept .operation ≡ replyFor (m .entry)
 
     heard : Heard
     unfolding receivingAfter
@@ -108,7 +106,7 @@ module _ (w : World) (all : Whole w) (p : End) (d : Entry) (waiting : presenterL
         kept-by t n = ap (λ (t : Bool). cond t (afterNew there (bodyOf bytes) h) (afterRepeat there h) .session .receiving .reply .operation) n
 
         go : Link (e .session .presenting) (f .session .receiving) (bp .waiting) (bp .ledger) (br .ledger) → Heard
-        go (Link.idle s n b) = absurd (Option·none-ne-some d (sym s ∙ waiting))
+        go (Link.idle s n b) = absurd (Option·none-ne-some m (sym s ∙ waiting))
         go (Link.sent c s n b) =
             let next : isNext bytes last ≡ true = eq-eqb (serialOf bytes) (suc last) (found .numbered ∙ n) in
             record { expected = next-expected bytes last next; operation = kept-by true next ∙ reply-entry (bodyOf bytes) ∙ ap replyFor (found .reads) }
@@ -117,7 +115,7 @@ module _ (w : World) (all : Whole w) (p : End) (d : Entry) (waiting : presenterL
             let next : isNext bytes last ≡ false = ne-eqb (serialOf bytes) (suc last) (λ (z : serialOf bytes ≡ suc last). omega arith) in
             record {
               expected = again-expected bytes last again;
-              operation = kept-by false next ∙ o ∙ ap replyFor (Option·some-injective c d (sym s ∙ waiting));
+              operation = kept-by false next ∙ o ∙ ap (λ (x : Waiting). replyFor (x .entry)) (Option·some-injective c m (sym s ∙ waiting));
             }
 
     unrefused : receiveRefusal there bytes (length line) (f .session) ≡ 0
@@ -135,33 +133,29 @@ module _ (w : World) (all : Whole w) (p : End) (d : Entry) (waiting : presenterL
     whole = wholeReply (envelopeOf bytes) kept
 
     abbrev first : Step
-    first = delivery w p there line
+    first = delivery p bytes there line
 
     replied-to : saidAt first w ≡ record { number = 0; bytes = whole }
     unfolding performed meaning receive decided
     replied-to =
         ap (λ (n : ℕ). saidBy (performedBy Direction.receiving (decided n h (replying bytes (afterMessage there bytes h))) f)) unrefused
-        ∙ (λ i. record { number = 0; bytes = take (length whole) (sets (same-line (isNext bytes last) i) 0 whole) })
+        ∙ (λ i. record { number = 0; bytes = take (length whole) (sets (same-line there bytes h i) 0 whole) })
         ∙ λ i. record { number = 0; bytes = first-bytes whole line (omega (arith, room, whole-length Kind.Reply (envelopeOf bytes) (writtenReplyBody kept))) i }
-      where
-        same-line : (t : Bool) → cond t (afterNew there (bodyOf bytes) h) (afterRepeat there h) .line ≡ line
-        same-line true = refl
-        same-line false = refl
 
     -- which the presenter awaits
     told : envelopeOf whole ≡ envelopeOf bytes
     told = envelope-told Kind.Reply (envelopeOf bytes) (writtenReplyBody kept) (reply-fits (f .session) (all .ready (other p) .sound) bytes (found .good) way-there)
 
-    pending-so : e .session .presenting .pending ≡ waitingEffect (some d) (bp .ledger)
-    pending-so = all .joined p .presenter .pending ∙ ap (λ (o : Option Entry). waitingEffect o (bp .ledger)) waiting
+    pending-so : e .session .presenting .pending ≡ pendingAs (m .entry) (bp .ledger)
+    pending-so = all .joined p .presenter .pending ∙ ap (λ (o : Option Waiting). waitingEffect o (bp .ledger)) waiting
 
     awaited : isAwaited (serialOf whole) (operationOf (bodyOf whole)) (e .session .presenting) ≡ true
     unfolding isAwaited
     awaited =
         λ i.
-        (ap isPending pending-so ∙ pending-some d (bp .ledger)) i
+        (ap isPending pending-so ∙ pending-some (m .entry) (bp .ledger)) i
         && eq-eqb (serialOf whole) (e .session .presenting .serial) (ap (λ (x : Envelope). x .serial) told ∙ found .numbered) i
-        && eq-eqb (operationOf (bodyOf whole)) (operationByte (awaitedOperation (e .session .presenting .pending))) (ap operationOf (body-told Kind.Reply (envelopeOf bytes) (writtenReplyBody kept)) ∙ ap operationByte (heard .operation ∙ sym (ap awaitedOperation pending-so ∙ awaits d (bp .ledger)))) i
+        && eq-eqb (operationOf (bodyOf whole)) (operationByte (awaitedOperation (e .session .presenting .pending))) (ap operationOf (body-told Kind.Reply (envelopeOf bytes) (writtenReplyBody kept)) ∙ ap operationByte (heard .operation ∙ sym (ap awaitedOperation pending-so ∙ awaits (m .entry) (bp .ledger)))) i
 
     taken : replyRefusal here whole (e .session) ≡ 0
     unfolding replyRefusal _when_
@@ -183,7 +177,7 @@ module _ (w : World) (all : Whole w) (p : End) (d : Entry) (waiting : presenterL
     reply-taken : saidAt second (act first w) .number ≡ 0
     unfolding act performed meaning takeReply decided
     reply-taken =
-        ap (λ (x : Engine). saidBy (performed (Call.reply here reply) [] x) .number) (same-here p (performed (Call.receive there bytes) line f .engine) (w .engine))
+        ap (λ (x : Engine). saidBy (performed (Call.reply here reply) [] x) .number) (unchanged-here p (performed (Call.receive there bytes) line f .engine) (w .engine))
         ∙ ap (λ (r : List ℕ). saidBy (performed (Call.reply here r) [] e) .number) (ap (λ (s : Said). s .bytes) replied-to)
         ∙ ap (λ (n : ℕ). decided n (lent Direction.presenting [] e) (silent (replied here (isAccepted whole) (lent Direction.presenting [] e))) .number) taken
 
@@ -200,9 +194,9 @@ module _ (w : World) (all : Whole w) (p : End) (d : Entry) (waiting : presenterL
         let said = saidAt second (act first w) in
         record { time = here; bytes = reply; said = said .bytes; earlier = act first w .trace; latest = λ i. record { at = p; call = second .call; said = record { number = reply-taken i; bytes = said .bytes } } ∷ act first w .trace }
 
-    gets-through : GetsThrough w p there here line
+    settles : Settles w p (deliveryAndReply w p bytes there here line)
     unfolding Possible Unrefused run
-    gets-through =
+    settles =
         let settled = agree (act second (act first w)) after p .settled just in
         record {
           possible = (found .written, (brought-back, tt));
@@ -213,4 +207,4 @@ module _ (w : World) (all : Whole w) (p : End) (d : Entry) (waiting : presenterL
 
 -- The claim of specs/Recovery.
 pub recovery : WhatWaitsCanBeAnswered
-recovery date nearEntity farEntity represented begins steps possible = gets-through (run steps (begun date nearEntity farEntity represented)) (whole-after date nearEntity farEntity represented begins steps possible)
+recovery date nearEntity farEntity represented begins steps possible = settles (run steps (begun date nearEntity farEntity represented)) (whole-after date nearEntity farEntity represented begins steps possible)

@@ -13,30 +13,34 @@ use Rattle.session.specs.Ledger.{LedgerLot, Ledger, Entry, blank, enter,
 use Rattle.session.specs.Engine.{Call}
 use Rattle.session.specs.Ends.{End, Event}
 
--- at the presenter: the ledger, and the message whose reply is still to come, as an entry and as the last unrefused send wrote it
+-- a message whose reply is still to come: as the ledger will see it, and as its send wrote it
+pub record Waiting : Type 0 where
+  pub entry : Entry
+  pub message : List ℕ
+
+-- at the presenter: the ledger, and what waits
 pub record PresenterLedger : Type 0 where
   pub ledger : Ledger
-  pub waiting : Option Entry
-  pub message : List ℕ
+  pub waiting : Option Waiting
 
 -- before any call
 abbrev pub unpresented : PresenterLedger
-unpresented = record { ledger = blank; waiting = none; message = [] }
+unpresented = record { ledger = blank; waiting = none }
 
 -- an unrefused send waits
 abbrev pub waitingFor : Entry → (written : List ℕ) → PresenterLedger → PresenterLedger
-waitingFor e written b = record { ledger = b .ledger; waiting = some e; message = written }
+waitingFor e written b = record { ledger = b .ledger; waiting = some (record { entry = e; message = written }) }
 
 -- what waits is entered, with the code read
-abbrev pub enterWaiting : (accepted : Bool) → Option Entry → Ledger → Ledger
+abbrev pub enterWaiting : (accepted : Bool) → Option Waiting → Ledger → Ledger
 enterWaiting accepted none b = b
-enterWaiting accepted (some e) b = enter e accepted b
+enterWaiting accepted (some m) b = enter (m .entry) accepted b
 
 -- and waits no longer
 abbrev pub answeredWith : (accepted : Bool) → PresenterLedger → PresenterLedger
-answeredWith accepted b = record { ledger = enterWaiting accepted (b .waiting) (b .ledger); waiting = none; message = b .message }
+answeredWith accepted b = record { ledger = enterWaiting accepted (b .waiting) (b .ledger); waiting = none }
 
--- what an unrefused call, and what it wrote, do to the presenter's ledger
+-- what an unrefused call does there; what it wrote waits, and enters no ledger
 abbrev pub presenterEnters : Call → (written : List ℕ) → PresenterLedger → PresenterLedger
 presenterEnters (Call.header time moment centre number) written b = waitingFor (Entry.header number) written b
 presenterEnters (Call.detail time operation part) written b = waitingFor (partEntry operation part) written b
@@ -56,7 +60,7 @@ pub record ReceiverLedger : Type 0 where
 abbrev pub firstReceived : (serial : ℕ) → Entry → (accepted : Bool) → ReceiverLedger → ReceiverLedger
 firstReceived serial e accepted b = cond (member serial (b .serials)) b (record { ledger = enter e accepted (b .ledger); serials = serial ∷ b .serials })
 
--- and to the receiver's
+-- what an unrefused call does there; of what it wrote the code is entered
 abbrev pub receiverEnters : Call → (written : List ℕ) → ReceiverLedger → ReceiverLedger
 receiverEnters (Call.receive time bytes) written b = firstReceived (serialOf bytes) (bodyEntry (bodyOf bytes)) (isAccepted written) b
 receiverEnters (Call.header time moment centre number) written b = b
@@ -94,13 +98,16 @@ namedLot none = Awaited.Neither
 namedLot (some l) = Awaited.LotTotal (lotSum l)
 
 -- by what waits: a lot total the open lot, a session total itself
-abbrev pub awaitedBy : Option Entry → Option LedgerLot → Awaited
-awaitedBy (some Entry.lotTotal) current = namedLot current
-awaitedBy (some Entry.sessionTotal) current = Awaited.SessionTotal
-awaitedBy (some (Entry.header number)) current = Awaited.Neither
-awaitedBy (some (Entry.detail ds)) current = Awaited.Neither
-awaitedBy (some Entry.unknown) current = Awaited.Neither
+abbrev pub namedBy : Entry → Option LedgerLot → Awaited
+namedBy Entry.lotTotal current = namedLot current
+namedBy Entry.sessionTotal current = Awaited.SessionTotal
+namedBy (Entry.header number) current = Awaited.Neither
+namedBy (Entry.detail ds) current = Awaited.Neither
+namedBy Entry.unknown current = Awaited.Neither
+
+abbrev pub awaitedBy : Option Waiting → Option LedgerLot → Awaited
 awaitedBy none current = Awaited.Neither
+awaitedBy (some m) current = namedBy (m .entry) current
 
 -- what a report has to name
 abbrev pub toBeNamed : PresenterLedger → Awaited

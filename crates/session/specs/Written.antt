@@ -2,41 +2,33 @@
 -- the fields that were meant. So every number that a presenter writes fits its field, at the limits that are in force. Proved in proofs/Laws/Written.
 use Prim.Native.Nat.{ℕ}
 use mathlib.Core.Path.{_≡_}
-use mathlib.Core.Bool.{not}
 use mathlib.Core.List.{List, _++_}
 use lib.ListN.{take}
-use Rattle.packed.specs.Every.{every}
 use Rattle.packed.specs.Writing.{packedByte}
 use Rattle.codes.specs.Body.{operationOf}
-use Rattle.codes.specs.Chain.{_when_}
-use Rattle.document.specs.Drawee.{draweeServed}
 use Rattle.document.specs.Part.{documentsOf}
 use Rattle.detail.specs.Groups.{documents}
 use Rattle.detail.specs.Codes.{receiverCode, presenterCode}
 use Rattle.detail.specs.Writing.{writtenDetail}
-use Rattle.detail.specs.RoundTrip.{partOf, clearedGroups}
+use Rattle.detail.specs.RoundTrip.{draweeCode, partOf, clearedGroups}
 use Rattle.message.specs.declared.envelope.Envelope.{Envelope}
 use Rattle.message.specs.declared.envelope.Kind.{Kind}
 use Rattle.message.specs.Envelope.{bodyOf}
 use Rattle.message.specs.Limits.{envelopeBytes}
-use Rattle.message.specs.Line.{Body, wholeMessage}
-use Rattle.message.specs.RoundTrip.{EnvelopeFits, EnvelopeRead, BodyRead}
+use Rattle.message.specs.Line.{wholeMessage}
+use Rattle.message.specs.RoundTrip.{EnvelopeFits, EnvelopeRead, MessageRead}
 use Rattle.session.specs.Parties.{Direction}
 use Rattle.session.specs.Outcome.{Held}
 use Rattle.session.specs.Sending.{nextEnvelope, headerBody, lotTotalBody, sessionTotalBody}
 use Rattle.session.specs.Premise.{Sound, Carried}
 use Rattle.session.specs.Engine.{Call, meaning}
 
--- a header or a total: every field as it was meant, and no fault
-abbrev pub ReadsAs : Envelope → Body → (bytes : List ℕ) → Type 0
-ReadsAs e x bytes = EnvelopeRead Kind.Message e bytes × BodyRead e x (bodyOf bytes)
-
--- a detail: its operation and its documents, keys included; and its receiver, whomever that represents, finds no fault but a drawee that is not served
+-- a detail: its operation and its documents, keys included; and its receiver, whomever that represents, finds no fault but a drawee whom it does not serve
 pub record ReadsAsDetail (e : Envelope) (operation : ℕ) (part bytes : List ℕ) : Type 0 where
   pub envelope : EnvelopeRead Kind.Message e bytes
   pub operation-read : operationOf (bodyOf bytes) ≡ packedByte operation
   pub documents-read : documents (bodyOf bytes) ≡ documentsOf part
-  pub code-there : (represented : List ℕ) → receiverCode (e .route .receiving) represented (bodyOf bytes) ≡ (6 when not (every (draweeServed (packedByte operation) (e .route .receiving) represented) (documentsOf part)))
+  pub code-there : (represented : List ℕ) → receiverCode (e .route .receiving) represented (bodyOf bytes) ≡ draweeCode operation (e .route .receiving) represented part
 
 -- a message with a detail that is written and read
 abbrev pub DetailWrittenThenRead : Type 0
@@ -46,12 +38,12 @@ DetailWrittenThenRead = (e : Envelope) (operation : ℕ) (part : List ℕ) → E
 abbrev pub DetailReadThenWritten : Type 0
 DetailReadThenWritten = (e : Envelope) (represented bytes : List ℕ) → EnvelopeRead Kind.Message e bytes → let body = bodyOf bytes in receiverCode (e .route .receiving) represented body ≡ 0 → wholeMessage e (writtenDetail (operationOf body) (partOf body)) ≡ take envelopeBytes bytes ++ clearedGroups body
 
--- what a call that sends means to say, with what it is lent; the others write no message
+-- what a call that sends means to say, with what it is lent: every field of a header or a total, and no fault; the others write no message
 abbrev pub AsMeant : Call → Held → (bytes : List ℕ) → Type 0
-AsMeant (Call.header time moment centre number) h bytes = ReadsAs (nextEnvelope (h .session)) (headerBody moment centre number) bytes
+AsMeant (Call.header time moment centre number) h bytes = MessageRead (nextEnvelope (h .session)) (headerBody moment centre number) bytes
 AsMeant (Call.detail time operation part) h bytes = ReadsAsDetail (nextEnvelope (h .session)) operation part bytes
-AsMeant (Call.lotTotal time) h bytes = ReadsAs (nextEnvelope (h .session)) (lotTotalBody (h .session .presenting .counters) (h .running)) bytes
-AsMeant (Call.sessionTotal time) h bytes = ReadsAs (nextEnvelope (h .session)) (sessionTotalBody (h .session .presenting .counters)) bytes
+AsMeant (Call.lotTotal time) h bytes = MessageRead (nextEnvelope (h .session)) (lotTotalBody (h .session .presenting .counters) (h .running)) bytes
+AsMeant (Call.sessionTotal time) h bytes = MessageRead (nextEnvelope (h .session)) (sessionTotalBody (h .session .presenting .counters)) bytes
 AsMeant (Call.receive time message) h bytes = Unit {0}
 AsMeant (Call.reply time reply) h bytes = Unit {0}
 AsMeant (Call.clock time) h bytes = Unit {0}

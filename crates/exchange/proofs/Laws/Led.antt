@@ -1,38 +1,31 @@
 -- A round is a list of possible calls: one, if its send is refused, or three, of which the second and the third are those that recovery speaks of. After
 -- it both clocks allow a call again, and nothing is pending.
 use mathlib.Core.Path.{_≡_, refl, ap, sym, subst, _∙_}
-use mathlib.Core.Bool.{Bool, true, false, _&&_, cond}
 use mathlib.Core.List.{List, [], _∷_, _++_}
 use mathlib.Core.Option.{some}
 use Prim.Native.Nat.{ℕ, zero, suc, _≤_}
 use native.Mathlib.Omega.{arith}
 use lib.ListN.{length}
-use lib.Seq.{length-sets}
-use borrow.Author.Tests.{eq-eqb}
 use Rattle.packed.specs.Every.{every}
 use Rattle.codes.specs.Chain.{_when_}
 use Rattle.document.specs.Rules.{monthDays}
 use Rattle.message.specs.Limits.{replyRoom}
-use Rattle.message.specs.Envelope.{envelopeOf, bodyOf}
-use Rattle.message.specs.Line.{wholeReply}
 use Rattle.session.specs.declared.effect.Effect.{Effect}
 use Rattle.session.specs.declared.session.Session.{Session}
 use Rattle.session.specs.Hours.{opening}
-use Rattle.session.specs.Parties.{Direction, realDate, partiesGood}
+use Rattle.session.specs.Parties.{realDate, partiesGood}
 use Rattle.session.specs.Start.{start}
-use Rattle.session.specs.Outcome.{Held, Outcome}
-use Rattle.session.specs.Receiving.{isNext, afterNew, afterRepeat, replying, receive}
+use Rattle.session.specs.Receiving.{receive}
 use Rattle.session.specs.Ledger.{Entry}
-use Rattle.session.specs.Engine.{Call, Engine, meaning, lent, Performed, performed, saidBy}
-use Rattle.session.specs.Ends.{End, other, Event, World, Step, replaced, act, run, Brought, Possible, StartsAccepted}
-use Rattle.session.specs.Entering.{PresenterLedger, presenterEnters, sameEnd, presenterLedgerAt}
+use Rattle.session.specs.Engine.{Call, Engine, Performed, performed, saidBy}
+use Rattle.session.specs.Ends.{End, other, Event, World, Step, act, run, Brought, Possible, StartsAccepted}
+use Rattle.session.specs.Entering.{PresenterLedger, presenterEnters, presenterLedgerAt}
 use Rattle.session.specs.Claim.{Agreement}
-use Rattle.session.specs.Recovery.{ClockAllows, saidAt, Unrefused, delivery, GetsThrough, CanBeAnswered}
-use Rattle.session.proofs.Laws.EveryCall.{stamped, refused-engine, pendingIn, none-pending, received-pending}
+use Rattle.session.specs.Recovery.{ClockAllows, saidAt, Unrefused, delivery, deliveryAndReply, Settles, CanBeAnswered}
+use Rattle.session.proofs.Laws.EveryCall.{stamped, refused-engine, line-kept, pendingIn, none-pending, received-pending}
 use Rattle.session.proofs.Laws.Clocked.{still-allowed}
-use Rattle.session.proofs.Laws.Decided.{either}
-use Rattle.session.proofs.Laws.Steps.{run-append, possible-append}
-use Rattle.session.proofs.Agreement.{both-ends, agreement}
+use Rattle.session.proofs.Laws.Steps.{changed, unchanged, unchanged-here, every-end, both-ends, at-its-end, run-append, possible-append}
+use Rattle.session.proofs.Agreement.{agreement}
 use Rattle.session.proofs.Recovery.{recovery}
 use Rattle.exchange.specs.Fixed.{date, near, far}
 use Rattle.exchange.specs.Course.{Ends, endsAfter, roundMade}
@@ -61,8 +54,11 @@ unfolding start partiesGood realDate monthDays every _when_
 starts = record { near = refl; far = refl }
 
 -- so what is claimed of both ends holds of it
+pub agreed : (steps : List Step) → Possible steps bothStarted → (p : End) → Agreement (run steps bothStarted) p
+agreed = agreement date near far (λ (x : End). []) starts
+
 pub agrees : (w : World) → Led w → (p : End) → Agreement w p
-agrees w l = subst (λ (v : World). (p : End) → Agreement v p) (l .leads) (agreement date near far (λ (x : End). []) starts (l .steps) (l .possible))
+agrees w l = subst (λ (v : World). (p : End) → Agreement v p) (l .leads) (agreed (l .steps) (l .possible))
 
 answers : (w : World) → Led w → (p : End) → CanBeAnswered w p
 answers w l = subst (λ (v : World). (p : End) → CanBeAnswered v p) (l .leads) (recovery date near far (λ (x : End). []) starts (l .steps) (l .possible))
@@ -76,8 +72,8 @@ pub record Quiet (e : Engine) : Type 0 where
 abbrev endsAt : World → End → (message reply : List ℕ) → Ends
 endsAt w p message reply = record { presenter = w .engine p; receiver = w .engine (other p); message = message; reply = reply }
 
--- where an evening stands between two rounds, with the end p to present
-pub record Stands (p : End) (e : Ends) : Type 0 where
+-- an evening between two rounds, with the end p to present
+pub record Between (p : End) (e : Ends) : Type 0 where
   pub world : World
   pub led : Led world
   pub quiet : (x : End) → Quiet (world .engine x)
@@ -107,54 +103,13 @@ send-stamps sessionTotal s = refl
 -- its message waits, as it was written
 record Waits (b : PresenterLedger) (written : List ℕ) : Type 0 where
   entry : Entry
-  waiting : b .waiting ≡ some entry
-  message : b .message ≡ written
+  waiting : b .waiting ≡ some (record { entry = entry; message = written })
 
-entered : {call : Call} → SendAtOpening call → (written : List ℕ) (b : PresenterLedger) → Waits (presenterEnters call written b) written
-entered header written b = record { entry = _; waiting = refl; message = refl }
-entered detail written b = record { entry = _; waiting = refl; message = refl }
-entered lotTotal written b = record { entry = _; waiting = refl; message = refl }
-entered sessionTotal written b = record { entry = _; waiting = refl; message = refl }
-
-at-its-end : (p : End) (call : Call) (number : ℕ) (written : List ℕ) (trace : List Event) → number ≡ 0 → presenterLedgerAt p (record { at = p; call = call; said = record { number = number; bytes = written } } ∷ trace) ≡ presenterEnters call written (presenterLedgerAt p trace)
-unfolding presenterLedgerAt
-at-its-end p call number written trace z =
-    ap (λ (t : Bool). cond t (presenterEnters call written (presenterLedgerAt p trace)) (presenterLedgerAt p trace)) (λ i. itself p i && eq-eqb number 0 z i)
-  where
-    itself : (x : End) → sameEnd x x ≡ true
-    itself End.near = refl
-    itself End.far = refl
-
--- which engine a call changes
-changed : (x : End) (e : Engine) (engine : End → Engine) → replaced x e engine x ≡ e
-changed End.near e engine = refl
-changed End.far e engine = refl
-
-kept : (x : End) (e : Engine) (engine : End → Engine) → replaced x e engine (other x) ≡ engine (other x)
-kept End.near e engine = refl
-kept End.far e engine = refl
-
-kept-here : (x : End) (e : Engine) (engine : End → Engine) → replaced (other x) e engine x ≡ engine x
-kept-here End.near e engine = refl
-kept-here End.far e engine = refl
-
--- what holds of both ends of a direction holds of every end
-at-both : (Q : Engine → Type 0) (p : End) (engine : End → Engine) → Q (engine p) → Q (engine (other p)) → (x : End) → Q (engine x)
-at-both Q End.near engine here there End.near = here
-at-both Q End.near engine here there End.far = there
-at-both Q End.far engine here there End.far = here
-at-both Q End.far engine here there End.near = there
-
--- receiving keeps the length of its line buffer
-line-kept : (time : ℕ) (bytes line : List ℕ) (e : Engine) → length (performed (Call.receive time bytes) line e .line) ≡ length line
-unfolding performed meaning receive
-line-kept time bytes line e =
-    either (λ (o : Outcome). length (o .left .line) ≡ length line) _ (lent Direction.receiving line e) _ (λ (k : ℕ). refl)
-    (λ n. either-way (isNext bytes (e .session .receiving .serial)) (afterNew time (bodyOf bytes) (lent Direction.receiving line e)) (afterRepeat time (lent Direction.receiving line e)) refl refl)
-  where
-    either-way : (t : Bool) (a b : Held) → a .line ≡ line → b .line ≡ line → length (replying bytes (cond t a b) .left .line) ≡ length line
-    either-way true a b x y = length-sets (a .line) 0 (wholeReply (envelopeOf bytes) (a .session .receiving .reply)) ∙ ap length x
-    either-way false a b x y = length-sets (b .line) 0 (wholeReply (envelopeOf bytes) (b .session .receiving .reply)) ∙ ap length y
+waiting-so : {call : Call} → SendAtOpening call → (written : List ℕ) (b : PresenterLedger) → Waits (presenterEnters call written b) written
+waiting-so header written b = record { entry = _; waiting = refl }
+waiting-so detail written b = record { entry = _; waiting = refl }
+waiting-so lotTotal written b = record { entry = _; waiting = refl }
+waiting-so sessionTotal written b = record { entry = _; waiting = refl }
 
 -- a round
 module _ (w : World) (led : Led w) (quiet : (x : End) → Quiet (w .engine x)) (p : End) (message reply : List ℕ) (room : replyRoom ≤ length reply) {call : Call} (sends : SendAtOpening call) where
@@ -182,7 +137,7 @@ module _ (w : World) (led : Led w) (quiet : (x : End) → Quiet (w .engine x)) (
 
   sent-there : sent .engine (other p) ≡ there
   unfolding act
-  sent-there = kept p (turn .engine) (w .engine)
+  sent-there = unchanged p (turn .engine) (w .engine)
 
   sent-clock : ClockAllows opening (turn .engine)
   sent-clock = still-allowed call message here opening (send-stamps sends (here .session)) (quiet p .clock)
@@ -192,10 +147,10 @@ module _ (w : World) (led : Led w) (quiet : (x : End) → Quiet (w .engine x)) (
   left = roundMade call (endsAt w p message reply)
 
   -- the send is refused: one call, after which both ends are as they were
-  refused-round : (turn .number ≡ 0 → ⊥) → Stands p left
+  refused-round : (turn .number ≡ 0 → ⊥) → Between p left
   unfolding roundMade act
   refused-round stopped =
-      subst (Stands p) (ap endsAfter (unheard call opening message reply here there turn refl stopped))
+      subst (Between p) (ap endsAfter (unheard call opening message reply here there turn refl stopped))
       (record {
         world = sent;
         led = sent-led;
@@ -208,13 +163,13 @@ module _ (w : World) (led : Led w) (quiet : (x : End) → Quiet (w .engine x)) (
   module _ (none : turn .number ≡ 0) where
     waits : Waits (presenterLedgerAt p (sent .trace)) (saidBy turn .bytes)
     unfolding act
-    waits = subst (λ (b : PresenterLedger). Waits b (saidBy turn .bytes)) (sym (at-its-end p call (turn .number) (saidBy turn .bytes) (w .trace) none)) (entered sends (saidBy turn .bytes) (presenterLedgerAt p (w .trace)))
+    waits = subst (λ (b : PresenterLedger). Waits b (saidBy turn .bytes)) (sym (at-its-end p call (turn .number) (saidBy turn .bytes) (w .trace) none)) (waiting-so sends (saidBy turn .bytes) (presenterLedgerAt p (w .trace)))
 
-    through : GetsThrough sent p opening opening reply
-    through = answers sent sent-led p (waits .entry) (waits .waiting) opening opening reply (subst (ClockAllows opening) (sym sent-there) (quiet (other p) .clock)) (subst (ClockAllows opening) (sym sent-here) sent-clock) room
+    through : Settles sent p (deliveryAndReply sent p (saidBy turn .bytes) opening opening reply)
+    through = answers sent sent-led p (record { entry = waits .entry; message = saidBy turn .bytes }) (waits .waiting) opening opening reply (subst (ClockAllows opening) (sym sent-there) (quiet (other p) .clock)) (subst (ClockAllows opening) (sym sent-here) sent-clock) room
 
     abbrev first : Step
-    first = delivery sent p opening reply
+    first = delivery p (saidBy turn .bytes) opening reply
 
     abbrev second : Step
     second = record { at = p; call = Call.reply opening (saidAt first sent .bytes); line = [] }
@@ -230,11 +185,11 @@ module _ (w : World) (led : Led w) (quiet : (x : End) → Quiet (w .engine x)) (
     told = performed (Call.reply opening (saidBy heard .bytes)) [] (turn .engine)
 
     heard-so : performed (first .call) reply (sent .engine (other p)) ≡ heard
-    heard-so = λ i. performed (Call.receive opening (waits .message i)) reply (sent-there i)
+    heard-so = ap (performed (first .call) reply) sent-there
 
     told-so : performed (second .call) [] (act first sent .engine p) ≡ told
     unfolding act
-    told-so = λ i. performed (Call.reply opening (saidBy (heard-so i) .bytes)) [] ((kept-here p (performed (first .call) reply (sent .engine (other p)) .engine) (sent .engine) ∙ sent-here) i)
+    told-so = λ i. performed (Call.reply opening (saidBy (heard-so i) .bytes)) [] ((unchanged-here p (performed (first .call) reply (sent .engine (other p)) .engine) (sent .engine) ∙ sent-here) i)
 
     after-here : after .engine p ≡ told .engine
     unfolding act
@@ -242,7 +197,7 @@ module _ (w : World) (led : Led w) (quiet : (x : End) → Quiet (w .engine x)) (
 
     after-there : after .engine (other p) ≡ heard .engine
     unfolding act
-    after-there = kept p _ _ ∙ changed (other p) _ (sent .engine) ∙ ap (λ (t : Performed). t .engine) heard-so
+    after-there = unchanged p _ _ ∙ changed (other p) _ (sent .engine) ∙ ap (λ (t : Performed). t .engine) heard-so
 
     received : heard .number ≡ 0
     unfolding Unrefused
@@ -252,15 +207,15 @@ module _ (w : World) (led : Led w) (quiet : (x : End) → Quiet (w .engine x)) (
     unfolding Unrefused
     replied-to = sym (ap (λ (t : Performed). t .number) told-so) ∙ through .unrefused .1 .0
 
-    answered-round : Stands p left
+    answered-round : Between p left
     unfolding roundMade Possible
     answered-round =
-        subst (Stands p)
+        subst (Between p)
         (ap endsAfter (answer call opening message reply here there turn refl (turn .number) _ none none (replied opening (saidBy turn .bytes) reply (turn .engine) there heard refl told received refl)))
         (record {
           world = after;
           led = one-more (act first sent) (one-more sent sent-led first (through .possible .0)) second (through .possible .1 .0);
-          quiet = at-both Quiet p (after .engine) (subst Quiet (sym after-here) quiet-here) (subst Quiet (sym after-there) quiet-there);
+          quiet = every-end (λ (x : End) (e : Engine). Quiet e) p (after .engine) (subst Quiet (sym after-here) quiet-here) (subst Quiet (sym after-there) quiet-there);
           same = λ i. record { presenter = after-here i; receiver = after-there i; message = turn .line; reply = heard .line };
           room = omega (arith, room, line-kept opening (saidBy turn .bytes) reply there);
         })
@@ -271,13 +226,13 @@ module _ (w : World) (led : Led w) (quiet : (x : End) → Quiet (w .engine x)) (
         quiet-there : Quiet (heard .engine)
         quiet-there = record { clock = still-allowed (Call.receive opening (saidBy turn .bytes)) reply there opening refl (quiet (other p) .clock); idle = received-pending opening (saidBy turn .bytes) reply there ∙ quiet (other p) .idle }
 
-  round-stands : Stands p left
-  round-stands = go (turn .number) refl
+  round-between : Between p left
+  round-between = go (turn .number) refl
     where
-      go : (n : ℕ) → turn .number ≡ n → Stands p left
+      go : (n : ℕ) → turn .number ≡ n → Between p left
       go zero z = answered-round z
       go (suc n) z = refused-round (λ (q : turn .number ≡ 0). omega (arith, z, q))
 
--- so an evening that stands somewhere stands somewhere after any round
-pub round-more : (p : End) (e : Ends) → Stands p e → {call : Call} → SendAtOpening call → Stands p (roundMade call e)
-round-more p e s {call = call} sends = subst (λ (x : Ends). Stands p (roundMade call x)) (s .same) (round-stands (s .world) (s .led) (s .quiet) p (e .message) (e .reply) (s .room) sends)
+-- so any round leads from between two rounds to between two rounds
+pub round-more : (p : End) (e : Ends) → Between p e → {call : Call} → SendAtOpening call → Between p (roundMade call e)
+round-more p e s {call = call} sends = subst (λ (x : Ends). Between p (roundMade call x)) (s .same) (round-between (s .world) (s .led) (s .quiet) p (e .message) (e .reply) (s .room) sends)

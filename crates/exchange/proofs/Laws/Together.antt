@@ -28,53 +28,54 @@ use Rattle.session.specs.Report.{awaited, report}
 use Rattle.session.specs.Claim.{reportAt, presentedTally, receivedTally, Level, Ahead}
 use Rattle.session.proofs.Laws.EveryCall.{pendingIn, ticked-pending}
 use Rattle.exchange.specs.declared.shown.Sums.{Sums}
+use Rattle.exchange.specs.declared.shown.Evening.{Evening}
 use Rattle.exchange.specs.Fixed.{moment, office, lotParts}
 use Rattle.exchange.specs.Cursors.{unmoved, partAt, same}
 use Rattle.exchange.specs.Course.{Ends, Standing, inOpenLot, partSent, detailSent, whileMoving, nextPart, filled, roundBetween, wholeLot, lotMade, lotsMade, directionMade, across, bothDirections}
-use Rattle.exchange.specs.Evening.{sumsOf, awaitedNumber, noSide, closedEnd, closedSide, beginning, evening, traysCode, exchanged}
-use Rattle.exchange.specs.Together.{bothStarted, LedTo, EveningIsAList, Settled, EveningIsSettled}
-use Rattle.exchange.proofs.Laws.Led.{Led, one-more, agrees, Quiet, Stands, SendAtOpening, round-more}
+use Rattle.exchange.specs.Evening.{sumsOf, awaitedNumber, sideOf, noSide, closedEnd, closedSide, beginning, evening, traysCode, exchanged}
+use Rattle.exchange.specs.Together.{bothStarted, IsAList, EveningIsAList, Settled, EveningIsSettled}
+use Rattle.exchange.proofs.Laws.Led.{Led, one-more, agreed, agrees, Quiet, Between, SendAtOpening, round-more}
 
--- an evening that stands somewhere does so after all that a direction is made of
+-- all that a direction is made of leads from between two rounds to between two rounds
 module _ (p : End) where
   -- one of two
-  either-stands : (t : Bool) (a b : Standing) → Stands p (a .ends) → Stands p (b .ends) → Stands p (cond t a b .ends)
-  either-stands true a b x y = x
-  either-stands false a b x y = y
+  either-between : (t : Bool) (a b : Standing) → Between p (a .ends) → Between p (b .ends) → Between p (cond t a b .ends)
+  either-between true a b x y = x
+  either-between false a b x y = y
 
   -- steps, until one moves no cursor
-  while-stands : (step : ℕ → Standing → Standing) → ((number : ℕ) (s : Standing) → Stands p (s .ends) → Stands p (step number s .ends)) → (most number : ℕ) (s : Standing) → Stands p (s .ends) → Stands p (whileMoving most step number s .ends)
+  while-between : (step : ℕ → Standing → Standing) → ((number : ℕ) (s : Standing) → Between p (s .ends) → Between p (step number s .ends)) → (most number : ℕ) (s : Standing) → Between p (s .ends) → Between p (whileMoving most step number s .ends)
   unfolding whileMoving
-  while-stands step keeps zero number s x = x
-  while-stands step keeps (suc most) number s x =
+  while-between step keeps zero number s x = x
+  while-between step keeps (suc most) number s x =
       let once = keeps number s x in
-      either-stands (same (s .cursors) (step number s .cursors)) (step number s) (whileMoving most step (suc number) (step number s)) once (while-stands step keeps most (suc number) (step number s) once)
+      either-between (same (s .cursors) (step number s .cursors)) (step number s) (whileMoving most step (suc number) (step number s)) once (while-between step keeps most (suc number) (step number s) once)
 
   module _ (presentations returns : List ℕ) where
-    part-stands : (number : ℕ) (s : Standing) → Stands p (s .ends) → Stands p (detailSent presentations returns s .ends)
+    part-between : (number : ℕ) (s : Standing) → Between p (s .ends) → Between p (detailSent presentations returns s .ends)
     unfolding detailSent partSent
-    part-stands number s x =
+    part-between number s x =
         let part = partAt presentations returns (s .cursors) in
-        either-stands (eqb (countIn part) 0 || passesLot (inOpenLot (s .ends) + countIn part)) s (partSent presentations part s) x (round-more p (s .ends) x SendAtOpening.detail)
+        either-between (eqb (countIn part) 0 || passesLot (inOpenLot (s .ends) + countIn part)) s (partSent presentations part s) x (round-more p (s .ends) x SendAtOpening.detail)
 
-    lot-stands : (number : ℕ) (s : Standing) → Stands p (s .ends) → Stands p (lotMade presentations returns number s .ends)
+    lot-between : (number : ℕ) (s : Standing) → Between p (s .ends) → Between p (lotMade presentations returns number s .ends)
     unfolding lotMade filled
-    lot-stands number s x =
+    lot-between number s x =
         let opened = roundBetween (Call.header opening moment office number) s in
         let full = filled presentations returns opened in
-        either-stands (eqb (length (partAt presentations returns (s .cursors))) 0) s (wholeLot number presentations returns s) x
-        (round-more p (full .ends) (while-stands (nextPart presentations returns) part-stands lotParts 0 opened (round-more p (s .ends) x SendAtOpening.header)) SendAtOpening.lotTotal)
+        either-between (eqb (length (partAt presentations returns (s .cursors))) 0) s (wholeLot number presentations returns s) x
+        (round-more p (full .ends) (while-between (nextPart presentations returns) part-between lotParts 0 opened (round-more p (s .ends) x SendAtOpening.header)) SendAtOpening.lotTotal)
 
-    direction-stands : (e : Ends) → Stands p e → Stands p (directionMade presentations returns e)
+    direction-between : (e : Ends) → Between p e → Between p (directionMade presentations returns e)
     unfolding directionMade lotsMade
-    direction-stands e x = round-more p _ (while-stands (lotMade presentations returns) lot-stands mostLots 1 (record { ends = e; cursors = unmoved }) x) SendAtOpening.sessionTotal
+    direction-between e x = round-more p _ (while-between (lotMade presentations returns) lot-between mostLots 1 (record { ends = e; cursors = unmoved }) x) SendAtOpening.sessionTotal
 
 -- the other end presents
-across-stands : (e : Ends) → Stands End.near e → Stands End.far (across e)
-across-stands e s = record { world = s .world; led = s .led; quiet = s .quiet; same = ap across (s .same); room = s .room }
+across-between : (e : Ends) → Between End.near e → Between End.far (across e)
+across-between e s = record { world = s .world; led = s .led; quiet = s .quiet; same = ap across (s .same); room = s .room }
 
--- from the beginning, so an evening stands somewhere before its clock calls
-begins : Stands End.near beginning
+-- from the beginning, so an evening comes there before its clock calls
+begins : Between End.near beginning
 unfolding beginning begun run Possible start partiesGood realDate monthDays every _when_ _orelse_ fresh timeRefusal clockRefusal
 begins = record { world = bothStarted; led = record { steps = []; possible = tt; leads = refl }; quiet = quiet; same = refl; room = omega arith }
   where
@@ -86,39 +87,36 @@ module _ (nearPresentations nearReturns farPresentations farReturns : List ℕ) 
   abbrev last : Ends
   last = bothDirections nearPresentations nearReturns farPresentations farReturns beginning
 
-  stands : Stands End.far last
+  ending : Between End.far last
   unfolding bothDirections
-  stands = direction-stands End.far farPresentations farReturns _ (across-stands _ (direction-stands End.near nearPresentations nearReturns beginning begins))
+  ending = direction-between End.far farPresentations farReturns _ (across-between _ (direction-between End.near nearPresentations nearReturns beginning begins))
 
   -- both clock calls
   abbrev ticking : End → Step
   ticking x = record { at = x; call = Call.clock close; line = [] }
 
   abbrev before : World
-  before = stands .world
+  before = ending .world
 
   abbrev after : World
   after = act (ticking End.far) (act (ticking End.near) before)
 
   led : Led after
-  led = one-more (act (ticking End.near) before) (one-more before (stands .led) (ticking End.near) tt) (ticking End.far) tt
+  led = one-more (act (ticking End.near) before) (one-more before (ending .led) (ticking End.near) tt) (ticking End.far) tt
 
   near-so : after .engine End.near ≡ closedEnd (last .receiver)
   unfolding act closedEnd
-  near-so = ap (λ (e : Ends). closedEnd (e .receiver)) (stands .same)
+  near-so = ap (λ (e : Ends). closedEnd (e .receiver)) (ending .same)
 
   far-so : after .engine End.far ≡ closedEnd (last .presenter)
   unfolding act closedEnd
-  far-so = ap (λ (e : Ends). closedEnd (e .presenter)) (stands .same)
-
-  list : LedTo (closedEnd (last .receiver)) (closedEnd (last .presenter))
-  list = record { steps = led .steps; possible = led .possible; near-end = ap (λ (w : World). w .engine End.near) (led .leads) ∙ near-so; far-end = ap (λ (w : World). w .engine End.far) (led .leads) ∙ far-so }
+  far-so = ap (λ (e : Ends). closedEnd (e .presenter)) (ending .same)
 
   -- nothing is awaited, so the ends are level
   idle : (x : End) → pendingIn (after .engine x) ≡ Effect.Nothing
   unfolding act
-  idle End.near = ticked-pending close [] (before .engine End.near) ∙ stands .quiet End.near .idle
-  idle End.far = ticked-pending close [] (before .engine End.far) ∙ stands .quiet End.far .idle
+  idle End.near = ticked-pending close [] (before .engine End.near) ∙ ending .quiet End.near .idle
+  idle End.far = ticked-pending close [] (before .engine End.far) ∙ ending .quiet End.far .idle
 
   none-awaited : (x : End) → reportAt after x .awaited ≡ Awaited.Neither
   unfolding report
@@ -154,15 +152,39 @@ module _ (nearPresentations nearReturns farPresentations farReturns : List ℕ) 
         far-awaits = ap (λ (r : Report). awaitedNumber (r .awaited)) far-report ∙ ap awaitedNumber (none-awaited End.far);
       }
 
-  -- also where a tray is bad, and all is 0
-  settled : (t : Bool) (code : ℕ) → Settled (cond t (evening nearPresentations nearReturns farPresentations farReturns) (record { code = code; near = noSide; far = noSide }))
-  settled true code = settled-evening
-  settled false code = record { near-received = refl; far-received = refl; near-awaits = refl; far-awaits = refl }
+  list-evening : IsAList (evening nearPresentations nearReturns farPresentations farReturns)
+  unfolding evening closedSide
+  list-evening =
+      record {
+        steps = led .steps;
+        possible = led .possible;
+        near-side = ap sideOf (near-report ∙ sym (ap (λ (w : World). reportAt w End.near) (led .leads)));
+        far-side = ap sideOf (far-report ∙ sym (ap (λ (w : World). reportAt w End.far) (led .leads)));
+        agreed = agreed (led .steps) (led .possible);
+      }
+
+  -- what holds of it and of a bad tray's code with nothing beside it holds of what C gets
+  either-evening : (Q : Evening → Type 0) → Q (evening nearPresentations nearReturns farPresentations farReturns) → ((code : ℕ) → Q (record { code = code; near = noSide; far = noSide })) → Q (exchanged nearPresentations nearReturns farPresentations farReturns)
+  unfolding exchanged
+  either-evening Q good bad = go (eqb code 0)
+    where
+      code : ℕ
+      code = traysCode nearPresentations nearReturns farPresentations farReturns
+
+      go : (t : Bool) → Q (cond t (evening nearPresentations nearReturns farPresentations farReturns) (record { code = code; near = noSide; far = noSide }))
+      go true = good
+      go false = bad code
+
+-- for which no call is made
+no-calls : (code : ℕ) → IsAList (record { code = code; near = noSide; far = noSide })
+unfolding run Possible begun start partiesGood realDate monthDays every _when_ fresh report
+no-calls code = record { steps = []; possible = tt; near-side = refl; far-side = refl; agreed = agreed [] tt }
 
 -- The claims of specs/Together.
 pub evening-is-a-list : EveningIsAList
-evening-is-a-list = list
+evening-is-a-list nearPresentations nearReturns farPresentations farReturns = either-evening nearPresentations nearReturns farPresentations farReturns IsAList (list-evening nearPresentations nearReturns farPresentations farReturns) no-calls
 
 pub evening-is-settled : EveningIsSettled
-unfolding exchanged
-evening-is-settled nearPresentations nearReturns farPresentations farReturns = let code = traysCode nearPresentations nearReturns farPresentations farReturns in settled nearPresentations nearReturns farPresentations farReturns (eqb code 0) code
+evening-is-settled nearPresentations nearReturns farPresentations farReturns =
+    either-evening nearPresentations nearReturns farPresentations farReturns Settled (settled-evening nearPresentations nearReturns farPresentations farReturns)
+    (λ (code : ℕ). record { near-received = refl; far-received = refl; near-awaits = refl; far-awaits = refl })

@@ -84,7 +84,7 @@ message-read e x fe fx =
     (envelope-written Kind.Message e body fe (short (e .route) x), ap (readBody (layoutOf (e .route) x)) (body-told Kind.Message e body) ∙ written-then-read (e .route) x fx)
 
 pub message-again : MessageReadThenWritten
-message-again e x bytes he hx = λ i. envelope-again Kind.Message bytes e (sym he) i ++ read-then-written (e .route) x (bodyOf bytes) (sym hx) i
+message-again e x bytes read = λ i. envelope-again Kind.Message bytes e (sym (read .0)) i ++ read-then-written (e .route) x (bodyOf bytes) (sym (read .1)) i
 
 pub reply-read : ReplyWrittenThenRead
 reply-read e r fits = (envelope-written Kind.Reply e (writtenReplyBody r) fits refl, ap readReply (body-told Kind.Reply e (writtenReplyBody r)) ∙ reply-written r)

@@ -1,6 +1,6 @@
 -- A clock that allows a call at a time allows it still after a call at that time, refused or not.
 use mathlib.Core.Path.{_≡_, refl, ap, sym, subst, _∙_}
-use mathlib.Core.Bool.{Bool, not}
+use mathlib.Core.Bool.{Bool}
 use mathlib.Core.List.{List}
 use Prim.Native.Nat.{ℕ, zero, suc}
 use native.Mathlib.Omega.{arith}
@@ -9,7 +9,7 @@ use borrow.Author.Tests.{le-ltb}
 use Rattle.codes.specs.Chain.{_when_, _orelse_}
 use Rattle.codes.proofs.Laws.Chain.{goes-on, passes, passed, none-both}
 use Rattle.session.specs.declared.session.Close.{Close}
-use Rattle.session.specs.Hours.{pastDay, withinHours}
+use Rattle.session.specs.Hours.{pastDay}
 use Rattle.session.specs.Parties.{Direction}
 use Rattle.session.specs.Time.{isClosed, clockRefusal, timeRefusal}
 use Rattle.session.specs.Engine.{Call, Engine, meaning, directionOf, lent, givenBack, performed}

@@ -6,6 +6,7 @@ use mathlib.Core.List.{List}
 use Prim.Native.Nat.{ℕ, zero, suc}
 use native.Mathlib.Omega.{arith}
 use lib.ListN.{length}
+use lib.Seq.{length-sets}
 use Rattle.message.specs.Envelope.{envelopeOf, bodyOf}
 use Rattle.message.specs.Line.{wholeReply}
 use Rattle.session.specs.Parties.{Direction, opposite}
@@ -46,6 +47,18 @@ is-decided (Call.receive time bytes) h = record { refusal = _; done = _; unrefus
 is-decided (Call.reply time bytes) h = record { refusal = _; done = _; unrefused = refl; outcome = refl }
 is-decided (Call.clock time) h = record { refusal = _; done = _; unrefused = refl; outcome = refl }
 is-decided Call.report h = record { refusal = 0; done = silent h; unrefused = refl; outcome = sym (unrefused h (silent h)) }
+
+-- What holds after a new message and after a repeat holds after a message.
+pub either-message : (Q : Held → Type 0) (time : ℕ) (bytes : List ℕ) (h : Held) → Q (afterNew time (bodyOf bytes) h) → Q (afterRepeat time h) → Q (afterMessage time bytes h)
+either-message Q time bytes h new repeat = go (isNext bytes (h .session .receiving .serial))
+  where
+    go : (t : Bool) → Q (cond t (afterNew time (bodyOf bytes) h) (afterRepeat time h))
+    go true = new
+    go false = repeat
+
+-- Before the reply is written the line buffer is as it was lent.
+pub same-line : (time : ℕ) (bytes : List ℕ) (h : Held) → afterMessage time bytes h .line ≡ h .line
+same-line time bytes h = either-message (λ (a : Held). a .line ≡ h .line) time bytes h refl refl
 
 -- A refused call gives back what it was lent.
 pub gives-back : (call : Call) (h : Held) → (meaning call h .number ≡ 0 → ⊥) → meaning call h ≡ refused (meaning call h .number) h
@@ -131,14 +144,9 @@ untouched (Call.sessionTotal time) h = by-decision h _ _ refl refl
 untouched (Call.reply time bytes) h = by-decision h _ _ refl refl
 untouched (Call.clock time) h = by-decision h _ _ refl refl
 untouched Call.report h = record { parties = refl; otherSide = refl }
-untouched (Call.receive time bytes) h = either (λ (o : Outcome). Untouched Direction.receiving h (o .left)) (receiveRefusal time bytes (length (h .line)) (h .session)) h _ (λ (k : ℕ). record { parties = refl; otherSide = refl }) (λ (e : receiveRefusal time bytes (length (h .line)) (h .session) ≡ 0). same-session (afterMessage time bytes h) _ (either-way (isNext bytes (h .session .receiving .serial))))
-  where
-    same-session : (a : Held) (line : List ℕ) → Untouched Direction.receiving h a → Untouched Direction.receiving h (record { session = a .session; running = a .running; line = line })
-    same-session a line u = record { parties = u .parties; otherSide = u .otherSide }
-
-    either-way : (t : Bool) → Untouched Direction.receiving h (cond t (afterNew time (bodyOf bytes) h) (afterRepeat time h))
-    either-way true = record { parties = refl; otherSide = refl }
-    either-way false = record { parties = refl; otherSide = refl }
+untouched (Call.receive time bytes) h =
+    either (λ (o : Outcome). Untouched Direction.receiving h (o .left)) (receiveRefusal time bytes (length (h .line)) (h .session)) h _ (λ (k : ℕ). record { parties = refl; otherSide = refl })
+    (λ (e : receiveRefusal time bytes (length (h .line)) (h .session) ≡ 0). either-message (λ (a : Held). Untouched Direction.receiving h (replying bytes a .left)) time bytes h (record { parties = refl; otherSide = refl }) (record { parties = refl; otherSide = refl }))
 
 -- 'An unrefused call makes its time the last seen', and only a clock call changes the close: both of a session, and as a call leaves them.
 pub record Stamp : Type 0 where
@@ -170,11 +178,7 @@ stamps (Call.sessionTotal time) h = stamp-decided _ _ h _ refl
 stamps (Call.reply time bytes) h = stamp-decided _ _ h _ refl
 stamps (Call.clock time) h = stamp-decided _ _ h _ refl
 stamps Call.report h = λ z. refl
-stamps (Call.receive time bytes) h = stamp-decided _ _ h _ (either-way (isNext bytes (h .session .receiving .serial)))
-  where
-    either-way : (t : Bool) → stampOf (cond t (afterNew time (bodyOf bytes) h) (afterRepeat time h) .session) ≡ stamped (Call.receive time bytes) (h .session)
-    either-way true = refl
-    either-way false = refl
+stamps (Call.receive time bytes) h = stamp-decided _ _ h _ (either-message (λ (a : Held). stampOf (a .session) ≡ stamped (Call.receive time bytes) (h .session)) time bytes h refl refl)
 
 -- Every call keeps the premise of its direction.
 pub keeps : (call : Call) (h : Held) → Premise (directionOf call) h → Premise (directionOf call) (meaning call h .left)
@@ -282,3 +286,11 @@ received-pending time bytes line e = ap (λ (p : Presenting). p .pending) (untou
 pub ticked-pending : (time : ℕ) (line : List ℕ) (e : Engine) → pendingIn (performed (Call.clock time) line e .engine) ≡ pendingIn e
 unfolding performed meaning clock
 ticked-pending time line e = either (λ (o : Outcome). o .left .session .presenting .pending ≡ pendingIn e) (clockRefusal time (e .session .seen) (e .session .close)) (lent Direction.presenting line e) _ (λ (k : ℕ). refl) (λ n. refl)
+
+-- Receiving keeps the length of its line buffer.
+pub line-kept : (time : ℕ) (bytes line : List ℕ) (e : Engine) → length (performed (Call.receive time bytes) line e .line) ≡ length line
+unfolding performed meaning receive
+line-kept time bytes line e =
+    let h = lent Direction.receiving line e in
+    either (λ (o : Outcome). length (o .left .line) ≡ length line) _ h _ (λ (k : ℕ). refl)
+    (λ n. length-sets (afterMessage time bytes h .line) 0 (wholeReply (envelopeOf bytes) (afterMessage time bytes h .session .receiving .reply)) ∙ ap length (same-line time bytes h))

@@ -23,20 +23,23 @@ use Rattle.session.specs.Receiving.{acceptedLots}
 use Rattle.session.specs.Ledger.{LedgerLot, Ledger, Entry, enter, bodyEntry, lotSum, numbers, Distinct}
 use Rattle.session.specs.Engine.{Call}
 use Rattle.session.specs.Ends.{End, Event, WrittenBefore}
-use Rattle.session.specs.Entering.{PresenterLedger, ReceiverLedger}
+use Rattle.session.specs.Entering.{Waiting, PresenterLedger, ReceiverLedger}
 use Rattle.session.proofs.Laws.Ledger.{summary, effectOf}
 use Rattle.session.proofs.Laws.Foreign.{Foreign}
 use Rattle.session.proofs.Laws.Line.{accepts, MessageFact, ReplyFact}
 use Rattle.session.proofs.Laws.Lists.{upTo}
 
 -- what waits, as the presenter's state has it; an unknown body never waits, and is put down as pending so that whatever waits is
-abbrev pub waitingEffect : Option Entry → Ledger → Effect
+abbrev pub pendingAs : Entry → Ledger → Effect
+pendingAs (Entry.header number) b = effectOf (Entry.header number) b
+pendingAs (Entry.detail ds) b = effectOf (Entry.detail ds) b
+pendingAs Entry.lotTotal b = effectOf Entry.lotTotal b
+pendingAs Entry.sessionTotal b = Effect.SessionTotal
+pendingAs Entry.unknown b = Effect.Detail empty
+
+abbrev pub waitingEffect : Option Waiting → Ledger → Effect
 waitingEffect none b = Effect.Nothing
-waitingEffect (some (Entry.header number)) b = effectOf (Entry.header number) b
-waitingEffect (some (Entry.detail ds)) b = effectOf (Entry.detail ds) b
-waitingEffect (some Entry.lotTotal) b = effectOf Entry.lotTotal b
-waitingEffect (some Entry.sessionTotal) b = Effect.SessionTotal
-waitingEffect (some Entry.unknown) b = Effect.Detail empty
+waitingEffect (some m) b = pendingAs (m .entry) b
 
 -- the operation of the reply to what waits
 abbrev pub replyFor : Entry → Operation
@@ -47,12 +50,12 @@ replyFor Entry.sessionTotal = Operation.SessionTotal
 replyFor Entry.unknown = Operation.Other
 
 -- the message that waits is on the line, and reads as its entry
-pub record OnLine (route : Route) (serial : ℕ) (e : Entry) (bytes : List ℕ) (trace : List Event) : Type 0 where
-  pub written : WrittenBefore bytes trace
-  pub good : envelopeGood Kind.Message bytes ≡ true
-  pub way : envelopeOf bytes .route ≡ route
-  pub numbered : serialOf bytes ≡ serial
-  pub reads : bodyEntry (bodyOf bytes) ≡ e
+pub record OnLine (route : Route) (serial : ℕ) (m : Waiting) (trace : List Event) : Type 0 where
+  pub written : WrittenBefore (m .message) trace
+  pub good : envelopeGood Kind.Message (m .message) ≡ true
+  pub way : envelopeOf (m .message) .route ≡ route
+  pub numbered : serialOf (m .message) ≡ serial
+  pub reads : bodyEntry (bodyOf (m .message)) ≡ m .entry
 
 pub record PresenterSide (p : Presenting) (t : Running) (b : PresenterLedger) : Type 0 where
   pub course : _≡_ {A = Course} (record { counters = p .counters; running = t }) (summary (b .ledger))
@@ -77,10 +80,10 @@ pub record Seen (last : ℕ) (serials : List ℕ) : Type 0 where
   pub last-seen : (last ≡ 0) ⊎ (member last serials ≡ true)
 
 -- nothing waits and the books are equal; or a message waits that was not received; or one that was, with the code that is kept
-pub data Link (p : Presenting) (r : Receiving) (waiting : Option Entry) (confirming counting : Ledger) : Type 0 where
+pub data Link (p : Presenting) (r : Receiving) (waiting : Option Waiting) (confirming counting : Ledger) : Type 0 where
   idle : waiting ≡ none → p .serial ≡ r .serial → confirming ≡ counting → Link p r waiting confirming counting
-  sent : (e : Entry) → waiting ≡ some e → p .serial ≡ suc (r .serial) → confirming ≡ counting → Link p r waiting confirming counting
-  taken : (e : Entry) → waiting ≡ some e → p .serial ≡ r .serial → counting ≡ enter e (accepts (r .reply .code)) confirming → r .reply .operation ≡ replyFor e → Link p r waiting confirming counting
+  sent : (m : Waiting) → waiting ≡ some m → p .serial ≡ suc (r .serial) → confirming ≡ counting → Link p r waiting confirming counting
+  taken : (m : Waiting) → waiting ≡ some m → p .serial ≡ r .serial → counting ≡ enter (m .entry) (accepts (r .reply .code)) confirming → r .reply .operation ≡ replyFor (m .entry) → Link p r waiting confirming counting
 
 -- the two ends of a direction: the record in the session, the running totals, and what was entered
 pub record PresentingEnd : Type 0 where
@@ -108,14 +111,14 @@ pub record Joined (route : Route) (p : PresentingEnd) (r : ReceivingEnd) (trace 
   pub receiver : Mirrored (r .state) (r .running) (r .entered .ledger)
   pub seen : Seen (r .state .serial) (r .entered .serials)
   pub link : Link (p .state) (r .state) (p .entered .waiting) (p .entered .ledger) (r .entered .ledger)
-  pub waits : (e : Entry) → p .entered .waiting ≡ some e → OnLine route (p .state .serial) e (p .entered .message) trace
+  pub waits : (m : Waiting) → p .entered .waiting ≡ some m → OnLine route (p .state .serial) m trace
   pub messages : (bytes : List ℕ) → WrittenBefore bytes trace → MessageFact route (p .state .serial) (p .entered .waiting) bytes
   pub replies : (bytes : List ℕ) → WrittenBefore bytes trace → ReplyFact route (r .state .serial) (r .state .reply .code) bytes
 
 module _ (route : Route) (p : PresentingEnd) (r : ReceivingEnd) (trace : List Event) (j : Joined route p r trace) where
   -- what waits is on the line after any call
-  pub still : (x : Event) (e : Entry) → p .entered .waiting ≡ some e → OnLine route (p .state .serial) e (p .entered .message) (x ∷ trace)
-  still x e w = let o = j .waits e w in record { written = inr (o .written); good = o .good; way = o .way; numbered = o .numbered; reads = o .reads }
+  pub still : (x : Event) (m : Waiting) → p .entered .waiting ≡ some m → OnLine route (p .state .serial) m (x ∷ trace)
+  still x m w = let o = j .waits m w in record { written = inr (o .written); good = o .good; way = o .way; numbered = o .numbered; reads = o .reads }
 
   -- a call that writes nothing of this direction
   pub passed-by : (e : Event) → (e .said .number ≡ 0 → Foreign route (e .said .bytes)) → Joined route p r (e ∷ trace)

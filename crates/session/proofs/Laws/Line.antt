@@ -20,16 +20,17 @@ use Rattle.message.specs.Reply.{writtenReplyBody}
 use Rattle.message.specs.Line.{wholeMessage, wholeReply}
 use Rattle.message.proofs.Laws.Envelope.{envelope-told, body-told, kind-told}
 use Rattle.session.specs.Reply.{isAccepted}
-use Rattle.session.specs.Ledger.{Entry, bodyEntry}
+use Rattle.session.specs.Ledger.{bodyEntry}
+use Rattle.session.specs.Entering.{Waiting}
 
 -- whether a code accepts
 abbrev pub accepts : Code → Bool
 accepts c = eqb (codeNumber c) 0
 
 -- a message of a direction is no later than the presenter's last, and that one reads as what is waiting
-abbrev pub MessageFact : Route → (serial : ℕ) → Option Entry → List ℕ → Type 0
+abbrev pub MessageFact : Route → (serial : ℕ) → Option Waiting → List ℕ → Type 0
 MessageFact route serial waiting bytes =
-    envelopeGood Kind.Message bytes ≡ true → envelopeOf bytes .route ≡ route → (serialOf bytes ≤ serial) × ((e : Entry) → serialOf bytes ≡ serial → waiting ≡ some e → bodyEntry (bodyOf bytes) ≡ e)
+    envelopeGood Kind.Message bytes ≡ true → envelopeOf bytes .route ≡ route → (serialOf bytes ≤ serial) × ((m : Waiting) → serialOf bytes ≡ serial → waiting ≡ some m → bodyEntry (bodyOf bytes) ≡ m .entry)
 
 -- a reply is to nothing later than the receiver's last, and that one brings the kept code
 abbrev pub ReplyFact : Route → (serial : ℕ) → Code → List ℕ → Type 0

@@ -44,17 +44,17 @@ use Rattle.session.specs.Premise.{PendingSound}
 use Rattle.session.specs.Ledger.{Entry, Ledger, enter, bodyEntry, partEntry, numbers, Distinct}
 use Rattle.session.specs.Engine.{Call, Engine, saidBy, meaning, lent, performed, Ready}
 use Rattle.session.specs.Ends.{End, Event, WrittenBefore, Brought}
-use Rattle.session.specs.Entering.{PresenterLedger, waitingFor, enterWaiting, answeredWith, presenterEnters}
+use Rattle.session.specs.Entering.{Waiting, PresenterLedger, waitingFor, enterWaiting, answeredWith, presenterEnters}
 use Rattle.session.proofs.Laws.Decided.{either, saidIn, first-bytes}
 use Rattle.session.proofs.Laws.Refusals.{SendTold, send-told, ReceiveTold, receive-told, ReplyTold, reply-told}
 use Rattle.session.proofs.Laws.Ledger.{summary, openOf, Finds, effectOf, detail-sum, mirrors}
 use Rattle.session.proofs.Laws.Line.{accepts, MessageFact, ReplyFact, message-no-reply, route-told, serial-read}
-use Rattle.session.proofs.Laws.Joined.{OnLine, waitingEffect, eventOf, Link, PresentingEnd, ReceivingEnd, presentingEnd, Joined, passed-by, refused-by, not-entered}
+use Rattle.session.proofs.Laws.Joined.{OnLine, pendingAs, waitingEffect, eventOf, Link, PresentingEnd, ReceivingEnd, presentingEnd, Joined, passed-by, refused-by, not-entered}
 use Rattle.session.proofs.Laws.Foreign.{Foreign, nothing-foreign, next-fits, reply-foreign}
 use Rattle.session.proofs.Laws.Written.{header-takes, detail-long}
 use Rattle.session.proofs.Laws.Entries.{header-entry, detail-entry, lot-total-entry, session-total-entry, open-lot-same}
 
-pub pending-some : (e : Entry) (b : Ledger) → isPending (waitingEffect (some e) b) ≡ true
+pub pending-some : (e : Entry) (b : Ledger) → isPending (pendingAs e b) ≡ true
 pending-some (Entry.header number) b = refl
 pending-some (Entry.detail ds) b = refl
 pending-some Entry.lotTotal b = refl
@@ -76,8 +76,8 @@ module _ (x : End) (e : Engine) (ready : Ready e) (different : e .session .parti
 
   module _ (j : Joined route here r trace) where
     -- what is pending, where an entry waits
-    pending-is : (d : Entry) → bp .waiting ≡ some d → p .pending ≡ waitingEffect (some d) (bp .ledger)
-    pending-is d w = j .presenter .pending ∙ ap (λ (o : Option Entry). waitingEffect o (bp .ledger)) w
+    pending-is : (m : Waiting) → bp .waiting ≡ some m → p .pending ≡ pendingAs (m .entry) (bp .ledger)
+    pending-is m w = j .presenter .pending ∙ ap (λ (o : Option Waiting). waitingEffect o (bp .ledger)) w
 
     -- the ends after a call with this outcome, in which the running totals are the call's own or not
     abbrev After : Call → Running → Outcome → Type 0
@@ -96,8 +96,11 @@ module _ (x : End) (e : Engine) (ready : Ready e) (different : e .session .parti
       abbrev event : Event
       event = eventOf x call 0 bytes
 
+      abbrev waiting : Waiting
+      waiting = record { entry = entry; message = bytes }
+
       -- the message is on the line, and waits
-      sent-joined : SendTold code bytes h → effect ≡ waitingEffect (some entry) (bp .ledger) → bodyEntry body ≡ entry → lengthGood Kind.Message (envelopeBytes + length body) ≡ true → Joined route (presentingEnd (sent time effect (e .session) .presenting) pt (waitingFor entry bytes bp)) r (event ∷ trace)
+      sent-joined : SendTold code bytes h → effect ≡ pendingAs entry (bp .ledger) → bodyEntry body ≡ entry → lengthGood Kind.Message (envelopeBytes + length body) ≡ true → Joined route (presentingEnd (sent time effect (e .session) .presenting) pt (waitingFor entry bytes bp)) r (event ∷ trace)
       sent-joined told matching reads long =
           record {
             presenter = record { course = j .presenter .course; pending = matching; once = j .presenter .once };
@@ -109,43 +112,44 @@ module _ (x : End) (e : Engine) (ready : Ready e) (different : e .session .parti
             replies = all-replies;
           }
         where
-          on-line : (d : Entry) → some entry ≡ some d → OnLine route (suc (p .serial)) d bytes (event ∷ trace)
-          on-line d same =
+          on-line : (m : Waiting) → some waiting ≡ some m → OnLine route (suc (p .serial)) m (event ∷ trace)
+          on-line m same =
               let fit = next-fits (e .session) (ready .sound) (told .more) in
-              record {
+              subst (λ (x : Waiting). OnLine route (suc (p .serial)) x (event ∷ trace)) (Option·some-injective waiting m same)
+              (record {
                 written = inl (refl, refl);
                 good = written-good Kind.Message (nextEnvelope (e .session)) body fit long;
                 way = route-told Kind.Message (nextEnvelope (e .session)) body fit;
                 numbered = serial-read Kind.Message (nextEnvelope (e .session)) body fit;
-                reads = ap bodyEntry (body-told Kind.Message (nextEnvelope (e .session)) body) ∙ reads ∙ Option·some-injective entry d same;
-              }
+                reads = ap bodyEntry (body-told Kind.Message (nextEnvelope (e .session)) body) ∙ reads;
+              })
 
-          waits : (d : Entry) → bp .waiting ≡ some d → ⊥
-          waits d w = false≢true (sym (told .idle) ∙ ap isPending (pending-is d w) ∙ pending-some d (bp .ledger))
+          waits : (m : Waiting) → bp .waiting ≡ some m → ⊥
+          waits m w = false≢true (sym (told .idle) ∙ ap isPending (pending-is m w) ∙ pending-some (m .entry) (bp .ledger))
 
-          linked : Link p (r .state) (bp .waiting) (bp .ledger) (r .entered .ledger) → Link (sent time effect (e .session) .presenting) (r .state) (some entry) (bp .ledger) (r .entered .ledger)
-          linked (Link.idle w s b) = Link.sent entry refl (ap suc s) b
+          linked : Link p (r .state) (bp .waiting) (bp .ledger) (r .entered .ledger) → Link (sent time effect (e .session) .presenting) (r .state) (some waiting) (bp .ledger) (r .entered .ledger)
+          linked (Link.idle w s b) = Link.sent waiting refl (ap suc s) b
           linked (Link.sent d w s b) = absurd (waits d w)
           linked (Link.taken d w s b o) = absurd (waits d w)
 
-          all-messages : (b : List ℕ) → WrittenBefore b (event ∷ trace) → MessageFact route (suc (p .serial)) (some entry) b
+          all-messages : (b : List ℕ) → WrittenBefore b (event ∷ trace) → MessageFact route (suc (p .serial)) (some waiting) b
           all-messages b (inl w) =
-              subst (MessageFact route (suc (p .serial)) (some entry)) (w .1)
+              subst (MessageFact route (suc (p .serial)) (some waiting)) (w .1)
               (λ (g : envelopeGood Kind.Message bytes ≡ true) (way : envelopeOf bytes .route ≡ route). (
                 omega (arith, serial-read Kind.Message (nextEnvelope (e .session)) body (next-fits (e .session) (ready .sound) (told .more))),
-                λ (d : Entry) (s : serialOf bytes ≡ suc (p .serial)) (same : some entry ≡ some d). ap bodyEntry (body-told Kind.Message (nextEnvelope (e .session)) body) ∙ reads ∙ Option·some-injective entry d same,
+                λ (m : Waiting) (s : serialOf bytes ≡ suc (p .serial)) (same : some waiting ≡ some m). ap bodyEntry (body-told Kind.Message (nextEnvelope (e .session)) body) ∙ reads ∙ ap (λ (x : Waiting). x .entry) (Option·some-injective waiting m same),
               ))
           all-messages b (inr w) =
               λ (g : envelopeGood Kind.Message b ≡ true) (way : envelopeOf b .route ≡ route).
               let old = j .messages b w g way .0 in
-              (omega (arith, old), λ (d : Entry) (s : serialOf b ≡ suc (p .serial)) (same : some entry ≡ some d). absurd (omega (arith, old, s)))
+              (omega (arith, old), λ (m : Waiting) (s : serialOf b ≡ suc (p .serial)) (same : some waiting ≡ some m). absurd (omega (arith, old, s)))
 
           all-replies : (b : List ℕ) → WrittenBefore b (event ∷ trace) → ReplyFact route (r .state .serial) (r .state .reply .code) b
           all-replies b (inl w) = subst (ReplyFact route (r .state .serial) (r .state .reply .code)) (w .1) (λ (g : envelopeGood Kind.Reply bytes ≡ true) (way : envelopeOf bytes .route ≡ route). absurd (message-no-reply (nextEnvelope (e .session)) body g))
           all-replies b (inr w) = j .replies b w
 
       -- so for every send, if its code lets nothing else pass
-      send-after : ((w : List ℕ) → presenterEnters call w bp ≡ waitingFor entry w bp) → (code ≡ 0 → (effect ≡ waitingEffect (some entry) (bp .ledger)) × (bodyEntry body ≡ entry) × (lengthGood Kind.Message (envelopeBytes + length body) ≡ true)) → After call (send time code effect body h .left .running) (send time code effect body h)
+      send-after : ((w : List ℕ) → presenterEnters call w bp ≡ waitingFor entry w bp) → (code ≡ 0 → (effect ≡ pendingAs entry (bp .ledger)) × (bodyEntry body ≡ entry) × (lengthGood Kind.Message (envelopeBytes + length body) ≡ true)) → After call (send time code effect body h .left .running) (send time code effect body h)
       unfolding send
       send-after books fits =
           either (λ (o : Outcome). After call (o .left .running) o) (sendRefusal time code (length bytes) (length (h .line)) (h .session)) h (posted time effect body h)
@@ -161,25 +165,25 @@ module _ (x : End) (e : Engine) (ready : Ready e) (different : e .session .parti
       abbrev replyHeld : Held
       replyHeld = lent Direction.presenting line e
 
-      finds : (d : Entry) → bp .waiting ≡ some d → Finds d (openOf (bp .ledger .current))
-      finds d w = go d (subst (λ (f : Effect). PendingSound f (p .counters)) (pending-is d w) (ready .sound .pending))
+      finds : (m : Waiting) → bp .waiting ≡ some m → Finds (m .entry) (openOf (bp .ledger .current))
+      finds m w = go (m .entry) (subst (λ (f : Effect). PendingSound f (p .counters)) (pending-is m w) (ready .sound .pending))
         where
           same-open : p .counters .current ≡ openOf (bp .ledger .current)
           same-open = ap (λ (k : Course). k .counters .current) (j .presenter .course)
 
-          go : (d : Entry) → PendingSound (waitingEffect (some d) (bp .ledger)) (p .counters) → Finds d (openOf (bp .ledger .current))
+          go : (d : Entry) → PendingSound (pendingAs d (bp .ledger)) (p .counters) → Finds d (openOf (bp .ledger .current))
           go (Entry.header number) s = tt
           go (Entry.detail ds) s = sym (ap isOpen same-open) ∙ s
           go Entry.lotTotal s = sym (ap isOpen same-open) ∙ ap isOpen s
           go Entry.sessionTotal s = tt
           go Entry.unknown s = tt
 
-      entered : (d : Entry) (accepted : Bool) → bp .waiting ≡ some d → advance (p .pending) accepted (record { counters = p .counters; running = pt }) ≡ summary (enter d accepted (bp .ledger))
+      entered : (m : Waiting) (accepted : Bool) → bp .waiting ≡ some m → advance (p .pending) accepted (record { counters = p .counters; running = pt }) ≡ summary (enter (m .entry) accepted (bp .ledger))
       unfolding advance enter
-      entered d accepted w =
-          (λ i. advance ((pending-is d w) i) accepted (j .presenter .course i)) ∙ same d accepted (mirrors d accepted (bp .ledger) (λ (h : accepted ≡ true). finds d w))
+      entered m accepted w =
+          (λ i. advance ((pending-is m w) i) accepted (j .presenter .course i)) ∙ same (m .entry) accepted (mirrors (m .entry) accepted (bp .ledger) (λ (h : accepted ≡ true). finds m w))
         where
-          same : (d : Entry) (accepted : Bool) → advance (effectOf d (bp .ledger)) accepted (summary (bp .ledger)) ≡ summary (enter d accepted (bp .ledger)) → advance (waitingEffect (some d) (bp .ledger)) accepted (summary (bp .ledger)) ≡ summary (enter d accepted (bp .ledger))
+          same : (d : Entry) (accepted : Bool) → advance (effectOf d (bp .ledger)) accepted (summary (bp .ledger)) ≡ summary (enter d accepted (bp .ledger)) → advance (pendingAs d (bp .ledger)) accepted (summary (bp .ledger)) ≡ summary (enter d accepted (bp .ledger))
           same (Entry.header number) accepted h = h
           same (Entry.detail ds) accepted h = h
           same Entry.lotTotal accepted h = h
@@ -191,22 +195,22 @@ module _ (x : End) (e : Engine) (ready : Ready e) (different : e .session .parti
       replied-joined brought told = go (j .link)
         where
           go : Link p (r .state) (bp .waiting) (bp .ledger) (r .entered .ledger) → Joined route (presentingEnd (replied time (isAccepted bytes) replyHeld .session .presenting) (replied time (isAccepted bytes) replyHeld .running) (answeredWith (isAccepted bytes) bp)) r trace
-          go (Link.idle w s b) = absurd (false≢true (ap isPending (sym (ap (λ (o : Option Entry). waitingEffect o (bp .ledger)) w) ∙ sym (j .presenter .pending)) ∙ told .awaited))
+          go (Link.idle w s b) = absurd (false≢true (ap isPending (sym (ap (λ (o : Option Waiting). waitingEffect o (bp .ledger)) w) ∙ sym (j .presenter .pending)) ∙ told .awaited))
           go (Link.sent d w s b) = absurd (omega (arith, told .serial, s, j .replies bytes brought (told .good) (told .way) .0))
-          go (Link.taken d w s b o) =
+          go (Link.taken m w s b o) =
               let accepted = isAccepted bytes in
               let same : accepted ≡ accepts (r .state .reply .code) = j .replies bytes brought (told .good) (told .way) .1 (told .serial ∙ s) in
-              let after : answeredWith accepted bp .ledger ≡ enter d accepted (bp .ledger) = ap (λ (o : Option Entry). enterWaiting accepted o (bp .ledger)) w in
-              let level : answeredWith accepted bp .ledger ≡ r .entered .ledger = after ∙ ap (λ (t : Bool). enter d t (bp .ledger)) same ∙ sym b in
+              let after : answeredWith accepted bp .ledger ≡ enter (m .entry) accepted (bp .ledger) = ap (λ (o : Option Waiting). enterWaiting accepted o (bp .ledger)) w in
+              let level : answeredWith accepted bp .ledger ≡ r .entered .ledger = after ∙ ap (λ (t : Bool). enter (m .entry) t (bp .ledger)) same ∙ sym b in
               record {
-                presenter = record { course = entered d accepted w ∙ ap summary (sym after); pending = refl; once = subst (λ (l : Ledger). Distinct (numbers (l .lots))) (sym level) (j .receiver .once) };
+                presenter = record { course = entered m accepted w ∙ ap summary (sym after); pending = refl; once = subst (λ (l : Ledger). Distinct (numbers (l .lots))) (sym level) (j .receiver .once) };
                 receiver = j .receiver;
                 seen = j .seen;
                 link = Link.idle refl s level;
-                waits = λ (f : Entry) (waits : none ≡ some f). absurd (Option·none-ne-some f waits);
+                waits = λ (m : Waiting) (waits : none ≡ some m). absurd (Option·none-ne-some m waits);
                 messages =
                     λ (b : List ℕ) (w : WrittenBefore b trace) (g : envelopeGood Kind.Message b ≡ true) (way : envelopeOf b .route ≡ route).
-                    (j .messages b w g way .0, λ (f : Entry) (q : serialOf b ≡ p .serial) (waits : none ≡ some f). absurd (Option·none-ne-some f waits));
+                    (j .messages b w g way .0, λ (m : Waiting) (q : serialOf b ≡ p .serial) (waits : none ≡ some m). absurd (Option·none-ne-some m waits));
                 replies = j .replies;
               }
 
@@ -245,10 +249,10 @@ module _ (x : End) (e : Engine) (ready : Ready e) (different : e .session .parti
         (λ (z : clockRefusal time (e .session .seen) (e .session .close) ≡ 0). passed-by route here r trace j _ (λ (n : 0 ≡ 0). nothing-foreign route))
 
     -- what a presenter's own code lets pass is a message that its receiver reads as it was meant
-    header-fits : (time moment centre number : ℕ) → headerStop time moment centre number p ≡ 0 → let body = bodyBytes route (headerBody moment centre number) in (Effect.Header number ≡ waitingEffect (some (Entry.header number)) (bp .ledger)) × (bodyEntry body ≡ Entry.header number) × (lengthGood Kind.Message (envelopeBytes + length body) ≡ true)
+    header-fits : (time moment centre number : ℕ) → headerStop time moment centre number p ≡ 0 → let body = bodyBytes route (headerBody moment centre number) in (Effect.Header number ≡ pendingAs (Entry.header number) (bp .ledger)) × (bodyEntry body ≡ Entry.header number) × (lengthGood Kind.Message (envelopeBytes + length body) ≡ true)
     header-fits time moment centre number z = (refl, header-entry route (record { time = moment; centre = centre; number = number }) (header-takes (e .session) (ready .sound) time moment centre number z), short route (headerBody moment centre number))
 
-    detail-fits : (operation : ℕ) (part : List ℕ) → detailStop operation (e .session .parties .partner) part pt p ≡ 0 → let body = writtenDetail (packedByte operation) part in (Effect.Detail (partAdds operation part) ≡ waitingEffect (some (partEntry operation part)) (bp .ledger)) × (bodyEntry body ≡ partEntry operation part) × (lengthGood Kind.Message (envelopeBytes + length body) ≡ true)
+    detail-fits : (operation : ℕ) (part : List ℕ) → detailStop operation (e .session .parties .partner) part pt p ≡ 0 → let body = writtenDetail (packedByte operation) part in (Effect.Detail (partAdds operation part) ≡ pendingAs (partEntry operation part) (bp .ledger)) × (bodyEntry body ≡ partEntry operation part) × (lengthGood Kind.Message (envelopeBytes + length body) ≡ true)
     unfolding detailStop
     detail-fits operation part z =
         let own = none-both (presenterCode operation (e .session .parties .partner) part) _ z .0 in

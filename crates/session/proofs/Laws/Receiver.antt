@@ -179,9 +179,9 @@ module _ (x : End) (e : Engine) (ready : Ready e) (different : e .session .parti
       unfolding receivingAfter
       linked next (Link.idle w s b) = absurd (omega (arith, next, s, j .messages bytes brought (told .good) (told .way) .0))
       linked next (Link.taken d w s b o) = absurd (omega (arith, next, s, j .messages bytes brought (told .good) (told .way) .0))
-      linked next (Link.sent d w s b) =
-          let reads : bodyEntry body ≡ d = j .messages bytes brought (told .good) (told .way) .1 d (next ∙ sym s) w in
-          Link.taken d w s (λ i. enter (reads i) (sym (code-accepts code) i) (sym b i)) (reply-entry body ∙ ap replyFor reads)
+      linked next (Link.sent m w s b) =
+          let reads : bodyEntry body ≡ m .entry = j .messages bytes brought (told .good) (told .way) .1 m (next ∙ sym s) w in
+          Link.taken m w s (λ i. enter (reads i) (sym (code-accepts code) i) (sym b i)) (reply-entry body ∙ ap replyFor reads)
 
       taken-joined : serialOf bytes ≡ suc (r .serial) → Joined route p (receivingEnd (receivingAfter code body rt r) (receivingCourse code body rt r .running) entered) (eventOf x (Call.receive time bytes) 0 (wholeReply (envelopeOf bytes) kept) ∷ trace)
       unfolding receivingAfter member

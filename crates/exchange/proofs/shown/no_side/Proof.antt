@@ -1,9 +1,8 @@
 -- `no_side`: every number is 0.
-use mathlib.Core.Path.{_≡_, ap, _∙_}
+use mathlib.Core.Path.{ap, _∙_}
 use lib.IntN.{pos}
 use borrow.Author.Needs.{needs}
 use Rattle.exchange.specs.declared.shown.Sums.{Sums}
-use Rattle.exchange.specs.declared.shown.Side.{Side}
 use Rattle.exchange.specs.Evening.{sumsOf}
 use Rattle.exchange.proofs.shown.no_side.Statement.{statement}
 use Rattle.exchange.proofs.shown.no_side.Tie as tie

@@ -1,16 +1,15 @@
 -- `side_of`: each part is what its own function says, and a signed number is read and stored as it is.
-use mathlib.Core.Path.{_≡_, ap, _∙_}
+use mathlib.Core.Path.{ap, _∙_}
 use borrow.Author.Needs.{needs}
 use mir.Syntax.{w64}
-use mir.Val.{SFits}
 use mir.ValLaws.{toZ-ofZ}
 use Rattle.session.specs.declared.counters.Lot.{Lot}
 use Rattle.exchange.specs.Evening.{sumsOf}
 use Rattle.exchange.proofs.shown.side_of.Statement.{statement}
 use Rattle.exchange.proofs.shown.side_of.Tie as tie
 
-named-lot-requires : tie.Need-named-lot-requires
-named-lot-requires c κs = search needs
+awaited-lot-requires : tie.Need-awaited-lot-requires
+awaited-lot-requires c κs = search needs
 
 sums-of-requires : tie.Need-sums-of-requires
 sums-of-requires c κs = search needs
@@ -34,7 +33,7 @@ returns : tie.Need-returns
 returns c =
     let s = c .before .before .before .before .before .before .before .before .before .before in
     let r = s .args .r in
-    let lot = c .before .before .before .before .before .before .before .named-lot in
+    let lot = c .before .before .before .before .before .before .before .awaited-lot in
     -- the two positions among what is known of a report's numbers
     let signed = s .good .0 .1 .1 .1 .1 .1 .0 .1 .1 in
     λ i.
@@ -53,7 +52,7 @@ pub side-of-spec : {M : Type 1} → statement M
 side-of-spec =
     tie.close
     (tie.spec
-    named-lot-requires
+    awaited-lot-requires
     sums-of-requires
     sums-of-requires-2
     close-number-requires
