@@ -36,7 +36,7 @@ use Rattle.session.specs.Engine.{Call, Engine, Said, performed, performe
 use Rattle.session.specs.Ends.{End, other, World, Step, act, run, Brought, Possible, begun}
 use Rattle.session.specs.Entering.{Waiting, PresenterLedger, ReceiverLedger, presenterLedgerAt, receiverLedgerAt}
 use Rattle.session.specs.Claim.{JustReplied}
-use Rattle.session.specs.Recovery.{ClockAllows, saidAt, Unrefused, delivery, deliveryAndReply, Settles, WhatWaitsCanBeAnswered}
+use Rattle.session.specs.Recovery.{Allowing, saidAt, Unrefused, delivery, deliveryAndReply, Settles, WhatWaitsCanBeAnswered}
 use Rattle.session.proofs.Laws.Decided.{first-bytes}
 use Rattle.session.proofs.Laws.EveryCall.{same-line}
 use Rattle.session.proofs.Laws.Steps.{unchanged-here}
@@ -86,7 +86,7 @@ module _ (w : World) (all : Whole w) (p : End) (m : Waiting) (waiting : presente
   way-there : envelopeOf bytes .route ≡ receivingRoute (f .session .parties)
   way-there = found .way ∙ all .ways p
 
-  module _ (there here : ℕ) (line : List ℕ) (clock-there : ClockAllows there f) (clock-here : ClockAllows here e) (room : replyRoom ≤ length line) where
+  module _ (there here : ℕ) (line : List ℕ) (allowed : Allowing w p there here line) where
     abbrev h : Held
     h = lent Direction.receiving line f
 
@@ -122,11 +122,11 @@ module _ (w : World) (all : Whole w) (p : End) (m : Waiting) (waiting : presente
     unfolding receiveRefusal _when_
     unrefused =
         let way = receivingRoute (f .session .parties) in
-        goes-on (timeRefusal there (f .session .seen) (f .session .close)) _ clock-there
+        goes-on (timeRefusal there (f .session .seen) (f .session .close)) _ (allowed .clock-there)
         ∙ holds 21 (envelopeGood Kind.Message bytes) _ (found .good)
         ∙ holds 33 (sameRoute (envelopeOf bytes .route) way) _ (ap (λ (r : Route). sameRoute r way) way-there ∙ same-itself way)
         ∙ holds 35 (isExpected bytes last) _ (heard .expected)
-        ∙ ap (λ (t : Bool). 23 when t) (le-ltb (length line) replyRoom room)
+        ∙ ap (λ (t : Bool). 23 when t) (le-ltb (length line) replyRoom (allowed .room))
 
     -- so receiving writes the reply
     abbrev whole : List ℕ
@@ -140,7 +140,7 @@ module _ (w : World) (all : Whole w) (p : End) (m : Waiting) (waiting : presente
     replied-to =
         ap (λ (n : ℕ). saidBy (performedBy Direction.receiving (decided n h (replying bytes (afterMessage there bytes h))) f)) unrefused
         ∙ (λ i. record { number = 0; bytes = take (length whole) (sets (same-line there bytes h i) 0 whole) })
-        ∙ λ i. record { number = 0; bytes = first-bytes whole line (omega (arith, room, whole-length Kind.Reply (envelopeOf bytes) (writtenReplyBody kept))) i }
+        ∙ λ i. record { number = 0; bytes = first-bytes whole line (omega (arith, allowed .room, whole-length Kind.Reply (envelopeOf bytes) (writtenReplyBody kept))) i }
 
     -- which the presenter awaits
     told : envelopeOf whole ≡ envelopeOf bytes
@@ -161,7 +161,7 @@ module _ (w : World) (all : Whole w) (p : End) (m : Waiting) (waiting : presente
     unfolding replyRefusal _when_
     taken =
         let way = presentingRoute (e .session .parties) in
-        goes-on (timeRefusal here (e .session .seen) (e .session .close)) _ clock-here
+        goes-on (timeRefusal here (e .session .seen) (e .session .close)) _ (allowed .clock-here)
         ∙ holds 21 (envelopeGood Kind.Reply whole) _ (written-good Kind.Reply (envelopeOf bytes) (writtenReplyBody kept) (reply-fits (f .session) (all .ready (other p) .sound) bytes (found .good) way-there) refl)
         ∙ holds 33 (sameRoute (envelopeOf whole .route) way) _ (ap (λ (r : Route). sameRoute r way) (ap (λ (x : Envelope). x .route) told ∙ found .way) ∙ same-itself way)
         ∙ holds 22 (replyGood (bodyOf whole)) _ (ap replyGood (body-told Kind.Reply (envelopeOf bytes) (writtenReplyBody kept)) ∙ reply-good kept)

@@ -43,9 +43,15 @@ pub record Settles (w : World) (p : End) (steps : List Step) : Type 0 where
   pub unnamed : reportAt (run steps w) p .awaited ≡ Awaited.Neither
   pub level : Level (run steps w) p
 
--- so do these two of any message that waits at an end, where both clocks allow a call and the receiver is lent room for a reply
+-- both clocks allow a call, and the receiver is lent room for a reply
+pub record Allowing (w : World) (p : End) (there here : ℕ) (line : List ℕ) : Type 0 where
+  pub clock-there : ClockAllows there (w .engine (other p))
+  pub clock-here : ClockAllows here (w .engine p)
+  pub room : replyRoom ≤ length line
+
+-- then these two calls settle whatever waits at an end
 abbrev pub CanBeAnswered : World → (p : End) → Type 0
-CanBeAnswered w p = (m : Waiting) → presenterLedgerAt p (w .trace) .waiting ≡ some m → (there here : ℕ) (line : List ℕ) → ClockAllows there (w .engine (other p)) → ClockAllows here (w .engine p) → replyRoom ≤ length line → Settles w p (deliveryAndReply w p (m .message) there here line)
+CanBeAnswered w p = (m : Waiting) → presenterLedgerAt p (w .trace) .waiting ≡ some m → (there here : ℕ) (line : List ℕ) → Allowing w p there here line → Settles w p (deliveryAndReply w p (m .message) there here line)
 
 -- so it is after any list of calls, at both ends
 abbrev pub WhatWaitsCanBeAnswered : Type 0

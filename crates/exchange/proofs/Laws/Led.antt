@@ -166,7 +166,9 @@ module _ (w : World) (led : Led w) (quiet : (x : End) → Quiet (w .engine x)) (
     waits = subst (λ (b : PresenterLedger). Waits b (saidBy turn .bytes)) (sym (at-its-end p call (turn .number) (saidBy turn .bytes) (w .trace) none)) (waiting-so sends (saidBy turn .bytes) (presenterLedgerAt p (w .trace)))
 
     through : Settles sent p (deliveryAndReply sent p (saidBy turn .bytes) opening opening reply)
-    through = answers sent sent-led p (record { entry = waits .entry; message = saidBy turn .bytes }) (waits .waiting) opening opening reply (subst (ClockAllows opening) (sym sent-there) (quiet (other p) .clock)) (subst (ClockAllows opening) (sym sent-here) sent-clock) room
+    through =
+        answers sent sent-led p (record { entry = waits .entry; message = saidBy turn .bytes }) (waits .waiting) opening opening reply
+        (record { clock-there = subst (ClockAllows opening) (sym sent-there) (quiet (other p) .clock); clock-here = subst (ClockAllows opening) (sym sent-here) sent-clock; room = room })
 
     abbrev first : Step
     first = delivery p (saidBy turn .bytes) opening reply
