@@ -1,15 +1,14 @@
 -- Demand 3, 01's 'Both ends together', as one theorem about any list of calls: `agreement`. The two ends of each direction stay joined whatever
 -- call is made at either, so they are joined after every list; and joined ends agree as the claim says.
 use mathlib.Core.Path.{_≡_, refl, ap, sym, subst, _∙_}
-use mathlib.Core.Bool.{Bool, true, false, not, cond, false≢true}
+use mathlib.Core.Bool.{Bool, true, false, cond, false≢true}
 use mathlib.Core.List.{List, [], _∷_, _++_}
 use mathlib.Core.Logic.{_⊎_, inl, inr}
 use mathlib.Core.Option.{Option, none, some, Option·none-ne-some}
 use Prim.Native.Nat.{ℕ}
 use lib.Dec.{eqb, lit<}
-use borrow.Author.Tests.{not-false}
 use Rattle.packed.specs.Every.{every}
-use Rattle.codes.proofs.Laws.Chain.{none-test}
+use Rattle.codes.proofs.Laws.Chain.{none-held}
 use Rattle.message.specs.declared.route.Route.{Route}
 use Rattle.session.specs.declared.counters.OpenLot.{OpenLot}
 use Rattle.session.specs.declared.counters.Course.{Course}
@@ -129,7 +128,7 @@ fresh-ready date own partner represented t =
 just-started : (date own partner : ℕ) (represented : List ℕ) → start date own partner represented .number ≡ 0 → Told date own partner represented × (started date own partner represented ≡ start date own partner represented .session)
 unfolding start
 just-started date own partner represented n =
-    let good = not-false (partiesGood date own partner represented) (none-test 24 (not (partiesGood date own partner represented)) (lit< tt) n) in
+    let good = none-held 24 (partiesGood date own partner represented) (lit< tt) n in
     (told date own partner represented good, ap (λ (t : Bool). cond t (started date own partner represented) (fresh nobody Close.Forced)) (sym good))
 
 begun-whole : (date one two : ℕ) (represented : End → List ℕ) → StartsAccepted date one two represented → Whole (begun date one two represented)

@@ -1,12 +1,12 @@
 -- Both round trips of a detail, over its groups.
 use mathlib.Core.Path.{_≡_, refl, ap, sym, _∙_}
-use mathlib.Core.Bool.{Bool, true, false, not, _&&_, _||_, and-eq-true-iff}
+use mathlib.Core.Bool.{Bool, true, false, _&&_, _||_, and-eq-true-iff}
 use mathlib.Core.List.{List, [], _∷_, _++_, map, flatMap}
-use Prim.Native.Nat.{ℕ, _+_, _/_, _≤_, _<_}
+use Prim.Native.Nat.{ℕ, _/_, _≤_, _<_}
 use native.Mathlib.Omega.{arith}
 use lib.Dec.{eqb, lit<}
 use lib.ListN.{length, drop, length-drop}
-use borrow.Author.Tests.{not-false, eqb-true}
+use borrow.Author.Tests.{eqb-true}
 use Rattle.packed.specs.Every.{every}
 use Rattle.packed.specs.Pieces.{pieces}
 use Rattle.packed.specs.Writing.{packedByte}
@@ -14,7 +14,7 @@ use Rattle.packed.proofs.Laws.Every.{every-both}
 use Rattle.packed.proofs.Laws.FlatMap.{flat-map, flat-flat, flat-same}
 use Rattle.packed.proofs.Laws.Pieces.{pieces-flat, pieces-made}
 use Rattle.codes.specs.Chain.{_when_, _orelse_}
-use Rattle.codes.proofs.Laws.Chain.{none-test, none-both}
+use Rattle.codes.proofs.Laws.Chain.{held}
 use Rattle.codes.specs.Field.{between}
 use Rattle.codes.specs.Body.{operationOf, cleared}
 use Rattle.document.specs.Operation.{isOperation, presentedNumber, returnedNumber}
@@ -59,7 +59,7 @@ pub accepted-there : WrittenThenAccepted
 unfolding _when_ _orelse_
 accepted-there operation partner part represented e =
     let told = accepted-part operation partner part e in
-    written-then-read partner operation represented part (told .0) ∙ λ i. judged (told .2 i) (told .1 i) (every (draweeServed (packedByte operation) partner represented) (pieces documentBytes part))
+    written-then-read partner operation represented part (told .0) ∙ λ i. judged (told .1 i) (told .2 i) (every (draweeServed (packedByte operation) partner represented) (pieces documentBytes part))
 
 -- the part of a body is its groups without their heads
 heads-dropped : (gs : List (List ℕ)) → flatMap (λ (d : List ℕ). d) (flatMap groupDocuments gs) ≡ flatMap (drop headBytes) gs
@@ -110,6 +110,5 @@ read-then-written body shape one =
 pub accepted-again : ReadThenWritten
 unfolding receiverCode
 accepted-again own represented body e =
-    let shape = none-both (1 when not (shapeGood body)) _ e in
-    let one = none-both (9 when not (oneOperation body)) _ (shape .1) in
-    read-then-written body (not-false (shapeGood body) (none-test 1 (not (shapeGood body)) (lit< tt) (shape .0))) (not-false (oneOperation body) (none-test 9 (not (oneOperation body)) (lit< tt) (one .0)))
+    let shape = held 1 (shapeGood body) _ (lit< tt) e in
+    read-then-written body (shape .0) (held 9 (oneOperation body) _ (lit< tt) (shape .1) .0)

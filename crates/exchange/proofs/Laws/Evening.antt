@@ -1,13 +1,13 @@
 -- Laws of an evening: what the code of the trays decides.
 use mathlib.Core.Path.{_≡_, refl, ap, sym, _∙_}
-use mathlib.Core.Bool.{true, not, cond}
+use mathlib.Core.Bool.{true, cond}
 use mathlib.Core.List.{List}
 use Prim.Native.Nat.{ℕ, zero, suc}
 use lib.Dec.{eqb, lit<}
 use lib.ListN.{replicate}
-use borrow.Author.Tests.{eq-eqb, ne-eqb, not-false}
+use borrow.Author.Tests.{eq-eqb, ne-eqb}
 use Rattle.codes.specs.Chain.{_orelse_}
-use Rattle.codes.proofs.Laws.Chain.{none-test, none-both}
+use Rattle.codes.proofs.Laws.Chain.{none-both, none-held}
 use Rattle.session.specs.Engine.{Engine}
 use Rattle.outgoing.specs.Outgoing.{bothGood, checkCode}
 use Rattle.exchange.specs.declared.shown.Side.{Side}
@@ -29,7 +29,7 @@ far-code code other first second e f none = f ∙ ap (λ (m : ℕ). m orelse sec
 
 -- trays without a code are good
 tray-good : (presentations returns : List ℕ) → checkCode presentations returns 0 0 ≡ 0 → within presentations returns unmoved ≡ true
-tray-good presentations returns none = let good = bothGood presentations returns 0 0 in not-false good (none-test 25 (not good) (lit< tt) none)
+tray-good presentations returns none = none-held 25 (bothGood presentations returns 0 0) (lit< tt) none
 
 module _ (nearPresentations nearReturns farPresentations farReturns : List ℕ) (code : ℕ) (so : code ≡ traysCode nearPresentations nearReturns farPresentations farReturns) where
   pub trays-good : code ≡ 0 → (within nearPresentations nearReturns unmoved ≡ true) × (within farPresentations farReturns unmoved ≡ true)

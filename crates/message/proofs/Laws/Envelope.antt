@@ -6,7 +6,7 @@ use Prim.Native.Nat.{ℕ, _+_, _^_, _≤_, _<_}
 use native.Mathlib.Omega.{arith}
 use lib.Dec.{eqb, leb, lit<}
 use lib.ListN.{length, take, getD, length-append}
-use borrow.Author.Tests.{leb-true, le-leb, lt-ltb, eqb-true, eq-eqb, not-true, not-false}
+use borrow.Author.Tests.{leb-true, le-leb, lt-ltb, eqb-true, eq-eqb, not-true}
 use Rattle.packed.specs.Part.{byteAt, part}
 use Rattle.packed.specs.Every.{every}
 use Rattle.packed.specs.Digits.{areDigits}
@@ -15,7 +15,7 @@ use Rattle.packed.specs.Writing.{packedBytes}
 use Rattle.packed.proofs.Laws.Told.{both, three}
 use Rattle.codes.specs.Chain.{_when_}
 use Rattle.codes.specs.Field.{Field, between, earning, fieldGood, tableGood, tableNumbers, tableTakes, tableWritten}
-use Rattle.codes.proofs.Laws.Chain.{none-test, given-test}
+use Rattle.codes.proofs.Laws.Chain.{given-test, none-held}
 use Rattle.codes.proofs.Laws.Field.{table-split, digitRuns, total, runs-join, adjoining}
 use Rattle.codes.proofs.Laws.Table.{Adjoin, written-then-read as table-written, read-then-written as table-read, rows-of, rows-all}
 use Rattle.message.specs.Limits.{envelopeBytes, largestSerial}
@@ -123,7 +123,7 @@ module _ (kind : Kind) (e : Envelope) (body : List ℕ) (fits : tableTakes envel
 pub read-told : (kind : Kind) (bytes : List ℕ) (e : Envelope) → envelopeSaid (ReadEnvelope.Read e) ≡ readEnvelope kind bytes → (envelopeGood kind bytes ≡ true) × (e ≡ envelopeOf bytes)
 read-told kind bytes e h =
     let read = told (21 when not (envelopeGood kind bytes)) (tableNumbers 1 envelopeFields bytes) (envelopeValues e) h in
-    (not-false (envelopeGood kind bytes) (none-test 21 (not (envelopeGood kind bytes)) (lit< tt) (read .0)), sym (from-values bytes e (read .1)))
+    (none-held 21 (envelopeGood kind bytes) (lit< tt) (read .0), sym (from-values bytes e (read .1)))
 
 pub wrong-told : (kind : Kind) (bytes : List ℕ) → envelopeSaid ReadEnvelope.Wrong ≡ readEnvelope kind bytes → envelopeGood kind bytes ≡ false
 wrong-told kind bytes h =

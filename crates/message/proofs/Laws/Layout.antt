@@ -1,12 +1,12 @@
 -- Laws of a body of a fixed length: which code each outcome of the tests earns, and the round trips.
 use mathlib.Core.Path.{_≡_, refl, ap, sym, _∙_}
-use mathlib.Core.Bool.{Bool, true, false, not, _||_}
+use mathlib.Core.Bool.{Bool, true, false, _||_}
 use mathlib.Core.List.{List, [], _∷_, append-nil}
 use Prim.Native.Nat.{ℕ, _+_, _-_, _≤_, _<_}
 use native.Mathlib.Omega.{arith}
 use lib.Dec.{eqb, lit<}
 use lib.ListN.{length, drop}
-use borrow.Author.Tests.{eqb-true, eq-eqb, not-false}
+use borrow.Author.Tests.{eqb-true, eq-eqb}
 use Rattle.packed.specs.Part.{byteAt, part}
 use Rattle.packed.specs.Every.{every}
 use Rattle.packed.proofs.Laws.Told.{three}
@@ -14,7 +14,7 @@ use Rattle.packed.proofs.Laws.Part.{part-tail}
 use Rattle.codes.specs.Body.{free, mark, operationOf, cleared}
 use Rattle.codes.specs.Chain.{_when_, _orelse_}
 use Rattle.codes.specs.Field.{Field, fieldGood, tableGood, tableNumbers, tableTakes, tableWritten}
-use Rattle.codes.proofs.Laws.Chain.{applies, passes, none-test, none-both}
+use Rattle.codes.proofs.Laws.Chain.{fails, holds, all-held}
 use Rattle.codes.proofs.Laws.Table.{Adjoin, forward, written-length, written-then-read as table-written, read-then-written as table-read, rows-of, rows-all}
 use Rattle.message.specs.Limits.{firstPosition}
 use Rattle.message.specs.Reading.{reading}
@@ -45,11 +45,11 @@ module _ (layout : Layout) (body : List ℕ) where
 
   pub misshapen : shape ≡ false → bodyCode layout body ≡ 1
   unfolding bodyCode
-  misshapen e = applies 1 (not shape) _ (lit< tt) (ap not e)
+  misshapen e = fails 1 shape _ (lit< tt) e
 
   pub field-wrong : shape ≡ true → fields ≡ false → bodyCode layout body ≡ 1
   unfolding bodyCode
-  field-wrong s e = passes 1 (not shape) _ (ap not s) ∙ applies 1 (not fields) _ (lit< tt) (ap not e)
+  field-wrong s e = holds 1 shape _ s ∙ fails 1 fields _ (lit< tt) e
 
   pub amount-wrong : shape ≡ true → fields ≡ true → amounts ≡ false → bodyCode layout body ≡ 3
   unfolding bodyCode _when_ _orelse_
@@ -61,10 +61,7 @@ module _ (layout : Layout) (body : List ℕ) where
 
   pub accepted-told : bodyCode layout body ≡ 0 → (shape ≡ true) × (fields ≡ true) × (amounts ≡ true)
   unfolding bodyCode
-  accepted-told e =
-      let first = none-both (1 when not shape) _ e in
-      let rest = none-both (1 when not fields) (3 when not amounts) (first .1) in
-      (not-false shape (none-test 1 (not shape) (lit< tt) (first .0)), not-false fields (none-test 1 (not fields) (lit< tt) (rest .0)), not-false amounts (none-test 3 (not amounts) (lit< tt) (rest .1)))
+  accepted-told = all-held 1 1 3 shape fields amounts (lit< tt) (lit< tt) (lit< tt)
 
   -- and so what the answer is
   pub said-code : (m : ℕ) → 0 < m → bodyCode layout body ≡ m → reading m [] ≡ readBody layout body

@@ -7,7 +7,7 @@ use Prim.Native.Nat.{ℕ}
 use native.Mathlib.Omega.{arith}
 use lib.Dec.{eqb, lit<}
 use lib.ListN.{length, getD}
-use borrow.Author.Tests.{eq-eqb, eqb-true, not-true, not-false}
+use borrow.Author.Tests.{eq-eqb, eqb-true, not-true}
 use Rattle.packed.specs.Part.{byteAt}
 use Rattle.packed.specs.Number.{byteValue}
 use Rattle.packed.specs.Writing.{packedByte}
@@ -17,7 +17,7 @@ use Rattle.codes.specs.Chain.{_when_}
 use Rattle.codes.specs.declared.code.Code.{Code}
 use Rattle.codes.specs.declared.code.ReadCode.{ReadCode}
 use Rattle.codes.specs.Code.{codeNumber, codeByte, readCode, isKnown, knownCode}
-use Rattle.codes.proofs.Laws.Chain.{none-test, given-test}
+use Rattle.codes.proofs.Laws.Chain.{given-test, none-held}
 use Rattle.codes.proofs.Laws.Code.{code-value, written-then-read as code-written, read-then-written as code-read}
 use Rattle.message.specs.declared.reply.Operation.{Operation}
 use Rattle.message.specs.declared.reply.Reply.{Reply}
@@ -74,9 +74,7 @@ written-then-read r =
     sym (said-operation (r .operation) (operationByte (r .operation)) (codeNumber (r .code)) refl ∙ code-known (writtenReplyBody r) refl refl (r .code) code)
 
 pub written-good : (r : Reply) → replyGood (writtenReplyBody r) ≡ true
-written-good r =
-    let good = replyGood (writtenReplyBody r) in
-    not-false good (none-test 22 (not good) (lit< tt) (ap (λ (x : Reading). x .number) (written-then-read r)))
+written-good r = none-held 22 (replyGood (writtenReplyBody r)) (lit< tt) (ap (λ (x : Reading). x .number) (written-then-read r))
 
 -- a known byte holds the number that it is written from
 one-of : (P : ℕ → Type 0) (b x y z : ℕ) → P x → P y → P z → eqb b x || eqb b y || eqb b z ≡ true → P b
@@ -121,7 +119,7 @@ read-told r body e =
     let operation = operationOf body in
     let code = byteAt 4 body in
     let read = told (22 when not (replyGood body)) (byteValue operation ∷ byteValue code ∷ []) (operationNumber (r .operation) ∷ codeNumber (r .code) ∷ []) e in
-    let k = known body (not-false (replyGood body) (none-test 22 (not (replyGood body)) (lit< tt) (read .0))) in
+    let k = known body (none-held 22 (replyGood body) (lit< tt) (read .0)) in
     let value : (n : ℕ) → getD (byteValue operation ∷ byteValue code ∷ []) n 0 ≡ getD (operationNumber (r .operation) ∷ codeNumber (r .code) ∷ []) n 0 = λ (n : ℕ). ap (λ (vs : List ℕ). getD vs n 0) (read .1) in
     (k .size, k .marked, operation-again operation (k .operation) ∙ ap packedByte (value 0), code-again code (k .code) ∙ ap packedByte (value 1))
 

@@ -1,18 +1,18 @@
 -- What the codes let pass: a message that no code stops may be accepted, at either end, and the direction stays within its limits.
 use mathlib.Core.Path.{_≡_, refl, ap}
-use mathlib.Core.Bool.{Bool, true, not, false≢true}
+use mathlib.Core.Bool.{Bool, true, false≢true}
 use mathlib.Core.List.{List}
 use Prim.Native.Nat.{ℕ, _+_, _≤_, _<_}
 use native.Mathlib.Omega.{arith}
 use lib.Dec.{leb, lit<}
 use lib.ListN.{length}
-use borrow.Author.Tests.{leb-true, leb-false, ltb-false, eqb-true, not-false}
+use borrow.Author.Tests.{leb-true, leb-false, ltb-false, eqb-true}
 use Rattle.packed.specs.Every.{every}
 use Rattle.packed.specs.Pieces.{pieces}
 use Rattle.packed.specs.Writing.{packedByte}
 use Rattle.packed.proofs.Laws.Told.{both, three}
 use Rattle.codes.specs.Body.{operationOf}
-use Rattle.codes.proofs.Laws.Chain.{passed, none-test, none-both}
+use Rattle.codes.proofs.Laws.Chain.{none-test, none-both, passed, none-held, held}
 use Rattle.document.specs.Limits.{documentBytes}
 use Rattle.document.specs.Fields.{amountsGood}
 use Rattle.document.specs.Amounts.{totalsOf}
@@ -59,7 +59,7 @@ pub record Allowed (effect : Effect) (k : Course) : Type 0 where
 
 open-told : (ended : Bool) (lot : OpenLot) → lotSequence ended lot ≡ 0 → isOpen lot ≡ true
 unfolding lotSequence
-open-told ended lot e = not-false (isOpen lot) (none-test 7 (not (isOpen lot)) (lit< tt) e)
+open-told ended lot e = none-held 7 (isOpen lot) (lit< tt) e
 
 numbered-open : (lot : OpenLot) → isOpen lot ≡ true → lot ≡ OpenLot.Numbered (openNumber lot)
 numbered-open OpenLot.None e = absurd (false≢true e)
@@ -73,10 +73,10 @@ this-open number (OpenLot.Numbered n) e = ap OpenLot.Numbered (eqb-true n number
 pub header-sound : (time moment centre number : ℕ) (p : Presenting) → headerStop time moment centre number p ≡ 0 → PendingSound (Effect.Header number) (p .counters)
 unfolding headerStop sendable
 header-sound time moment centre number p e =
-    let fields = passed 1 (not (sendable moment centre number)) _ (lit< tt) e in
+    let fields = held 1 (sendable moment centre number) _ (lit< tt) e in
     let place = none-both (headerSequence (p .ended) (p .counters .current)) _ (fields .1) in
     let late = passed 10 (presenterLate time) _ (lit< tt) (place .1) in
-    let order = three (timeOfDay moment) (leb centre largestOrderNumber) (orderNumber number) (not-false (sendable moment centre number) (fields .0)) .2 in
+    let order = three (timeOfDay moment) (leb centre largestOrderNumber) (orderNumber number) (fields .0) .2 in
     (leb-true number largestOrderNumber (both (leb 1 number) (leb number largestOrderNumber) order .1), leb-false mostLots (p .counters .lots) (none-test 11 (lotsUsed (p .counters .lots)) (lit< tt) (late .1)))
 
 module _ (t : Running) (p : Presenting) (fits : Fits mostLotDocuments t) where
@@ -93,7 +93,7 @@ module _ (t : Running) (p : Presenting) (fits : Fits mostLotDocuments t) where
       let room = ltb-false mostLotDocuments (documentsIn t + documentsIn more) (none-test 12 (passesLot (documentsIn t + documentsIn more)) (lit< tt) (place .1)) in
       record {
         sound = open-told (p .ended) (p .counters .current) (place .0);
-        carried = fits-gather mostLotDocuments (length ds) mostLotDocuments t more room fits (documents-fit (packedByte operation) partner ds (accepted-part operation partner part (own .0) .1));
+        carried = fits-gather mostLotDocuments (length ds) mostLotDocuments t more room fits (documents-fit (packedByte operation) partner ds (accepted-part operation partner part (own .0) .2));
       }
 
   pub lot-total-allowed : lotTotalStop p ≡ 0 → Allowed (Effect.LotTotal (endingLot (p .counters) t)) ownCourse
@@ -130,7 +130,7 @@ module _ (time : ℕ) (body : List ℕ) (parties : Parties) (t : Running) (r : R
       let number = totalOf lotTotalFields body .number in
       let read = none-both (bodyCode lotTotal body) _ e in
       let place = none-both (lotTotalSequence (r .ended) number (r .counters .current) t) _ (read .1) in
-      let this = passed 7 (not (isOpenLot number (r .counters .current))) _ (lit< tt) (place .0) in
-      record { sound = this-open number (r .counters .current) (not-false (isOpenLot number (r .counters .current)) (this .0)); carried = refl }
+      let this = held 7 (isOpenLot number (r .counters .current)) _ (lit< tt) (place .0) in
+      record { sound = this-open number (r .counters .current) (this .0); carried = refl }
   received-allowed Content.SessionTotal e = record { sound = tt; carried = tt }
   received-allowed Content.Unknown e = record { sound = tt; carried = tt }

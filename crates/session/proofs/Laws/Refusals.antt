@@ -1,14 +1,14 @@
 -- What a call that is not refused tells: every test of its chain passed.
 use mathlib.Core.Path.{_≡_, refl}
-use mathlib.Core.Bool.{Bool, true, false, not, false≢true}
+use mathlib.Core.Bool.{Bool, true, false, false≢true}
 use mathlib.Core.List.{List}
 use Prim.Native.Nat.{ℕ, _≤_, _<_}
 use lib.Dec.{eqb, leb, lit<}
 use lib.ListN.{length}
-use borrow.Author.Tests.{leb-false, ltb-false, eqb-true, not-false}
+use borrow.Author.Tests.{leb-false, ltb-false, eqb-true}
 use Rattle.packed.proofs.Laws.Told.{three}
 use Rattle.codes.specs.Body.{operationOf}
-use Rattle.codes.proofs.Laws.Chain.{passed, none-test, none-both}
+use Rattle.codes.proofs.Laws.Chain.{none-test, none-both, passed, none-held, held}
 use Rattle.message.specs.declared.envelope.Kind.{Kind}
 use Rattle.message.specs.Limits.{largestSerial, replyRoom}
 use Rattle.message.specs.Route.{sameRoute}
@@ -60,13 +60,13 @@ receive-told time bytes h e =
     let way = sameRoute (envelopeOf bytes .route) (receivingRoute (h .session .parties)) in
     let known = isExpected bytes (h .session .receiving .serial) in
     let clock = none-both (timeRefusal time (h .session .seen) (h .session .close)) _ e in
-    let first = passed 21 (not good) _ (lit< tt) (clock .1) in
-    let second = passed 33 (not way) _ (lit< tt) (first .1) in
-    let third = passed 35 (not known) _ (lit< tt) (second .1) in
+    let first = held 21 good _ (lit< tt) (clock .1) in
+    let second = held 33 way _ (lit< tt) (first .1) in
+    let third = held 35 known _ (lit< tt) (second .1) in
     record {
-      good = not-false good (first .0);
-      way = same (envelopeOf bytes .route) (receivingRoute (h .session .parties)) (not-false way (second .0));
-      known = not-false known (third .0);
+      good = first .0;
+      way = same (envelopeOf bytes .route) (receivingRoute (h .session .parties)) (second .0);
+      known = third .0;
       room = ltb-false (length (h .line)) (replyRoom) (none-test 23 (noRoom (replyRoom) (length (h .line))) (lit< tt) (third .1));
     }
 
@@ -83,9 +83,9 @@ reply-told time bytes s e =
     let good = envelopeGood Kind.Reply bytes in
     let way = sameRoute (envelopeOf bytes .route) (presentingRoute (s .parties)) in
     let clock = none-both (timeRefusal time (s .seen) (s .close)) _ e in
-    let first = passed 21 (not good) _ (lit< tt) (clock .1) in
-    let second = passed 33 (not way) _ (lit< tt) (first .1) in
-    let third = passed 22 (not (replyGood (bodyOf bytes))) _ (lit< tt) (second .1) in
+    let first = held 21 good _ (lit< tt) (clock .1) in
+    let second = held 33 way _ (lit< tt) (first .1) in
+    let third = held 22 (replyGood (bodyOf bytes)) _ (lit< tt) (second .1) in
     let awaited = isAwaited (serialOf bytes) (operationOf (bodyOf bytes)) p in
-    let all = three (isPending (p .pending)) (eqb (serialOf bytes) (p .serial)) (eqb (operationOf (bodyOf bytes)) (operationByte (awaitedOperation (p .pending)))) (not-false awaited (none-test 35 (not awaited) (lit< tt) (third .1))) in
-    record { good = not-false good (first .0); way = same (envelopeOf bytes .route) (presentingRoute (s .parties)) (not-false way (second .0)); awaited = all .0; serial = eqb-true (serialOf bytes) (p .serial) (all .1) }
+    let all = three (isPending (p .pending)) (eqb (serialOf bytes) (p .serial)) (eqb (operationOf (bodyOf bytes)) (operationByte (awaitedOperation (p .pending)))) (none-held 35 awaited (lit< tt) (third .1)) in
+    record { good = first .0; way = same (envelopeOf bytes .route) (presentingRoute (s .parties)) (second .0); awaited = all .0; serial = eqb-true (serialOf bytes) (p .serial) (all .1) }

@@ -1,16 +1,16 @@
 -- What a send writes is read as it was meant: every number is within its field, because the premise bounds counters and running totals and the
 -- presenter's own codes bound the arguments. A limit that let a total grow past its field has no proof here.
 use mathlib.Core.Path.{_≡_, ap, sym, subst, _∙_}
-use mathlib.Core.Bool.{true, not, _&&_}
+use mathlib.Core.Bool.{true, _&&_}
 use mathlib.Core.List.{List, _++_}
 use Prim.Native.Nat.{ℕ, suc, _+_, _<_, _^_}
 use native.Mathlib.Omega.{arith}
 use lib.Dec.{lit<}
 use lib.ListN.{length, take}
-use borrow.Author.Tests.{not-false, le-leb}
+use borrow.Author.Tests.{le-leb}
 use Rattle.packed.specs.Writing.{packedByte}
 use Rattle.codes.specs.Body.{operationOf}
-use Rattle.codes.proofs.Laws.Chain.{passed, none-both}
+use Rattle.codes.proofs.Laws.Chain.{none-both, held}
 use Rattle.detail.specs.Groups.{documents}
 use Rattle.detail.specs.Codes.{receiverCode, presenterCode, sendable as sendableDetail}
 use Rattle.detail.specs.Writing.{writtenDetail}
@@ -61,8 +61,8 @@ module _ (s : Session) (sound : Sound s) where
   unfolding headerStop
   header-takes time moment centre number z =
       let p = sound .parties in
-      let fields = passed 1 (not (sendable moment centre number)) _ (lit< tt) z in
-      in-range (presentingRoute (s .parties)) (record { time = moment; centre = centre; number = number }) (omega (arith, p .date)) (omega (arith, p .own)) (omega (arith, p .partner)) (not-false (sendable moment centre number) (fields .0))
+      let fields = held 1 (sendable moment centre number) _ (lit< tt) z in
+      in-range (presentingRoute (s .parties)) (record { time = moment; centre = centre; number = number }) (omega (arith, p .date)) (omega (arith, p .own)) (omega (arith, p .partner)) (fields .0)
 
   lot-total-takes : (t : Running) → Fits mostLotDocuments t → BodyFits (nextEnvelope s) (lotTotalBody (s .presenting .counters) t)
   lot-total-takes t f =

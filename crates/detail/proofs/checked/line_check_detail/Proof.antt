@@ -1,10 +1,9 @@
 -- `line_check_detail`: entities outside the limits end the chain; else the reading's code and totals are handed on as numbers.
 use mathlib.Core.Path.{ap, sym, _∙_}
-use mathlib.Core.Bool.{not}
 use Prim.Native.Nat.{ℕ}
 use borrow.Author.Needs.{needs}
 use lib.Dec.{lit<}
-use Rattle.codes.proofs.Laws.Chain.{applies, passes}
+use Rattle.codes.proofs.Laws.Chain.{fails, holds}
 use Rattle.document.specs.Entities.{entitiesGood}
 use Rattle.detail.specs.Groups.{documents}
 use Rattle.detail.specs.Codes.{receiverCode, acceptedTotals}
@@ -29,7 +28,7 @@ returns c =
     let a = c .before .before .before .before .before .before .before .args in
     let body = a .body .now in
     let good = sym e ∙ c .before .before .before .if1 .taken in
-    let code = read .0 ∙ sym (passes 24 (not (entitiesGood (a .own) (a .represented .now))) (receiverCode (a .own) (a .represented .now) body) (ap not good)) in
+    let code = read .0 ∙ sym (holds 24 (entitiesGood (a .own) (a .represented .now)) (receiverCode (a .own) (a .represented .now) body) good) in
     let totals = read .1 ∙ ap (λ (n : ℕ). acceptedTotals n (documents body)) code in
     λ i. fourNumbers ((c .code-number .ensures ∙ code) i) (totals i)
 
@@ -42,7 +41,7 @@ returns-2 c =
     let a = c .before .before .before .before .before .args in
     let body = a .body .now in
     let bad = sym (c .before .before .entities-good .ensures) ∙ c .before .if1 .left in
-    let code = sym (applies 24 (not (entitiesGood (a .own) (a .represented .now))) (receiverCode (a .own) (a .represented .now) body) (lit< tt) (ap not bad)) in
+    let code = sym (fails 24 (entitiesGood (a .own) (a .represented .now)) (receiverCode (a .own) (a .represented .now) body) (lit< tt) bad) in
     (λ i. fourNumbers (c .refusal-number .ensures i) (acceptedTotals 24 (documents body))) ∙ ap (λ (n : ℕ). fourNumbers n (acceptedTotals n (documents body))) code
 
 pub line-check-detail-spec : {M : Type 1} → statement M
