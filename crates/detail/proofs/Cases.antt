@@ -22,12 +22,12 @@ use Rattle.document.specs.Operation.{presented, presentedNumber, returned, retu
 use Rattle.document.specs.Rules.{monthDays}
 use Rattle.detail.specs.Limits.{headBytes}
 use Rattle.detail.specs.Groups.{groups, groupGood, shapeGood, oneOperation, documents}
-use Rattle.detail.specs.Codes.{receiverCode, sendable, presenterCode}
+use Rattle.detail.specs.Codes.{receiverCode, partSendable, presenterCode}
 use Rattle.detail.specs.Checked.{checkedCode, checked}
 
 -- whoever unfolds this unfolds all that a case computes with
 unfoldable pub computing : Unit {0}
-unfolding checked totalsOf nominal commission checkedCode receiverCode presenterCode sendable shapeGood oneOperation documents groups groupGood fieldsGood amountsGood documentFields monthDays draweeServed drawee member every anyOf isDigits byteValue number cut packedByte packedBytes _when_ _orelse_ earning flatMap
+unfolding checked totalsOf nominal commission checkedCode receiverCode presenterCode partSendable shapeGood oneOperation documents groups groupGood fieldsGood amountsGood documentFields monthDays draweeServed drawee member every anyOf isDigits byteValue number cut packedByte packedBytes _when_ _orelse_ earning flatMap
 computing = tt
 
 -- 01, 'The check program': a detail of one document
@@ -161,8 +161,8 @@ own =
     ∷ presenterCode presentedNumber 72 [] is 1
     ∷ presenterCode presentedNumber 72 (take 50 part) is 1
     ∷ presenterCode presentedNumber 72 (part ++ 0x00 ∷ []) is 1
-    ∷ (1 when not (sendable presentedNumber (replicate (200 * 51) 0x00))) is 0
-    ∷ (1 when not (sendable presentedNumber (replicate (201 * 51) 0x00))) is 1
+    ∷ (1 when not (partSendable presentedNumber (replicate (200 * 51) 0x00))) is 0
+    ∷ (1 when not (partSendable presentedNumber (replicate (201 * 51) 0x00))) is 1
     ∷ presenterCode presentedNumber 73 part is 1
     ∷ presenterCode presentedNumber 72 (drop headBytes (with-byte 35 0x0A printed) ++ drop headBytes (with-byte 22 0x53 printed)) is 1
     ∷ presenterCode presentedNumber 72 (drop headBytes (with-byte 35 0x0A printed)) is 3

@@ -28,14 +28,14 @@ receiverCode own represented body =
     orelse 6 when not (every (draweeServed (operationOf body) own represented) (documents body))
 
 -- 'Trays': what a detail may be sent from, an operation, 30 or 40, and a part of 1 to 200 whole documents
-unfoldable pub sendable : (operation : ℕ) (part : List ℕ) → Bool
-sendable operation part =
+unfoldable pub partSendable : (operation : ℕ) (part : List ℕ) → Bool
+partSendable operation part =
     (eqb operation presentedNumber || eqb operation returnedNumber) && isWhole part && between 1 mostDetailDocuments (countIn part)
 
 -- the presenter's, for a part that is to go to the entity partner; a presenter never applies 06 to itself
 unfoldable pub presenterCode : (operation partner : ℕ) (part : List ℕ) → ℕ
 presenterCode operation partner part =
-    1 when not (sendable operation part)
+    1 when not (partSendable operation part)
     orelse 1 when not (every (fieldsGood (packedByte operation) partner) (documentsOf part))
     orelse 3 when not (every (amountsGood (packedByte operation) partner) (documentsOf part))
 

@@ -11,12 +11,12 @@ use Rattle.codes.specs.Body.{operationOf, cleared}
 use Rattle.document.specs.Drawee.{draweeServed}
 use Rattle.document.specs.Part.{documentsOf}
 use Rattle.detail.specs.Groups.{groups, documents}
-use Rattle.detail.specs.Codes.{receiverCode, sendable, presenterCode}
+use Rattle.detail.specs.Codes.{receiverCode, partSendable, presenterCode}
 use Rattle.detail.specs.Writing.{writtenDetail}
 
 -- what is written from a part that may be sent has its operation and its documents
 abbrev pub WrittenThenRead : Type 0
-WrittenThenRead = (operation : ℕ) (part : List ℕ) → sendable operation part ≡ true → let body = writtenDetail (packedByte operation) part in (operationOf body ≡ packedByte operation) × (documents body ≡ documentsOf part)
+WrittenThenRead = (operation : ℕ) (part : List ℕ) → partSendable operation part ≡ true → let body = writtenDetail (packedByte operation) part in (operationOf body ≡ packedByte operation) × (documents body ≡ documentsOf part)
 
 -- 06 where a drawee of a part is not one whom its receiver serves, or none
 abbrev pub draweeCode : (operation partner : ℕ) (represented part : List ℕ) → ℕ

@@ -18,7 +18,7 @@ ghost use Rattle.packed.specs.Pieces.{pieces};
 ghost use Rattle.codes.specs.Code.{codeNumber};
 ghost use Rattle.document.specs.Limits.{documentBytes};
 ghost use Rattle.detail.specs.Groups.{documents};
-ghost use Rattle.detail.specs.Codes.{receiverCode, presenterCode, sendable, acceptedTotals};
+ghost use Rattle.detail.specs.Codes.{receiverCode, presenterCode, partSendable, acceptedTotals};
 
 // A received body. Its documents are passed over once, after its heads.
 pub fn read_detail(body: &[u8], own: u16, represented: &[u16]) -> Verdict
@@ -41,8 +41,8 @@ pub fn read_detail(body: &[u8], own: u16, represented: &[u16]) -> Verdict
 }
 
 // Whether a detail may be sent from an operation, the plain number, and a part.
-pub fn sendable(operation: u8, part: &[u8]) -> bool
-    ensures { λ r. ⌜ r ≡ sendable operation (now (part .entry)) ⌝ }
+pub fn part_sendable(operation: u8, part: &[u8]) -> bool
+    ensures { λ r. ⌜ r ≡ partSendable operation (now (part .entry)) ⌝ }
 {
     let documents = part.len() / DOCUMENT_BYTES;
     ((operation == PRESENTED_NUMBER) | (operation == RETURNED_NUMBER))
@@ -55,7 +55,7 @@ pub fn read_part(operation: u8, part: &[u8], partner: u16) -> Verdict
     ensures code { λ r. ⌜ codeNumber (r .code) ≡ presenterCode operation partner (now (part .entry)) ⌝ }
     ensures totals { λ r. ⌜ r .totals ≡ acceptedTotals (codeNumber (r .code)) (pieces documentBytes (now (part .entry))) ⌝ }
 {
-    if sendable(operation, part) {
+    if part_sendable(operation, part) {
         let nobody = [0u16; 1];
         let found = read_documents(part, packed_byte(operation as u64), partner, &nobody[..0]);
         let totals = found.totals;

@@ -4,15 +4,15 @@ use mathlib.Core.List.{List, [], _∷_}
 use Rattle.codes.specs.Field.{fieldNumber}
 use Rattle.amounts.specs.declared.Totals.{Totals}
 use Rattle.amounts.specs.Totals.{totals, zeros, plus}
-use Rattle.document.specs.Fields.{firstPosition, nominalField, commissionField}
+use Rattle.document.specs.Fields.{documentPosition, nominalField, commissionField}
 
 -- positions 30-35
 unfoldable pub nominal : List ℕ → ℕ
-nominal d = fieldNumber firstPosition d nominalField
+nominal d = fieldNumber documentPosition d nominalField
 
 -- positions 48-51
 unfoldable pub commission : List ℕ → ℕ
-commission d = fieldNumber firstPosition d commissionField
+commission d = fieldNumber documentPosition d commissionField
 
 -- the totals of one document
 abbrev pub documentTotals : List ℕ → Totals

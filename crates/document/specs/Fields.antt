@@ -6,12 +6,15 @@ use Rattle.codes.specs.Field.{Field, field, amount, unread, any, exactly, table
 use Rattle.document.specs.Rules.{identification, dayAndMonth, province, truncation, keyOrReason}
 
 -- the printed position of a document's first byte
-abbrev pub firstPosition : ℕ
-firstPosition = 5
+abbrev pub documentPosition : ℕ
+documentPosition = 5
 
--- the fields that other definitions read: 06 the drawee, the totals the two amounts
+-- the fields that other definitions read: 06 the drawee, the totals the two amounts; and the taker, the other entity of a document
 abbrev pub draweeField : Field
 draweeField = field 36 2 any
+
+abbrev pub takerField : Field
+takerField = field 18 2 any
 
 abbrev pub nominalField : Field
 nominalField = amount 30 6
@@ -26,7 +29,7 @@ documentFields operation receiving =
     ∷ field 10 2 identification
     ∷ field 12 4 any  -- number
     ∷ field 16 2 dayAndMonth
-    ∷ field 18 2 any  -- taker
+    ∷ takerField
     ∷ field 20 2 any  -- its branch
     ∷ field 22 1 province
     ∷ field 23 2 (exactly receiving)  -- receiving entity
@@ -44,8 +47,8 @@ documentFields operation receiving =
 
 -- no fault that earns 01
 unfoldable pub fieldsGood : (operation receiving : ℕ) → List ℕ → Bool
-fieldsGood operation receiving d = tableGood firstPosition 1 (documentFields operation receiving) d
+fieldsGood operation receiving d = tableGood documentPosition 1 (documentFields operation receiving) d
 
 -- no fault that earns 03
 unfoldable pub amountsGood : (operation receiving : ℕ) → List ℕ → Bool
-amountsGood operation receiving d = tableGood firstPosition 3 (documentFields operation receiving) d
+amountsGood operation receiving d = tableGood documentPosition 3 (documentFields operation receiving) d

@@ -2,6 +2,7 @@
 use crate::COMMISSION;
 use crate::COMMISSION_BYTES;
 use crate::DRAWEE;
+use crate::KEY;
 use crate::NOMINAL;
 use crate::NOMINAL_BYTES;
 use packed::digits::are_digits;
@@ -22,8 +23,16 @@ pub struct AllDigits {
     pub amounts: bool,
 }
 
-// Whether everything but the key is digits: 47 bytes as three runs of 16, of which two share a byte. One loop over runs of
-// this width, without a branch, is what a compiler makes the fastest code of.
+// How many bytes a sweep reads side by side, and where its second and its third run begin: the third ends where the key
+// begins, and shares a byte with the second.
+const RUN: usize = 16;
+
+const SECOND_RUN: usize = RUN;
+
+const THIRD_RUN: usize = KEY - RUN;
+
+// Whether everything up to the key is digits. One loop over three runs of this width, without a branch, is what a compiler
+// makes the fastest code of.
 fn sweep(d: &[u8]) -> bool
     requires { ⌜ length (now d) ≡ documentBytes ⌝ }
     ensures { λ r. ⌜ r ≡ areDigits (part 0 47 (now (d .entry))) ⌝ }
@@ -32,10 +41,10 @@ fn sweep(d: &[u8]) -> bool
     let mut second = true;
     let mut third = true;
     let mut i: usize = 0;
-    while i < 16 {
+    while i < RUN {
         first = first & is_digits(d[i]);
-        second = second & is_digits(d[16 + i]);
-        third = third & is_digits(d[31 + i]);
+        second = second & is_digits(d[SECOND_RUN + i]);
+        third = third & is_digits(d[THIRD_RUN + i]);
         i += 1;
     }
     first & second & third

@@ -8,6 +8,21 @@ ghost use Rattle.document.specs.Limits.{documentBytes};
 ghost use Rattle.document.specs.Inner.Values.{valuesGood};
 ghost use Rattle.document.specs.Rules.{identification, dayAndMonth, province, truncation, keyOrReason};
 
+// Where the fields stand that have a rule and no other test.
+const IDENTIFICATION: usize = 5;
+
+const DAY_AND_MONTH: usize = 11;
+
+const TAKER_PROVINCE: usize = 17;
+
+const RECEIVING: usize = 18;
+
+const CLAIMS_PROVINCE: usize = 20;
+
+const TRUNCATION: usize = 40;
+
+const KEY_OR_REASON: usize = 41;
+
 fn identification(v: u16) -> bool
     ensures { λ r. ⌜ r ≡ identification v ⌝ }
 {
@@ -50,11 +65,11 @@ pub fn values_good(d: &[u8], operation: u8, receiving: u16) -> bool
     requires { ⌜ length (now d) ≡ documentBytes ⌝ }
     ensures { λ r. ⌜ r ≡ valuesGood operation receiving (now (d .entry)) ⌝ }
 {
-    identification(number2(d, 5))
-        & day_and_month(number2(d, 11))
-        & province(number(d, 17, 1))
-        & (number2(d, 18) == receiving)
-        & province(number(d, 20, 1))
-        & truncation(number(d, 40, 1))
-        & key_or_reason(operation, number2(d, 41))
+    identification(number2(d, IDENTIFICATION))
+        & day_and_month(number2(d, DAY_AND_MONTH))
+        & province(number(d, TAKER_PROVINCE, 1))
+        & (number2(d, RECEIVING) == receiving)
+        & province(number(d, CLAIMS_PROVINCE, 1))
+        & truncation(number(d, TRUNCATION, 1))
+        & key_or_reason(operation, number2(d, KEY_OR_REASON))
 }

@@ -17,7 +17,7 @@ use centre::end::begun;
 use codes::refusal::refusal_number;
 use message::envelope::MESSAGE_ROOM;
 use message::envelope::REPLY_ROOM;
-use outgoing::Answer;
+use outgoing::TrayAnswer;
 use outgoing::check;
 use session::session::Session;
 ghost use mathlib.Core.Path.{_≡_};
@@ -135,8 +135,8 @@ fn tray_code(presentations: &[u8], returns: &[u8]) -> u8
 {
     let answer = check(presentations, returns, 0, 0);
     match answer {
-        Answer::Ready => 0,
-        Answer::Refused(refusal) => refusal_number(refusal),
+        TrayAnswer::Ready => 0,
+        TrayAnswer::Refused(refusal) => refusal_number(refusal),
     }
 }
 

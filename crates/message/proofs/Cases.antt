@@ -16,12 +16,12 @@ use Rattle.codes.proofs.Cases.{Case, _is_, AllDue, with-byte}
 use Rattle.amounts.specs.Totals.{totals}
 use Rattle.message.specs.declared.route.Route.{Route}
 use Rattle.message.specs.declared.envelope.Kind.{Kind}
-use Rattle.message.specs.Layout.{shapeGood, bodyCode}
+use Rattle.message.specs.Layout.{fixedShape, bodyCode}
 use Rattle.message.specs.Envelope.{lengthGood, envelopeFields, envelopeGood, writtenEnvelope}
 use Rattle.message.specs.Content.{byOperation, contentOf}
 use Rattle.message.specs.Header.{headerFields, header}
 use Rattle.message.specs.Total.{lotTotal, lotTotalFields, sessionTotal, sessionTotalFields}
-use Rattle.message.specs.Reply.{operationNumber, operationByte, replyOperation, replyGood}
+use Rattle.message.specs.Reply.{operationNumber, operationByte, operationFor, replyGood}
 use Rattle.message.specs.Line.{Body, bodyBytes}
 
 -- entity 81 presents to entity 72 on 14 March 2028
@@ -141,7 +141,7 @@ replies =
 
 -- the operation of the reply to a body
 abbrev answer : List ℕ → ℕ
-answer body = operationNumber (replyOperation (contentOf body))
+answer body = operationNumber (operationFor (contentOf body))
 
 operations : List (Case ℕ)
 operations =
@@ -159,5 +159,5 @@ operations =
     ∷ []
 
 all-due : AllDue (bodies ++ lengths ++ envelopes ++ replies ++ operations)
-unfolding bodies lengths envelopes replies operations bodyBytes headerFields lotTotalFields sessionTotalFields envelopeFields tableWritten packedBytes packedByte bodyCode _when_ _orelse_ shapeGood envelopeGood replyGood knownCode readCode numbered codes codeByte operationByte byOperation every earning isDigits number byteValue
+unfolding bodies lengths envelopes replies operations bodyBytes headerFields lotTotalFields sessionTotalFields envelopeFields tableWritten packedBytes packedByte bodyCode _when_ _orelse_ fixedShape envelopeGood replyGood knownCode readCode numbered codes codeByte operationByte byOperation every earning isDigits number byteValue
 all-due = refl

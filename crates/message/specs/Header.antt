@@ -9,7 +9,7 @@ use Rattle.codes.specs.declared.code.Code.{Code}
 use Rattle.message.specs.declared.route.Route.{Route}
 use Rattle.message.specs.declared.header.Header.{Header}
 use Rattle.message.specs.declared.header.ReadHeader.{ReadHeader}
-use Rattle.message.specs.Limits.{firstPosition, headerBytes, largestOrderNumber}
+use Rattle.message.specs.Limits.{firstPosition, headerBytes, largestOrderNumber, largestCentre}
 use Rattle.message.specs.Reading.{Reading, reading}
 use Rattle.message.specs.Route.{routeValues}
 use Rattle.message.specs.Layout.{Layout}
@@ -63,5 +63,5 @@ headerSaid route (ReadHeader.Read h) = reading 0 (headerValues route h)
 headerSaid route ReadHeader.Wrong = reading (codeNumber Code.WrongField) []
 
 -- what a presenter may put into a header; the rest is the session's
-unfoldable pub sendable : (time centre number : ℕ) → Bool
-sendable time centre number = timeOfDay time && leb centre largestOrderNumber && orderNumber number
+unfoldable pub headerSendable : (time centre number : ℕ) → Bool
+headerSendable time centre number = timeOfDay time && leb centre largestCentre && orderNumber number

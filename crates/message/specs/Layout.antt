@@ -18,13 +18,13 @@ pub record Layout : Type 0 where
   pub fields : List Field
 
 -- length, mark and operation
-unfoldable pub shapeGood : (bytes operation : ℕ) → List ℕ → Bool
-shapeGood bytes operation body = eqb (length body) bytes && eqb (byteAt 2 body) mark && eqb (operationOf body) operation
+unfoldable pub fixedShape : (bytes operation : ℕ) → List ℕ → Bool
+fixedShape bytes operation body = eqb (length body) bytes && eqb (byteAt 2 body) mark && eqb (operationOf body) operation
 
 -- 01, 'Order, first that applies': the codes that the bytes decide
 unfoldable pub bodyCode : Layout → List ℕ → ℕ
 bodyCode layout body =
-    1 when not (shapeGood (layout .bytes) (layout .operation) body)
+    1 when not (fixedShape (layout .bytes) (layout .operation) body)
     orelse 1 when not (tableGood firstPosition 1 (layout .fields) body)
     orelse 3 when not (tableGood firstPosition 3 (layout .fields) body)
 

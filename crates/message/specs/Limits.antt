@@ -36,3 +36,7 @@ largestSerial = 99999999
 -- 'Header': the last order number
 abbrev pub largestOrderNumber : ℕ
 largestOrderNumber = 9999
+
+-- and the largest centre
+abbrev pub largestCentre : ℕ
+largestCentre = 9999

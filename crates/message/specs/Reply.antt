@@ -13,33 +13,33 @@ use Rattle.codes.specs.Code.{codeNumber, codeByte, knownCode}
 use Rattle.codes.specs.Refusal.{refusalNumber}
 use Rattle.codes.specs.declared.refusal.Refusal.{Refusal}
 use Rattle.message.specs.declared.content.Content.{Content}
-use Rattle.message.specs.declared.reply.Operation.{Operation}
+use Rattle.message.specs.declared.reply.ReplyOperation.{ReplyOperation}
 use Rattle.message.specs.declared.reply.Reply.{Reply}
 use Rattle.message.specs.declared.reply.ReadReply.{ReadReply}
 use Rattle.message.specs.Limits.{replyBytes}
 use Rattle.message.specs.Reading.{Reading, reading}
 
 -- the paper's number of each operation
-abbrev pub operationNumber : Operation → ℕ
-operationNumber Operation.Other = 86
-operationNumber Operation.LotTotal = 87
-operationNumber Operation.SessionTotal = 97
+abbrev pub operationNumber : ReplyOperation → ℕ
+operationNumber ReplyOperation.Other = 86
+operationNumber ReplyOperation.LotTotal = 87
+operationNumber ReplyOperation.SessionTotal = 97
 
 -- as a byte
-unfoldable pub operationByte : Operation → ℕ
+unfoldable pub operationByte : ReplyOperation → ℕ
 operationByte o = packedByte (operationNumber o)
 
 -- the operation of a reply: 87 to a lot total, 97 to a session total, 86 to all else
-abbrev pub replyOperation : Content → Operation
-replyOperation Content.Header = Operation.Other
-replyOperation Content.Detail = Operation.Other
-replyOperation Content.LotTotal = Operation.LotTotal
-replyOperation Content.SessionTotal = Operation.SessionTotal
-replyOperation Content.Unknown = Operation.Other
+abbrev pub operationFor : Content → ReplyOperation
+operationFor Content.Header = ReplyOperation.Other
+operationFor Content.Detail = ReplyOperation.Other
+operationFor Content.LotTotal = ReplyOperation.LotTotal
+operationFor Content.SessionTotal = ReplyOperation.SessionTotal
+operationFor Content.Unknown = ReplyOperation.Other
 
 -- one of the three
 abbrev pub knownOperation : ℕ → Bool
-knownOperation b = eqb b (operationByte Operation.Other) || eqb b (operationByte Operation.LotTotal) || eqb b (operationByte Operation.SessionTotal)
+knownOperation b = eqb b (operationByte ReplyOperation.Other) || eqb b (operationByte ReplyOperation.LotTotal) || eqb b (operationByte ReplyOperation.SessionTotal)
 
 -- 22 otherwise: the mark, a known operation, a known code; another length is 21 before
 unfoldable pub replyGood : List ℕ → Bool

@@ -1,7 +1,7 @@
 // The header, which opens a lot.
 use crate::content::HEADER;
 use crate::layout::FIELDS;
-use crate::layout::shape_good;
+use crate::layout::fixed_shape;
 use crate::layout::write_head;
 use crate::route::Route;
 use crate::route::read_route;
@@ -21,7 +21,7 @@ ghost use Rattle.codes.specs.Code.{codeNumber};
 ghost use Rattle.codes.specs.Field.{tableGood};
 ghost use Rattle.message.specs.Limits.{firstPosition, headerBytes};
 ghost use Rattle.message.specs.Layout.{readBody, writtenBody};
-ghost use Rattle.message.specs.Header.{timeOfDay, orderNumber, headerFields, header, headerValues, headerOf, headerSaid, sendable};
+ghost use Rattle.message.specs.Header.{timeOfDay, orderNumber, headerFields, header, headerValues, headerOf, headerSaid, headerSendable};
 
 pub const HEADER_BYTES: usize = 19;
 
@@ -37,8 +37,11 @@ const ZERO: usize = 18;
 // The bytes of all fields.
 const DIGITS: usize = HEADER_BYTES - FIELDS;
 
-// The largest order number, and the largest centre.
+// The largest order number.
 pub const LARGEST_ORDER_NUMBER: u16 = 9999;
+
+// The largest centre.
+const LARGEST_CENTRE: u16 = 9999;
 
 // What a header says beside its route. The time is hhmmsscc.
 pub struct Header {
@@ -66,10 +69,10 @@ fn order_number(v: u16) -> bool
 }
 
 // Whether a presenter may write a header of these.
-pub fn sendable(time: u32, centre: u16, number: u16) -> bool
-    ensures { λ r. ⌜ r ≡ sendable time centre number ⌝ }
+pub fn header_sendable(time: u32, centre: u16, number: u16) -> bool
+    ensures { λ r. ⌜ r ≡ headerSendable time centre number ⌝ }
 {
-    time_of_day(time) & (centre <= LARGEST_ORDER_NUMBER) & order_number(number)
+    time_of_day(time) & (centre <= LARGEST_CENTRE) & order_number(number)
 }
 
 // The three numbers, whatever their digits.
@@ -101,7 +104,7 @@ fn fields_good(body: &[u8], h: Header, route: Route) -> bool
 pub fn read_header(body: &[u8], route: Route) -> ReadHeader
     ensures { λ r. ⌜ headerSaid route r ≡ readBody (header route) (now (body .entry)) ⌝ }
 {
-    if shape_good(body, HEADER_BYTES, HEADER) {
+    if fixed_shape(body, HEADER_BYTES, HEADER) {
         let h = fields_of(body);
         if fields_good(body, h, route) {
             return ReadHeader::Read(h);

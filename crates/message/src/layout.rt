@@ -6,15 +6,15 @@ ghost use Prim.Native.Nat.{_≤_};
 ghost use lib.ListN.{length};
 ghost use lib.Seq.{sets};
 ghost use Rattle.codes.specs.Body.{free, mark};
-ghost use Rattle.message.specs.Layout.{shapeGood};
+ghost use Rattle.message.specs.Layout.{fixedShape};
 
 // Where the fields begin.
 pub const FIELDS: usize = 3;
 
 // Whether a body has the length, the mark and the operation.
-pub fn shape_good(body: &[u8], bytes: usize, operation: u8) -> bool
+pub fn fixed_shape(body: &[u8], bytes: usize, operation: u8) -> bool
     requires { ⌜ 3 ≤ bytes ⌝ }
-    ensures { λ r. ⌜ r ≡ shapeGood bytes operation (now (body .entry)) ⌝ }
+    ensures { λ r. ⌜ r ≡ fixedShape bytes operation (now (body .entry)) ⌝ }
 {
     if body.len() == bytes {
         return (body[1] == MARK) & (body[2] == operation);

@@ -18,19 +18,19 @@ ghost use Rattle.codes.specs.Chain.{_when_};
 ghost use Rattle.codes.specs.Code.{codeNumber};
 ghost use Rattle.message.specs.Limits.{replyBytes};
 ghost use Rattle.message.specs.Reading.{reading};
-ghost use Rattle.message.specs.Reply.{operationNumber, operationByte, replyOperation, knownOperation, readReply, replySaid, writtenReplyBody};
+ghost use Rattle.message.specs.Reply.{operationNumber, operationByte, operationFor, knownOperation, readReply, replySaid, writtenReplyBody};
 
 pub const REPLY_BYTES: usize = 4;
 
 // What a reply answers.
-pub enum Operation {
+pub enum ReplyOperation {
     Other,
     LotTotal,
     SessionTotal,
 }
 
 pub struct Reply {
-    pub operation: Operation,
+    pub operation: ReplyOperation,
     pub code: Code,
 }
 
@@ -41,32 +41,32 @@ pub enum ReadReply {
 }
 
 // The paper's number.
-fn operation_number(o: Operation) -> u8
+fn operation_number(o: ReplyOperation) -> u8
     ensures { λ r. ⌜ r ≡ operationNumber o ⌝ }
 {
     match o {
-        Operation::Other => 86,
-        Operation::LotTotal => 87,
-        Operation::SessionTotal => 97,
+        ReplyOperation::Other => 86,
+        ReplyOperation::LotTotal => 87,
+        ReplyOperation::SessionTotal => 97,
     }
 }
 
-pub fn operation_byte(o: Operation) -> u8
+pub fn operation_byte(o: ReplyOperation) -> u8
     ensures { λ r. ⌜ r ≡ operationByte o ⌝ }
 {
     packed_byte(operation_number(o) as u64)
 }
 
 // The operation of the reply to a body that is this.
-pub fn reply_operation(c: Content) -> Operation
-    ensures { λ r. ⌜ r ≡ replyOperation c ⌝ }
+pub fn operation_for(c: Content) -> ReplyOperation
+    ensures { λ r. ⌜ r ≡ operationFor c ⌝ }
 {
     match c {
-        Content::Header => Operation::Other,
-        Content::Detail => Operation::Other,
-        Content::LotTotal => Operation::LotTotal,
-        Content::SessionTotal => Operation::SessionTotal,
-        Content::Unknown => Operation::Other,
+        Content::Header => ReplyOperation::Other,
+        Content::Detail => ReplyOperation::Other,
+        Content::LotTotal => ReplyOperation::LotTotal,
+        Content::SessionTotal => ReplyOperation::SessionTotal,
+        Content::Unknown => ReplyOperation::Other,
     }
 }
 
@@ -74,21 +74,21 @@ pub fn reply_operation(c: Content) -> Operation
 fn answered(operation: u8, code: Code) -> ReadReply
     ensures { λ r. ⌜ replySaid r ≡ reading (22 when not (knownOperation operation)) (byteValue operation ∷ codeNumber code ∷ []) ⌝ }
 {
-    if operation == operation_byte(Operation::Other) {
+    if operation == operation_byte(ReplyOperation::Other) {
         return ReadReply::Read(Reply {
-            operation: Operation::Other,
+            operation: ReplyOperation::Other,
             code: code,
         });
     }
-    if operation == operation_byte(Operation::LotTotal) {
+    if operation == operation_byte(ReplyOperation::LotTotal) {
         return ReadReply::Read(Reply {
-            operation: Operation::LotTotal,
+            operation: ReplyOperation::LotTotal,
             code: code,
         });
     }
-    if operation == operation_byte(Operation::SessionTotal) {
+    if operation == operation_byte(ReplyOperation::SessionTotal) {
         return ReadReply::Read(Reply {
-            operation: Operation::SessionTotal,
+            operation: ReplyOperation::SessionTotal,
             code: code,
         });
     }

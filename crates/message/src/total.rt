@@ -2,7 +2,7 @@
 use crate::content::LOT_TOTAL;
 use crate::content::SESSION_TOTAL;
 use crate::layout::FIELDS;
-use crate::layout::shape_good;
+use crate::layout::fixed_shape;
 use crate::layout::write_head;
 use amounts::Commission;
 use amounts::Documents;
@@ -89,7 +89,7 @@ fn read_total(
 {
     let nominal_at = DOCUMENTS + documents;
     let amounts = nominal + commission;
-    if shape_good(body, nominal_at + amounts, operation) {
+    if fixed_shape(body, nominal_at + amounts, operation) {
         if are_digits(body, FIELDS, 2 + documents) {
             if are_digits(body, nominal_at, amounts) {
                 return ReadTotal::Read(fields_of(body, documents, nominal, commission));

@@ -7,7 +7,7 @@ use lib.ListN.{take, drop}
 use Rattle.codes.specs.Chain.{_when_}
 use Rattle.codes.specs.Refusal.{refusalNumber}
 use Rattle.document.specs.Limits.{documentBytes, mostDetailDocuments}
-use Rattle.outgoing.specs.declared.Answer.{Answer}
+use Rattle.outgoing.specs.declared.TrayAnswer.{TrayAnswer}
 use Rattle.document.specs.Part.{isWhole, countIn}
 
 -- 25 otherwise: whole documents, and a cursor that is not past their end
@@ -38,6 +38,6 @@ abbrev pub checkCode : (presentations returns : List ℕ) (presentationsSent ret
 checkCode presentations returns presentationsSent returnsSent = 25 when not (bothGood presentations returns presentationsSent returnsSent)
 
 -- the paper's number of each answer
-abbrev pub checkNumber : Answer → ℕ
-checkNumber Answer.Ready = 0
-checkNumber (Answer.Refused r) = refusalNumber r
+abbrev pub checkNumber : TrayAnswer → ℕ
+checkNumber TrayAnswer.Ready = 0
+checkNumber (TrayAnswer.Refused r) = refusalNumber r

@@ -9,7 +9,7 @@ ghost use mathlib.Core.Bool.{true};
 ghost use Rattle.outgoing.specs.Outgoing.{readyGood, bothGood, nextOf, next, checkCode, checkNumber};
 
 // What the check beside the next documents answers.
-pub enum Answer {
+pub enum TrayAnswer {
     Ready,
     Refused(Refusal),
 }
@@ -68,11 +68,11 @@ pub fn check(
     returns: &[u8],
     presentations_sent: usize,
     returns_sent: usize,
-) -> Answer
+) -> TrayAnswer
     ensures { λ r. ⌜ checkNumber r ≡ checkCode (now (presentations .entry)) (now (returns .entry)) «presentations_sent» «returns_sent» ⌝ }
 {
     if both_good(presentations, returns, presentations_sent, returns_sent) {
-        return Answer::Ready;
+        return TrayAnswer::Ready;
     }
-    Answer::Refused(Refusal::WrongOutgoing)
+    TrayAnswer::Refused(Refusal::WrongOutgoing)
 }

@@ -2,7 +2,7 @@
 // cursors, and what the check and the next documents answer. Each document of a tray is marked with the tray it lies in and
 // its place there, so that a line tells which documents were handed out.
 use codes::refusal::refusal_number;
-use outgoing::Answer;
+use outgoing::TrayAnswer;
 use packed::pieces::piece_at;
 ghost use mathlib.Core.Path.{_≡_};
 ghost use Prim.Native.Nat.{_<_};
@@ -54,12 +54,12 @@ fn print_number(n: u64) {
     io::write_all(1, b" ");
 }
 
-fn print_answer(a: Answer) {
+fn print_answer(a: TrayAnswer) {
     match a {
-        Answer::Ready => {
+        TrayAnswer::Ready => {
             io::write_all(1, b"00 ");
         }
-        Answer::Refused(r) => {
+        TrayAnswer::Refused(r) => {
             print_number(refusal_number(r) as u64);
         }
     }

@@ -1,5 +1,5 @@
 // What awaits a reply.
-use message::reply::Operation;
+use message::reply::ReplyOperation;
 use session::effect::Effect;
 ghost use mathlib.Core.Path.{_≡_};
 ghost use Rattle.session.specs.Sending.{isPending};
@@ -19,14 +19,14 @@ pub fn is_pending(effect: Effect) -> bool
 }
 
 // The operation of the reply that is awaited; where none is, it is not asked.
-pub fn awaited_operation(effect: Effect) -> Operation
+pub fn awaited_operation(effect: Effect) -> ReplyOperation
     ensures { λ r. ⌜ r ≡ awaitedOperation effect ⌝ }
 {
     match effect {
-        Effect::LotTotal(_) => Operation::LotTotal,
-        Effect::SessionTotal => Operation::SessionTotal,
-        Effect::Nothing => Operation::Other,
-        Effect::Header(_) => Operation::Other,
-        Effect::Detail(_) => Operation::Other,
+        Effect::LotTotal(_) => ReplyOperation::LotTotal,
+        Effect::SessionTotal => ReplyOperation::SessionTotal,
+        Effect::Nothing => ReplyOperation::Other,
+        Effect::Header(_) => ReplyOperation::Other,
+        Effect::Detail(_) => ReplyOperation::Other,
     }
 }

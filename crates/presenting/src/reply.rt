@@ -15,8 +15,8 @@ use message::envelope::ENVELOPE_BYTES;
 use message::envelope::Kind;
 use message::envelope::ReadEnvelope;
 use message::envelope::read_envelope;
-use message::reply::Operation;
 use message::reply::ReadReply;
+use message::reply::ReplyOperation;
 use message::reply::operation_byte;
 use message::reply::read_reply;
 use message::route::Route;
@@ -65,7 +65,7 @@ fn refused(refusal: Refusal) -> Arrival
 }
 
 // Whether a reply is awaited, and it is this one.
-fn is_awaited(serial: u32, operation: Operation, p: Presenting) -> bool
+fn is_awaited(serial: u32, operation: ReplyOperation, p: Presenting) -> bool
     ensures { λ r. ⌜ r ≡ isAwaited serial (operationByte operation) p ⌝ }
 {
     let pending = p.pending;

@@ -5,7 +5,7 @@ use codes::chain::or_else;
 use codes::chain::when;
 use codes::code::Code;
 use detail::reading::read_part;
-use message::header::sendable;
+use message::header::header_sendable;
 use session::counters::Running;
 use session::hours::presenter_late;
 use session::limits::lots_used;
@@ -21,7 +21,7 @@ pub fn header_stop(time: u32, moment: u32, centre: u16, number: u16, p: Presenti
     let counters = p.counters;
     let lot = counters.current;
     or_else(
-        when(Code::WrongField, !sendable(moment, centre, number)),
+        when(Code::WrongField, !header_sendable(moment, centre, number)),
         or_else(
             header_sequence(p.ended, lot),
             or_else(

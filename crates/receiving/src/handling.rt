@@ -6,7 +6,7 @@ use calls::course::ends;
 use codes::chain::is_accepted;
 use message::content::content_of;
 use message::reply::Reply;
-use message::reply::reply_operation;
+use message::reply::operation_for;
 use session::counters::Running;
 use session::parties::Parties;
 use session::session::Receiving;
@@ -40,7 +40,7 @@ fn handle(time: u32, body: &[u8], p: Parties, running: Running, r: Receiving) ->
     let counted = after.counters;
     let gathered = after.running;
     let reply = Reply {
-        operation: reply_operation(content),
+        operation: operation_for(content),
         code: code,
     };
     Handled {

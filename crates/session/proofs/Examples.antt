@@ -15,10 +15,10 @@ use Rattle.message.specs.declared.envelope.Envelope.{Envelope}
 use Rattle.message.specs.declared.route.Route.{Route}
 use Rattle.message.specs.Content.{byOperation, contentOf}
 use Rattle.message.specs.Envelope.{envelopeFields, envelopeGood}
-use Rattle.message.specs.Header.{headerFields, sendable}
-use Rattle.message.specs.Layout.{shapeGood, bodyCode}
+use Rattle.message.specs.Header.{headerFields, headerSendable}
+use Rattle.message.specs.Layout.{fixedShape, bodyCode}
 use Rattle.message.specs.Line.{Body, bodyBytes, wholeMessage, wholeReply}
-use Rattle.message.specs.Reply.{operationByte, replyOperation, replyGood}
+use Rattle.message.specs.Reply.{operationByte, operationFor, replyGood}
 use Rattle.message.specs.Total.{lotTotalFields, sessionTotalFields}
 use Rattle.session.specs.Parties.{realDate, partiesGood, padded}
 use Rattle.session.specs.Start.{fresh, start}
@@ -38,7 +38,7 @@ use Rattle.session.specs.Entering.{presenterLedgerAt, receiverLedgerAt}
 
 -- whoever unfolds this unfolds them all, those of a detail among them
 unfoldable pub computing : Unit {0}
-unfolding detailComputing tableWritten numbered codes codeByte codeNumbered readCode knownCode writtenDetail byOperation envelopeFields envelopeGood headerFields sendable shapeGood bodyCode bodyBytes operationByte replyGood lotTotalFields sessionTotalFields realDate partiesGood padded fresh start advance kept headerSequence lotSequence lotTotalSequence sessionTotalSequence decided clockRefusal timeRefusal sendRefusal send headerStop detailStop lotTotalStop sessionTotalStop sendHeader sendDetail sendLotTotal sendSessionTotal headerCode detailCode lotTotalCode sessionTotalCode receivedCode receivedEffect receivingAfter receiveRefusal receive isAwaited replyRefusal takeReply clock report enter receivedEntry sum lotsSum meaning performed act run presenterLedgerAt receiverLedgerAt begun
+unfolding detailComputing tableWritten numbered codes codeByte codeNumbered readCode knownCode writtenDetail byOperation envelopeFields envelopeGood headerFields headerSendable fixedShape bodyCode bodyBytes operationByte replyGood lotTotalFields sessionTotalFields realDate partiesGood padded fresh start advance kept headerSequence lotSequence lotTotalSequence sessionTotalSequence decided clockRefusal timeRefusal sendRefusal send headerStop detailStop lotTotalStop sessionTotalStop sendHeader sendDetail sendLotTotal sendSessionTotal headerCode detailCode lotTotalCode sessionTotalCode receivedCode receivedEffect receivingAfter receiveRefusal receive isAwaited replyRefusal takeReply clock report enter receivedEntry sum lotsSum meaning performed act run presenterLedgerAt receiverLedgerAt begun
 computing = tt
 
 -- the route on which an end presents
@@ -71,7 +71,7 @@ abbrev pub messageFrom : End → (serial : ℕ) → Sent → List ℕ
 messageFrom p serial x = wholeMessage (envelopeFrom p serial) (bodyFrom p x)
 
 abbrev pub replyTo : End → (serial : ℕ) → Sent → Code → List ℕ
-replyTo p serial x code = wholeReply (envelopeFrom p serial) (record { operation = replyOperation (contentOf (bodyFrom p x)); code = code })
+replyTo p serial x code = wholeReply (envelopeFrom p serial) (record { operation = operationFor (contentOf (bodyFrom p x)); code = code })
 
 -- a line buffer, longer than any message here
 abbrev pub buffer : List ℕ

@@ -22,7 +22,7 @@ use Rattle.message.specs.Content.{contentOf}
 use Rattle.message.specs.Layout.{bodyCode}
 use Rattle.message.specs.Header.{header, headerOf}
 use Rattle.message.specs.Total.{lotTotal, lotTotalFields, sessionTotal, sessionTotalFields, totalOf}
-use Rattle.message.specs.Reply.{replyOperation}
+use Rattle.message.specs.Reply.{operationFor}
 use Rattle.message.specs.Line.{wholeReply}
 use Rattle.session.specs.declared.counters.Lot.{Lot}
 use Rattle.session.specs.declared.counters.Course.{Course}
@@ -116,7 +116,7 @@ receivingAfter code body running r =
     let effect = receivedEffect (contentOf body) body running in
     record {
       serial = suc (r .serial);
-      reply = record { operation = replyOperation (contentOf body); code = codeNumbered code };
+      reply = record { operation = operationFor (contentOf body); code = codeNumbered code };
       counters = receivingCourse code body running r .counters;
       ended = r .ended || ends effect (eqb code 0);
       lots = kept effect (eqb code 0) (r .counters .lots) (r .lots);

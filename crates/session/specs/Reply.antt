@@ -8,7 +8,7 @@ use Rattle.packed.specs.Number.{byteValue}
 use Rattle.codes.specs.Chain.{_when_, _orelse_}
 use Rattle.codes.specs.Body.{operationOf}
 use Rattle.message.specs.declared.envelope.Kind.{Kind}
-use Rattle.message.specs.declared.reply.Operation.{Operation}
+use Rattle.message.specs.declared.reply.ReplyOperation.{ReplyOperation}
 use Rattle.message.specs.declared.route.Route.{Route}
 use Rattle.message.specs.Route.{sameRoute}
 use Rattle.message.specs.Envelope.{serialOf, envelopeGood, envelopeOf, bodyOf}
@@ -25,12 +25,12 @@ use Rattle.session.specs.Time.{timeRefusal}
 use Rattle.session.specs.Sending.{isPending}
 
 -- the operation of the reply that a message awaits
-abbrev pub awaitedOperation : Effect → Operation
-awaitedOperation Effect.Nothing = Operation.Other
-awaitedOperation (Effect.Header number) = Operation.Other
-awaitedOperation (Effect.Detail more) = Operation.Other
-awaitedOperation (Effect.LotTotal lot) = Operation.LotTotal
-awaitedOperation Effect.SessionTotal = Operation.SessionTotal
+abbrev pub awaitedOperation : Effect → ReplyOperation
+awaitedOperation Effect.Nothing = ReplyOperation.Other
+awaitedOperation (Effect.Header number) = ReplyOperation.Other
+awaitedOperation (Effect.Detail more) = ReplyOperation.Other
+awaitedOperation (Effect.LotTotal lot) = ReplyOperation.LotTotal
+awaitedOperation Effect.SessionTotal = ReplyOperation.SessionTotal
 
 -- 35 otherwise: a reply is awaited, and it is one of this serial and operation
 unfoldable pub isAwaited : (serial operation : ℕ) → Presenting → Bool

@@ -10,7 +10,7 @@ use Rattle.detail.specs.Codes.{presenterCode}
 use Rattle.detail.specs.Writing.{writtenDetail}
 use Rattle.message.specs.declared.envelope.Envelope.{Envelope}
 use Rattle.message.specs.Limits.{largestSerial}
-use Rattle.message.specs.Header.{sendable}
+use Rattle.message.specs.Header.{headerSendable}
 use Rattle.message.specs.Line.{Body, bodyBytes, wholeMessage}
 use Rattle.session.specs.declared.counters.OpenLot.{OpenLot}
 use Rattle.session.specs.declared.counters.Lot.{Lot}
@@ -73,7 +73,7 @@ send time code effect body h =
 -- to a header
 unfoldable pub headerStop : (time moment centre number : ℕ) → Presenting → ℕ
 headerStop time moment centre number p =
-    1 when not (sendable moment centre number)
+    1 when not (headerSendable moment centre number)
     orelse headerSequence (p .ended) (p .counters .current)
     orelse 10 when presenterLate time
     orelse 11 when lotsUsed (p .counters .lots)

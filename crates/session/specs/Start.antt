@@ -5,7 +5,7 @@ use mathlib.Core.List.{List}
 use lib.ListN.{replicate}
 use Rattle.codes.specs.Chain.{_when_}
 use Rattle.codes.specs.declared.code.Code.{Code}
-use Rattle.message.specs.declared.reply.Operation.{Operation}
+use Rattle.message.specs.declared.reply.ReplyOperation.{ReplyOperation}
 use Rattle.session.specs.declared.counters.OpenLot.{OpenLot}
 use Rattle.session.specs.declared.counters.Counters.{Counters}
 use Rattle.session.specs.declared.effect.Effect.{Effect}
@@ -33,7 +33,7 @@ abbrev pub unheard : Receiving
 unheard =
     record {
       serial = 0;
-      reply = record { operation = Operation.Other; code = Code.Accepted };
+      reply = record { operation = ReplyOperation.Other; code = Code.Accepted };
       counters = noLots;
       ended = false;
       lots = replicate mostLots (record { number = 0; gathered = empty });

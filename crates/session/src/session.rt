@@ -11,8 +11,8 @@ use crate::parties::parties_good;
 use crate::parties::parties_of;
 use codes::code::Code;
 use codes::refusal::Refusal;
-use message::reply::Operation;
 use message::reply::Reply;
+use message::reply::ReplyOperation;
 ghost use mathlib.Core.Path.{_≡_};
 ghost use Rattle.session.specs.Start.{noLots, unsent, unheard, fresh, startSaid, start};
 ghost use Rattle.session.specs.Engine.{withEmpty, Ready};
@@ -98,7 +98,7 @@ fn unheard() -> Receiving
     Receiving {
         serial: 0,
         reply: Reply {
-            operation: Operation::Other,
+            operation: ReplyOperation::Other,
             code: Code::Accepted,
         },
         counters: no_lots(),

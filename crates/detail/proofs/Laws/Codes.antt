@@ -18,7 +18,7 @@ use Rattle.document.specs.Operation.{presentedNumber, returnedNumber}
 use Rattle.document.specs.Fields.{fieldsGood, amountsGood}
 use Rattle.document.specs.Drawee.{draweeServed}
 use Rattle.detail.specs.Groups.{shapeGood, oneOperation, documents}
-use Rattle.detail.specs.Codes.{receiverCode, presenterCode, sendable}
+use Rattle.detail.specs.Codes.{receiverCode, presenterCode, partSendable}
 use Rattle.detail.specs.Inner.Verdict.{judged}
 
 -- what is known of a part that may be sent
@@ -28,8 +28,8 @@ pub record Sendable (operation : ℕ) (part : List ℕ) : Type 0 where
   pub least : 1 ≤ length part / documentBytes
   pub most : length part / documentBytes ≤ mostDetailDocuments
 
-pub sendable-part : (operation : ℕ) (part : List ℕ) → sendable operation part ≡ true → Sendable operation part
-unfolding sendable
+pub sendable-part : (operation : ℕ) (part : List ℕ) → partSendable operation part ≡ true → Sendable operation part
+unfolding partSendable
 sendable-part operation part e =
     let kind = eqb operation presentedNumber || eqb operation returnedNumber in
     let whole = eqb (length part % documentBytes) 0 in
@@ -45,22 +45,22 @@ sendable-part operation part e =
     }
 
 module _ (operation partner : ℕ) (part : List ℕ) where
-  pub unsendable : sendable operation part ≡ false → presenterCode operation partner part ≡ 1
+  pub unsendable : partSendable operation part ≡ false → presenterCode operation partner part ≡ 1
   unfolding presenterCode
-  unsendable e = fails 1 (sendable operation part) _ (lit< tt) e
+  unsendable e = fails 1 (partSendable operation part) _ (lit< tt) e
 
-  pub sendable-judged : sendable operation part ≡ true → presenterCode operation partner part ≡ judged (every (fieldsGood (packedByte operation) partner) (pieces documentBytes part)) (every (amountsGood (packedByte operation) partner) (pieces documentBytes part)) true
+  pub sendable-judged : partSendable operation part ≡ true → presenterCode operation partner part ≡ judged (every (fieldsGood (packedByte operation) partner) (pieces documentBytes part)) (every (amountsGood (packedByte operation) partner) (pieces documentBytes part)) true
   unfolding presenterCode _when_
   sendable-judged e =
       let fields = every (fieldsGood (packedByte operation) partner) (pieces documentBytes part) in
       let amounts = every (amountsGood (packedByte operation) partner) (pieces documentBytes part) in
-      holds 1 (sendable operation part) (1 when not fields orelse 3 when not amounts) e
+      holds 1 (partSendable operation part) (1 when not fields orelse 3 when not amounts) e
       ∙ ap (λ (n : ℕ). 1 when not fields orelse n) (sym (last (3 when not amounts)))
 
   -- what no code tells: a part that may be sent, good fields, good amounts
-  pub accepted-part : presenterCode operation partner part ≡ 0 → (sendable operation part ≡ true) × (every (fieldsGood (packedByte operation) partner) (pieces documentBytes part) ≡ true) × (every (amountsGood (packedByte operation) partner) (pieces documentBytes part) ≡ true)
+  pub accepted-part : presenterCode operation partner part ≡ 0 → (partSendable operation part ≡ true) × (every (fieldsGood (packedByte operation) partner) (pieces documentBytes part) ≡ true) × (every (amountsGood (packedByte operation) partner) (pieces documentBytes part) ≡ true)
   unfolding presenterCode
-  accepted-part = all-held 1 1 3 (sendable operation part) (every (fieldsGood (packedByte operation) partner) (pieces documentBytes part)) (every (amountsGood (packedByte operation) partner) (pieces documentBytes part)) (lit< tt) (lit< tt) (lit< tt)
+  accepted-part = all-held 1 1 3 (partSendable operation part) (every (fieldsGood (packedByte operation) partner) (pieces documentBytes part)) (every (amountsGood (packedByte operation) partner) (pieces documentBytes part)) (lit< tt) (lit< tt) (lit< tt)
 
 module _ (own : ℕ) (represented body : List ℕ) where
   pub misshapen : shapeGood body ≡ false → receiverCode own represented body ≡ 1

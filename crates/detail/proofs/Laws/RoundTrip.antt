@@ -23,7 +23,7 @@ use Rattle.document.specs.Fields.{fieldsGood, amountsGood}
 use Rattle.document.specs.Drawee.{draweeServed}
 use Rattle.detail.specs.Limits.{headBytes, mostGroups, fillBytes, groupBytes}
 use Rattle.detail.specs.Groups.{groups, groupGood, shapeGood, oneOperation, groupDocuments, documents}
-use Rattle.detail.specs.Codes.{receiverCode, sendable}
+use Rattle.detail.specs.Codes.{receiverCode, partSendable}
 use Rattle.detail.specs.Inner.Verdict.{judged}
 use Rattle.detail.specs.Writing.{writtenGroup, writtenDetail}
 use Rattle.detail.specs.RoundTrip.{partOf, clearedGroups, WrittenThenRead, WrittenThenAccepted, ReadThenWritten}
@@ -41,7 +41,7 @@ operation-byte operation e = go (eqb operation presentedNumber) refl e
     go false h e = rw (eqb-true operation returnedNumber e)
 
 -- a part that may be sent is judged by its receiver on the very documents of the part
-pub written-then-read : (own operation : ℕ) (represented part : List ℕ) → sendable operation part ≡ true → receiverCode own represented (writtenDetail (packedByte operation) part) ≡ judged (every (fieldsGood (packedByte operation) own) (pieces documentBytes part)) (every (amountsGood (packedByte operation) own) (pieces documentBytes part)) (every (draweeServed (packedByte operation) own represented) (pieces documentBytes part))
+pub written-then-read : (own operation : ℕ) (represented part : List ℕ) → partSendable operation part ≡ true → receiverCode own represented (writtenDetail (packedByte operation) part) ≡ judged (every (fieldsGood (packedByte operation) own) (pieces documentBytes part)) (every (amountsGood (packedByte operation) own) (pieces documentBytes part)) (every (draweeServed (packedByte operation) own represented) (pieces documentBytes part))
 written-then-read own operation represented part e =
     let fit = sendable-part operation part e in
     let o = packedByte operation in

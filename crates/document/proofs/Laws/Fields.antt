@@ -13,7 +13,7 @@ use Rattle.codes.specs.declared.code.Code.{Code}
 use Rattle.codes.proofs.Laws.Field.{tableDigits, table-split, digitRuns, total, runs-join, adjoining}
 use Rattle.document.specs.Limits.{documentBytes}
 use Rattle.document.specs.Rules.{identification, dayAndMonth, province, truncation, keyOrReason}
-use Rattle.document.specs.Fields.{firstPosition, documentFields, fieldsGood, amountsGood}
+use Rattle.document.specs.Fields.{documentPosition, documentFields, fieldsGood, amountsGood}
 use Rattle.document.specs.Inner.Values.{valuesGood}
 
 listed : (a b c d e f g : Bool) → a && (b && (c && (d && (e && (f && (g && true)))))) ≡ a && b && c && d && e && f && g
@@ -21,11 +21,11 @@ listed a b c d e f g = simp (and-assoc, and-true)
 
 module _ (operation receiving : ℕ) where
   -- no byte is left out and none belongs to two fields
-  pub covered : adjoining firstPosition (documentFields operation receiving) ≡ (true, firstPosition + documentBytes)
+  pub covered : adjoining documentPosition (documentFields operation receiving) ≡ (true, documentPosition + documentBytes)
   unfolding adjoining documentFields
   covered = refl
 
-  field-digits : (d : List ℕ) → tableDigits firstPosition (codeNumber Code.WrongField) (documentFields operation receiving) d ≡ areDigits (part 0 25 d) && areDigits (part 31 12 d)
+  field-digits : (d : List ℕ) → tableDigits documentPosition (codeNumber Code.WrongField) (documentFields operation receiving) d ≡ areDigits (part 0 25 d) && areDigits (part 31 12 d)
   unfolding documentFields earning every digitRuns total
   field-digits d =
       runs-join 0 (5 ∷ 2 ∷ 4 ∷ 2 ∷ 2 ∷ 2 ∷ 1 ∷ 2 ∷ 1 ∷ 4 ∷ []) d (digitRuns 31 (2 ∷ 2 ∷ 5 ∷ 1 ∷ 2 ∷ []) d true)
@@ -34,13 +34,13 @@ module _ (operation receiving : ℕ) where
   pub fields-split : (d : List ℕ) → fieldsGood operation receiving d ≡ areDigits (part 0 25 d) && areDigits (part 31 12 d) && valuesGood operation receiving d
   unfolding fieldsGood valuesGood
   fields-split d =
-      table-split firstPosition (codeNumber Code.WrongField) (documentFields operation receiving) d
+      table-split documentPosition (codeNumber Code.WrongField) (documentFields operation receiving) d
       ∙ ap (λ (t : Bool). t && valuesGood operation receiving d) (field-digits d)
 
   pub amounts-split : (d : List ℕ) → amountsGood operation receiving d ≡ areDigits (part 25 6 d) && areDigits (part 43 4 d)
   unfolding amountsGood documentFields earning every
   amounts-split d =
-      table-split firstPosition (codeNumber Code.WrongAmount) (documentFields operation receiving) d
+      table-split documentPosition (codeNumber Code.WrongAmount) (documentFields operation receiving) d
       ∙ and-true (areDigits (part 25 6 d) && (areDigits (part 43 4 d) && true))
       ∙ ap (λ (t : Bool). areDigits (part 25 6 d) && t) (and-true (areDigits (part 43 4 d)))
 

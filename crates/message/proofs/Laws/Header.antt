@@ -16,12 +16,12 @@ use Rattle.codes.specs.Field.{exactly, earning, tableGood, tableNumbers, tableT
 use Rattle.codes.proofs.Laws.Field.{table-split, digitRuns, total, runs-join, adjoining}
 use Rattle.message.specs.declared.route.Route.{Route}
 use Rattle.message.specs.declared.header.Header.{Header}
-use Rattle.message.specs.Limits.{largestOrderNumber}
+use Rattle.message.specs.Limits.{largestOrderNumber, largestCentre}
 use Rattle.message.specs.declared.header.ReadHeader.{ReadHeader}
 use Rattle.message.specs.Layout.{bodyCode, readBody, writtenBody}
 use Rattle.message.specs.Route.{routeValues, sameRoute}
 use Rattle.message.specs.Inner.Route.{routeAt}
-use Rattle.message.specs.Header.{timeOfDay, orderNumber, headerFields, header, headerValues, headerOf, headerSaid, sendable}
+use Rattle.message.specs.Header.{timeOfDay, orderNumber, headerFields, header, headerValues, headerOf, headerSaid, headerSendable}
 use Rattle.message.proofs.Laws.Route.{same}
 use Rattle.message.proofs.Laws.Reading.{told}
 use Rattle.message.proofs.Laws.Layout.{Whole, accepted-told, written-then-read}
@@ -71,12 +71,12 @@ module _ (route : Route) where
       leb-true n largestOrderNumber (both (leb 1 n) (leb n largestOrderNumber) order .1)
 
   -- numbers that a header can carry
-  pub in-range : (h : Header) → route .date < 100 ^ 3 → route .presenting < 100 ^ 2 → route .receiving < 100 ^ 2 → sendable (h .time) (h .centre) (h .number) ≡ true → tableTakes (headerFields route) (headerValues route h) ≡ true
-  unfolding sendable headerFields tableTakes
+  pub in-range : (h : Header) → route .date < 100 ^ 3 → route .presenting < 100 ^ 2 → route .receiving < 100 ^ 2 → headerSendable (h .time) (h .centre) (h .number) ≡ true → tableTakes (headerFields route) (headerValues route h) ≡ true
+  unfolding headerSendable headerFields tableTakes
   in-range h d p r e =
-      let all = three (timeOfDay (h .time)) (leb (h .centre) largestOrderNumber) (orderNumber (h .number)) e in
+      let all = three (timeOfDay (h .time)) (leb (h .centre) largestCentre) (orderNumber (h .number)) e in
       let hour = ltb-true (h .time / 1000000) 24 (three (ltb (h .time / 1000000) 24) (ltb (h .time / 10000 % 100) 60) (ltb (h .time / 100 % 100) 60) (all .0) .0) in
-      let centre = leb-true (h .centre) largestOrderNumber (all .1) in
+      let centre = leb-true (h .centre) largestCentre (all .1) in
       let number = leb-true (h .number) largestOrderNumber (both (leb 1 (h .number)) (leb (h .number) largestOrderNumber) (all .2) .1) in
       λ i.
       lt-ltb (h .time) (100 ^ 4) (omega arith) i && all .0 i

@@ -18,7 +18,7 @@ use Rattle.codes.proofs.Laws.Chain.{fails, holds, all-held}
 use Rattle.codes.proofs.Laws.Table.{Adjoin, forward, written-length, written-then-read as table-written, read-then-written as table-read, rows-of, rows-all}
 use Rattle.message.specs.Limits.{firstPosition}
 use Rattle.message.specs.Reading.{reading}
-use Rattle.message.specs.Layout.{Layout, shapeGood, bodyCode, readBody, writtenBody}
+use Rattle.message.specs.Layout.{Layout, fixedShape, bodyCode, readBody, writtenBody}
 use Rattle.message.proofs.Laws.Reading.{said-values, said-number, told}
 
 -- what a good shape tells
@@ -27,15 +27,15 @@ pub record Shaped (bytes operation : ℕ) (body : List ℕ) : Type 0 where
   pub marked : byteAt 2 body ≡ mark
   pub said : operationOf body ≡ operation
 
-pub shaped : (bytes operation : ℕ) (body : List ℕ) → shapeGood bytes operation body ≡ true → Shaped bytes operation body
-unfolding shapeGood
+pub shaped : (bytes operation : ℕ) (body : List ℕ) → fixedShape bytes operation body ≡ true → Shaped bytes operation body
+unfolding fixedShape
 shaped bytes operation body e =
     let all = three (eqb (length body) bytes) (eqb (byteAt 2 body) mark) (eqb (operationOf body) operation) e in
     record { size = eqb-true (length body) bytes (all .0); marked = eqb-true (byteAt 2 body) mark (all .1); said = eqb-true (operationOf body) operation (all .2) }
 
 module _ (layout : Layout) (body : List ℕ) where
   abbrev shape : Bool
-  shape = shapeGood (layout .bytes) (layout .operation) body
+  shape = fixedShape (layout .bytes) (layout .operation) body
 
   abbrev fields : Bool
   fields = tableGood firstPosition 1 (layout .fields) body
@@ -91,11 +91,11 @@ module _ (layout : Layout) (whole : Whole layout) where
       omega (arith, written-length firstField (layout .bytes + 1) (layout .fields) vs (whole .covers) e, forward firstField (layout .bytes + 1) (layout .fields) (whole .covers))
 
   pub written-then-read : (vs : List ℕ) → tableTakes (layout .fields) vs ≡ true → readBody layout (writtenBody layout vs) ≡ reading 0 vs
-  unfolding shapeGood
+  unfolding fixedShape
   written-then-read vs e =
       let body = writtenBody layout vs in
       let read = table-written firstPosition firstField (layout .bytes + 1) (layout .fields) vs [] body (omega arith) (whole .covers) e (sym (append-nil (tableWritten (layout .fields) vs))) in
-      let shape : shapeGood (layout .bytes) (layout .operation) body ≡ true = rw (eq-eqb (length body) (layout .bytes) (length-written vs e), eq-eqb (layout .operation) (layout .operation) refl) in
+      let shape : fixedShape (layout .bytes) (layout .operation) body ≡ true = rw (eq-eqb (length body) (layout .bytes) (length-written vs e), eq-eqb (layout .operation) (layout .operation) refl) in
       let good : (code : ℕ) → tableGood firstPosition code (layout .fields) body ≡ true = λ (code : ℕ). rows-of (fieldGood firstPosition body) code (layout .fields) (read .1) in
       sym (said-fields layout body vs (accepted layout body shape (good 1) (good 3)) (sym (read .0)))
 

@@ -13,7 +13,7 @@ use Rattle.codes.specs.Field.{tableTakes, tableWritten}
 use Rattle.message.specs.declared.route.Route.{Route}
 use Rattle.message.specs.declared.envelope.Kind.{Kind}
 use Rattle.message.specs.declared.envelope.Envelope.{Envelope}
-use Rattle.message.specs.declared.reply.Operation.{Operation}
+use Rattle.message.specs.declared.reply.ReplyOperation.{ReplyOperation}
 use Rattle.message.specs.declared.reply.Reply.{Reply}
 use Rattle.message.specs.Limits.{envelopeBytes}
 use Rattle.message.specs.Reading.{reading}
@@ -108,6 +108,6 @@ example-session-total : bodyBytes (example-envelope .route) (Body.sessionEnding 
 unfolding bodyBytes sessionTotalFields tableWritten packedBytes packedByte
 example-session-total = refl
 
-example-reply : wholeReply example-envelope (record { operation = Operation.Other; code = Code.Accepted }) ≡ 0x02 ∷ 0x14 ∷ 0x03 ∷ 0x28 ∷ 0x00 ∷ 0x81 ∷ 0x00 ∷ 0x72 ∷ 0x00 ∷ 0x00 ∷ 0x00 ∷ 0x01 ∷ 0x00 ∷ 0x51 ∷ 0x86 ∷ 0x00 ∷ []
+example-reply : wholeReply example-envelope (record { operation = ReplyOperation.Other; code = Code.Accepted }) ≡ 0x02 ∷ 0x14 ∷ 0x03 ∷ 0x28 ∷ 0x00 ∷ 0x81 ∷ 0x00 ∷ 0x72 ∷ 0x00 ∷ 0x00 ∷ 0x00 ∷ 0x01 ∷ 0x00 ∷ 0x51 ∷ 0x86 ∷ 0x00 ∷ []
 unfolding example-envelope envelopeFields tableWritten packedBytes packedByte operationByte codeByte
 example-reply = refl

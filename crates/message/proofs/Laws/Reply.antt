@@ -19,7 +19,7 @@ use Rattle.codes.specs.declared.code.ReadCode.{ReadCode}
 use Rattle.codes.specs.Code.{codeNumber, codeByte, readCode, isKnown, knownCode}
 use Rattle.codes.proofs.Laws.Chain.{given-test, none-held}
 use Rattle.codes.proofs.Laws.Code.{code-value, written-then-read as code-written, read-then-written as code-read}
-use Rattle.message.specs.declared.reply.Operation.{Operation}
+use Rattle.message.specs.declared.reply.ReplyOperation.{ReplyOperation}
 use Rattle.message.specs.declared.reply.Reply.{Reply}
 use Rattle.message.specs.declared.reply.ReadReply.{ReadReply}
 use Rattle.message.specs.Limits.{replyBytes}
@@ -28,19 +28,19 @@ use Rattle.message.specs.Reply.{operationNumber, operationByte, knownOpe
 use Rattle.message.proofs.Laws.Reading.{said-number, number-told, told}
 
 -- the byte of an operation is known, and holds its number
-operation-known : (o : Operation) → knownOperation (operationByte o) ≡ true
+operation-known : (o : ReplyOperation) → knownOperation (operationByte o) ≡ true
 unfolding operationByte packedByte
-operation-known Operation.Other = refl
-operation-known Operation.LotTotal = refl
-operation-known Operation.SessionTotal = refl
+operation-known ReplyOperation.Other = refl
+operation-known ReplyOperation.LotTotal = refl
+operation-known ReplyOperation.SessionTotal = refl
 
-operation-value : (o : Operation) → byteValue (operationByte o) ≡ operationNumber o
+operation-value : (o : ReplyOperation) → byteValue (operationByte o) ≡ operationNumber o
 unfolding operationByte packedByte byteValue
-operation-value Operation.Other = refl
-operation-value Operation.LotTotal = refl
-operation-value Operation.SessionTotal = refl
+operation-value ReplyOperation.Other = refl
+operation-value ReplyOperation.LotTotal = refl
+operation-value ReplyOperation.SessionTotal = refl
 
-pub said-operation : (o : Operation) (byte code : ℕ) → byte ≡ operationByte o → reading 0 (operationNumber o ∷ code ∷ []) ≡ reading (22 when not (knownOperation byte)) (byteValue byte ∷ code ∷ [])
+pub said-operation : (o : ReplyOperation) (byte code : ℕ) → byte ≡ operationByte o → reading 0 (operationNumber o ∷ code ∷ []) ≡ reading (22 when not (knownOperation byte)) (byteValue byte ∷ code ∷ [])
 unfolding _when_
 said-operation o byte code e = rw (e, operation-known o, operation-value o)
 
@@ -88,7 +88,7 @@ one-of P b x y z px py pz = go (eqb b x) (eqb b y) (eqb b z) refl refl refl
 
 operation-again : (b : ℕ) → knownOperation b ≡ true → b ≡ packedByte (byteValue b)
 unfolding operationByte packedByte byteValue
-operation-again b e = one-of (λ (n : ℕ). n ≡ packedByte (byteValue n)) b (operationByte Operation.Other) (operationByte Operation.LotTotal) (operationByte Operation.SessionTotal) refl refl refl e
+operation-again b e = one-of (λ (n : ℕ). n ≡ packedByte (byteValue n)) b (operationByte ReplyOperation.Other) (operationByte ReplyOperation.LotTotal) (operationByte ReplyOperation.SessionTotal) refl refl refl e
 
 code-again : (b : ℕ) → knownCode b ≡ true → b ≡ packedByte (byteValue b)
 unfolding knownCode codeByte

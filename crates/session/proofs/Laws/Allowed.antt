@@ -21,9 +21,9 @@ use Rattle.detail.specs.Codes.{receiverCode, presenterCode}
 use Rattle.detail.specs.Groups.{documents}
 use Rattle.detail.proofs.Laws.Codes.{accepted-part, accepted-amounts}
 use Rattle.message.specs.declared.content.Content.{Content}
-use Rattle.message.specs.Limits.{largestOrderNumber}
+use Rattle.message.specs.Limits.{largestOrderNumber, largestCentre}
 use Rattle.message.specs.Layout.{bodyCode}
-use Rattle.message.specs.Header.{timeOfDay, orderNumber, header, headerOf, sendable}
+use Rattle.message.specs.Header.{timeOfDay, orderNumber, header, headerOf, headerSendable}
 use Rattle.message.specs.Total.{lotTotal, lotTotalFields, totalOf}
 use Rattle.message.proofs.Laws.Header.{order-told}
 use Rattle.session.specs.declared.counters.OpenLot.{OpenLot}
@@ -71,12 +71,12 @@ this-open number (OpenLot.Numbered n) e = ap OpenLot.Numbered (eqb-true n number
 
 -- the presenter's codes let pass only what may be accepted; of a header and a session total without a word about running totals
 pub header-sound : (time moment centre number : ℕ) (p : Presenting) → headerStop time moment centre number p ≡ 0 → PendingSound (Effect.Header number) (p .counters)
-unfolding headerStop sendable
+unfolding headerStop headerSendable
 header-sound time moment centre number p e =
-    let fields = held 1 (sendable moment centre number) _ (lit< tt) e in
+    let fields = held 1 (headerSendable moment centre number) _ (lit< tt) e in
     let place = none-both (headerSequence (p .ended) (p .counters .current)) _ (fields .1) in
     let late = passed 10 (presenterLate time) _ (lit< tt) (place .1) in
-    let order = three (timeOfDay moment) (leb centre largestOrderNumber) (orderNumber number) (fields .0) .2 in
+    let order = three (timeOfDay moment) (leb centre largestCentre) (orderNumber number) (fields .0) .2 in
     (leb-true number largestOrderNumber (both (leb 1 number) (leb number largestOrderNumber) order .1), leb-false mostLots (p .counters .lots) (none-test 11 (lotsUsed (p .counters .lots)) (lit< tt) (late .1)))
 
 module _ (t : Running) (p : Presenting) (fits : Fits mostLotDocuments t) where

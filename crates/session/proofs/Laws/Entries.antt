@@ -7,7 +7,7 @@ use Prim.Native.Nat.{ℕ, _<_}
 use native.Mathlib.Omega.{arith}
 use lib.ListN.{length}
 use Rattle.packed.specs.Writing.{packedByte}
-use Rattle.detail.specs.Codes.{sendable}
+use Rattle.detail.specs.Codes.{partSendable}
 use Rattle.detail.specs.Writing.{writtenDetail}
 use Rattle.detail.proofs.Laws.Codes.{sendable-part}
 use Rattle.detail.proofs.Laws.Writing.{documents-written, operation-written}
@@ -39,7 +39,7 @@ pub header-entry : (route : Route) (h : Header) → tableTakes (headerFields rou
 unfolding receivedEntry
 header-entry route h fits = ap (λ (c : Content). receivedEntry c (bodyBytes route (Body.opening h))) (content-told route (Body.opening h)) ∙ ap (λ (x : Header). Entry.header (x .number)) (header-read route h fits)
 
-pub detail-entry : (operation : ℕ) (part : List ℕ) → sendable operation part ≡ true → bodyEntry (writtenDetail (packedByte operation) part) ≡ partEntry operation part
+pub detail-entry : (operation : ℕ) (part : List ℕ) → partSendable operation part ≡ true → bodyEntry (writtenDetail (packedByte operation) part) ≡ partEntry operation part
 unfolding receivedEntry
 detail-entry operation part s =
     let fit = sendable-part operation part s in

@@ -12,7 +12,7 @@ use borrow.Author.Tests.{ne-eqb}
 use Rattle.packed.specs.Every.{member}
 use Rattle.message.specs.declared.route.Route.{Route}
 use Rattle.message.specs.declared.envelope.Kind.{Kind}
-use Rattle.message.specs.declared.reply.Operation.{Operation}
+use Rattle.message.specs.declared.reply.ReplyOperation.{ReplyOperation}
 use Rattle.message.specs.Envelope.{serialOf, envelopeGood, envelopeOf, bodyOf}
 use Rattle.session.specs.declared.counters.Course.{Course}
 use Rattle.session.specs.declared.effect.Effect.{Effect}
@@ -42,12 +42,12 @@ waitingEffect none b = Effect.Nothing
 waitingEffect (some m) b = pendingAs (m .entry) b
 
 -- the operation of the reply to what waits
-abbrev pub replyFor : Entry → Operation
-replyFor (Entry.header number) = Operation.Other
-replyFor (Entry.detail ds) = Operation.Other
-replyFor Entry.lotTotal = Operation.LotTotal
-replyFor Entry.sessionTotal = Operation.SessionTotal
-replyFor Entry.unknown = Operation.Other
+abbrev pub replyFor : Entry → ReplyOperation
+replyFor (Entry.header number) = ReplyOperation.Other
+replyFor (Entry.detail ds) = ReplyOperation.Other
+replyFor Entry.lotTotal = ReplyOperation.LotTotal
+replyFor Entry.sessionTotal = ReplyOperation.SessionTotal
+replyFor Entry.unknown = ReplyOperation.Other
 
 -- the message that waits is on the line, and reads as its entry
 pub record OnLine (route : Route) (serial : ℕ) (m : Waiting) (trace : List Event) : Type 0 where

@@ -35,7 +35,7 @@ use Rattle.session.specs.Clock.{clock}
 use Rattle.session.specs.Premise.{OpenSound}
 use Rattle.session.specs.Ledger.{enter, bodyEntry, receivedEntry}
 use Rattle.message.specs.declared.content.Content.{Content}
-use Rattle.message.specs.Reply.{replyOperation}
+use Rattle.message.specs.Reply.{operationFor}
 use Rattle.session.specs.Engine.{Call, Engine, saidBy, meaning, lent, performed, Ready}
 use Rattle.session.specs.Ends.{End, Event, WrittenBefore, Brought}
 use Rattle.session.specs.Entering.{ReceiverLedger, firstReceived, receiverEnters}
@@ -54,11 +54,11 @@ has-room OpenLot.None lots s e = absurd (false≢true e)
 has-room (OpenLot.Numbered n) lots s e = s .1
 
 -- the reply to a body has the operation of what it is entered as
-pub reply-entry : (body : List ℕ) → replyOperation (contentOf body) ≡ replyFor (bodyEntry body)
+pub reply-entry : (body : List ℕ) → operationFor (contentOf body) ≡ replyFor (bodyEntry body)
 unfolding receivedEntry
 reply-entry body = go (contentOf body)
   where
-    go : (c : Content) → replyOperation c ≡ replyFor (receivedEntry c body)
+    go : (c : Content) → operationFor c ≡ replyFor (receivedEntry c body)
     go Content.Header = refl
     go Content.Detail = refl
     go Content.LotTotal = refl

@@ -12,7 +12,7 @@ use Rattle.packed.specs.Writing.{packedByte}
 use Rattle.codes.specs.Body.{operationOf}
 use Rattle.codes.proofs.Laws.Chain.{none-both, held}
 use Rattle.detail.specs.Groups.{documents}
-use Rattle.detail.specs.Codes.{receiverCode, presenterCode, sendable as sendableDetail}
+use Rattle.detail.specs.Codes.{receiverCode, presenterCode, partSendable}
 use Rattle.detail.specs.Writing.{writtenDetail}
 use Rattle.detail.proofs.Laws.Codes.{accepted-part, sendable-part}
 use Rattle.detail.proofs.Laws.Writing.{written-bytes}
@@ -20,7 +20,7 @@ use Rattle.detail.proofs.Laws.RoundTrip.{fields-again, accepted-there, accepted
 use Rattle.message.specs.declared.envelope.Kind.{Kind}
 use Rattle.message.specs.Limits.{envelopeBytes, messageRoom}
 use Rattle.message.specs.Envelope.{lengthGood, bodyOf}
-use Rattle.message.specs.Header.{sendable}
+use Rattle.message.specs.Header.{headerSendable}
 use Rattle.message.specs.Line.{wholeMessage}
 use Rattle.message.specs.RoundTrip.{BodyFits}
 use Rattle.message.proofs.Laws.Envelope.{body-told, written-then-read, read-then-written}
@@ -43,7 +43,7 @@ use Rattle.session.proofs.Laws.Refusals.{SendTold, send-told}
 use Rattle.session.proofs.Laws.Foreign.{next-fits}
 
 -- a detail that may be sent is no longer than a message may be
-pub detail-long : (operation : ℕ) (part : List ℕ) → sendableDetail operation part ≡ true → lengthGood Kind.Message (envelopeBytes + length (writtenDetail (packedByte operation) part)) ≡ true
+pub detail-long : (operation : ℕ) (part : List ℕ) → partSendable operation part ≡ true → lengthGood Kind.Message (envelopeBytes + length (writtenDetail (packedByte operation) part)) ≡ true
 detail-long operation part s =
     let fit = sendable-part operation part s in
     let size = written-bytes (packedByte operation) part in
@@ -61,7 +61,7 @@ module _ (s : Session) (sound : Sound s) where
   unfolding headerStop
   header-takes time moment centre number z =
       let p = sound .parties in
-      let fields = held 1 (sendable moment centre number) _ (lit< tt) z in
+      let fields = held 1 (headerSendable moment centre number) _ (lit< tt) z in
       in-range (presentingRoute (s .parties)) (record { time = moment; centre = centre; number = number }) (omega (arith, p .date)) (omega (arith, p .own)) (omega (arith, p .partner)) (fields .0)
 
   lot-total-takes : (t : Running) → Fits mostLotDocuments t → BodyFits (nextEnvelope s) (lotTotalBody (s .presenting .counters) t)

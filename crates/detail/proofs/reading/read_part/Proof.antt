@@ -14,8 +14,8 @@ use Rattle.detail.proofs.Laws.Codes.{sendable-part, unsendable, sendabl
 use Rattle.detail.proofs.reading.read_part.Statement.{statement}
 use Rattle.detail.proofs.reading.read_part.Tie as tie
 
-sendable-requires : tie.Need-sendable-requires
-sendable-requires c κs = search needs
+part-sendable-requires : tie.Need-part-sendable-requires
+part-sendable-requires c κs = search needs
 
 packed-byte-requires : tie.Need-packed-byte-requires
 packed-byte-requires c κs = search needs
@@ -29,7 +29,7 @@ slice-aggregate-read-documents c = search needs
 read-documents-requires : tie.Need-read-documents-requires
 read-documents-requires c κs =
     let a = c .before .before .before .before .before .args in
-    let fit = sendable-part (a .operation) (a .part .now) (sym (c .before .before .before .sendable .ensures) ∙ c .before .before .if1 .taken) in
+    let fit = sendable-part (a .operation) (a .part .now) (sym (c .before .before .before .part-sendable .ensures) ∙ c .before .before .if1 .taken) in
     (fit .whole, omega arith)
 
 judge-requires : tie.Need-judge-requires
@@ -39,7 +39,7 @@ returns : tie.Need-returns
 returns c =
     let t = c .before .before .before .before .before in
     let a = t .before .before .before .args in
-    let may = sym (t .before .sendable .ensures) ∙ t .if1 .taken in
+    let may = sym (t .before .part-sendable .ensures) ∙ t .if1 .taken in
     let read = c .before .before .read-documents .ensures .0 in
     let operation = c .before .before .before .before .packed-byte .ensures in (
       c .judge .ensures .0
@@ -54,7 +54,7 @@ refused-requires c κs = search needs
 returns-2 : tie.Need-returns-2
 returns-2 c =
     let a = c .before .before .before .before .args in
-    let may-not = sym (c .before .before .sendable .ensures) ∙ c .before .if1 .left in
+    let may-not = sym (c .before .before .part-sendable .ensures) ∙ c .before .if1 .left in
     let told = c .refused .ensures in
     (ap codeNumber (told .0) ∙ sym (unsendable (a .operation) (a .partner) (a .part .now) may-not), rw (told .0, told .1))
 
@@ -62,7 +62,7 @@ pub read-part-spec : {M : Type 1} → statement M
 read-part-spec =
     tie.close
     (tie.spec
-    sendable-requires
+    part-sendable-requires
     packed-byte-requires
     array-share-prefix-nobody
     slice-aggregate-read-documents

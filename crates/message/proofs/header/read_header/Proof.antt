@@ -7,7 +7,7 @@ use borrow.Author.Needs.{needs}
 use lib.Dec.{lit<}
 use lib.ListN.{length}
 use Rattle.message.specs.Limits.{headerBytes}
-use Rattle.message.specs.Layout.{shapeGood}
+use Rattle.message.specs.Layout.{fixedShape}
 use Rattle.message.specs.Content.{headerOperation}
 use Rattle.message.specs.Header.{header, headerValues}
 use Rattle.message.proofs.Laws.Layout.{shaped, misshapen, field-wrong, accepted, said-code, said-fields}
@@ -15,12 +15,12 @@ use Rattle.message.proofs.Laws.Header.{no-amounts, good-numbers}
 use Rattle.message.proofs.header.read_header.Statement.{statement}
 use Rattle.message.proofs.header.read_header.Tie as tie
 
-shape-good-requires : tie.Need-shape-good-requires
-shape-good-requires c κs = search needs
+fixed-shape-requires : tie.Need-fixed-shape-requires
+fixed-shape-requires c κs = search needs
 
 -- past the test of the shape
-shape : (t : tie.Then1) → shapeGood headerBytes headerOperation (t .before .before .before .args .body .now) ≡ true
-shape t = sym (t .before .shape-good .ensures) ∙ t .if1 .taken
+shape : (t : tie.Then1) → fixedShape headerBytes headerOperation (t .before .before .before .args .body .now) ≡ true
+shape t = sym (t .before .fixed-shape .ensures) ∙ t .if1 .taken
 
 enough : (t : tie.Then1) → headerBytes ≤ length (t .before .before .before .args .body .now)
 enough t = omega (arith, shaped headerBytes headerOperation (t .before .before .before .args .body .now) (shape t) .size)
@@ -47,13 +47,13 @@ returns-2 c =
 returns-3 : tie.Need-returns-3
 returns-3 c =
     let a = c .before .before .before .args in
-    said-code (header (a .route)) (a .body .now) 1 (lit< tt) (misshapen (header (a .route)) (a .body .now) (sym (c .before .shape-good .ensures) ∙ c .if1 .left))
+    said-code (header (a .route)) (a .body .now) 1 (lit< tt) (misshapen (header (a .route)) (a .body .now) (sym (c .before .fixed-shape .ensures) ∙ c .if1 .left))
 
 pub read-header-spec : {M : Type 1} → statement M
 read-header-spec =
     tie.close
     (tie.spec
-    shape-good-requires
+    fixed-shape-requires
     fields-of-requires
     fields-good-requires
     returns

@@ -8,7 +8,7 @@ use borrow.Author.Needs.{needs}
 use lib.Dec.{lit<}
 use lib.ListN.{length}
 use Rattle.codes.specs.Field.{tableGood}
-use Rattle.message.specs.Layout.{Layout, shapeGood}
+use Rattle.message.specs.Layout.{Layout, fixedShape}
 use Rattle.message.specs.Inner.Widths.{totalFields, total}
 use Rattle.message.specs.Total.{totalValues}
 use Rattle.message.proofs.Laws.Layout.{shaped, misshapen, field-wrong, amount-wrong, accepted, said-code, said-fields}
@@ -22,24 +22,24 @@ add-nominal-at c = search needs
 add-amounts : tie.Need-add-amounts
 add-amounts c = search needs
 
-add-shape-good : tie.Need-add-shape-good
-add-shape-good c = search needs
+add-fixed-shape : tie.Need-add-fixed-shape
+add-fixed-shape c = search needs
 
-shape-good-requires : tie.Need-shape-good-requires
-shape-good-requires c κs = search needs
+fixed-shape-requires : tie.Need-fixed-shape-requires
+fixed-shape-requires c κs = search needs
 
 add-are-digits : tie.Need-add-are-digits
 add-are-digits c = search needs
 
-abbrev layout : tie.After-shape-good → Layout
+abbrev layout : tie.After-fixed-shape → Layout
 layout t = let a = t .before .before .args in total (a .operation) (a .documents) (a .nominal) (a .commission)
 
-abbrev body : tie.After-shape-good → List ℕ
+abbrev body : tie.After-fixed-shape → List ℕ
 body t = t .before .before .args .body .now
 
 -- past the test of the shape, and past those of the counters and the amounts
-shape : (c : tie.Then1) → shapeGood (layout (c .before) .bytes) (layout (c .before) .operation) (body (c .before)) ≡ true
-shape c = sym (c .before .shape-good .ensures) ∙ c .if1 .taken
+shape : (c : tie.Then1) → fixedShape (layout (c .before) .bytes) (layout (c .before) .operation) (body (c .before)) ≡ true
+shape c = sym (c .before .fixed-shape .ensures) ∙ c .if1 .taken
 
 size : (c : tie.Then1) → length (body (c .before)) ≡ layout (c .before) .bytes
 size c = shaped (layout (c .before) .bytes) (layout (c .before) .operation) (body (c .before)) (shape c) .size
@@ -81,7 +81,7 @@ returns-3 c =
     said-code (layout t) (body t) 1 (lit< tt) (field-wrong (layout t) (body t) (shape (c .before .before)) counters)
 
 returns-4 : tie.Need-returns-4
-returns-4 c = let t = c .before in said-code (layout t) (body t) 1 (lit< tt) (misshapen (layout t) (body t) (sym (t .shape-good .ensures) ∙ c .if1 .left))
+returns-4 c = let t = c .before in said-code (layout t) (body t) 1 (lit< tt) (misshapen (layout t) (body t) (sym (t .fixed-shape .ensures) ∙ c .if1 .left))
 
 pub read-total-spec : {M : Type 1} → statement M
 read-total-spec =
@@ -89,8 +89,8 @@ read-total-spec =
     (tie.spec
     add-nominal-at
     add-amounts
-    add-shape-good
-    shape-good-requires
+    add-fixed-shape
+    fixed-shape-requires
     add-are-digits
     are-digits-requires
     are-digits-requires-2

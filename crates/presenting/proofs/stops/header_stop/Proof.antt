@@ -4,8 +4,8 @@ use borrow.Author.Needs.{needs}
 use Rattle.presenting.proofs.stops.header_stop.Statement.{statement}
 use Rattle.presenting.proofs.stops.header_stop.Tie as tie
 
-sendable-requires : tie.Need-sendable-requires
-sendable-requires c κs = search needs
+header-sendable-requires : tie.Need-header-sendable-requires
+header-sendable-requires c κs = search needs
 
 when-requires : tie.Need-when-requires
 when-requires c κs = search needs
@@ -42,7 +42,7 @@ pub header-stop-spec : {M : Type 1} → statement M
 header-stop-spec =
     tie.close
     (tie.spec
-    sendable-requires
+    header-sendable-requires
     when-requires
     header-sequence-requires
     presenter-late-requires

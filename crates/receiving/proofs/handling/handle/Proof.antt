@@ -8,7 +8,7 @@ use Rattle.codes.specs.Code.{codeNumber, codeNumbered}
 use Rattle.codes.proofs.Laws.Code.{number-told}
 use Rattle.message.specs.declared.content.Content.{Content}
 use Rattle.message.specs.Content.{contentOf}
-use Rattle.message.specs.Reply.{replyOperation}
+use Rattle.message.specs.Reply.{operationFor}
 use Rattle.session.specs.declared.counters.Course.{Course}
 use Rattle.session.specs.Course.{course, advance, ends, kept}
 use Rattle.session.specs.Receiving.{receivedCode, receivedEffect, receivingAfter}
@@ -46,8 +46,8 @@ add-serial c = search needs
 advance-requires : tie.Need-advance-requires
 advance-requires c κs = may (c .before .before .before)
 
-reply-operation-requires : tie.Need-reply-operation-requires
-reply-operation-requires c κs = search needs
+operation-for-requires : tie.Need-operation-for-requires
+operation-for-requires c κs = search needs
 
 ends-requires : tie.Need-ends-requires
 ends-requires c κs = search needs
@@ -74,7 +74,7 @@ returns c =
     let same = alike (eqb (codeNumber (found .code)) 0) (found .effect) meant (e .effect) in
     let told = ap (λ (n : ℕ). eqb n 0) (e .code) in
     let one-more : r .serial + 1 ≡ suc (r .serial) = omega arith in
-    let operation = c .before .before .before .reply-operation .ensures ∙ ap replyOperation (k .before .before .content-of .ensures) in
+    let operation = c .before .before .before .operation-for .ensures ∙ ap operationFor (k .before .before .content-of .ensures) in
     let kept-code = sym (number-told (found .code)) ∙ ap codeNumbered (e .code) in
     let moved = c .before .before .before .before .before .before .advance .ensures ∙ ap (λ (x : Bool). advance (found .effect) x here) accepted ∙ same .moves here ∙ ap (λ (x : Bool). advance meant x here) told in
     let ended = c .before .before .ends .ensures ∙ ap (ends (found .effect)) accepted ∙ same .ends-so ∙ ap (ends meant) told in
@@ -90,7 +90,7 @@ handle-spec =
     is-accepted-requires
     add-serial
     advance-requires
-    reply-operation-requires
+    operation-for-requires
     ends-requires
     kept-requires
     returns)
