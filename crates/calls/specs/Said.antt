@@ -1,7 +1,7 @@
 -- What the answer of a call says: the paper's number, and what the call leaves.
 use Prim.Native.Nat.{ℕ}
 use mathlib.Core.List.{List}
-use Rattle.session.specs.Running.{Running}
+use Rattle.session.specs.declared.running.Running.{Running}
 use Rattle.session.specs.Outcome.{held, Outcome, answerNumber}
 use Rattle.calls.specs.declared.called.Called.{Called}
 

@@ -9,7 +9,7 @@ ghost use mathlib.Core.Path.{_≡_};
 ghost use mathlib.Core.Bool.{cond};
 ghost use mathlib.Core.List.{List};
 ghost use Prim.Native.Nat.{ℕ};
-ghost use Rattle.session.specs.Running.{Running};
+ghost use Rattle.session.specs.declared.running.Running.{Running};
 ghost use Rattle.session.specs.Hours.{atClose};
 ghost use Rattle.session.specs.Clock.{ticked, clock};
 ghost use Rattle.session.specs.Premise.{Sound, Kept};

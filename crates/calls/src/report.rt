@@ -2,12 +2,12 @@
 use amounts::difference::commission_difference;
 use amounts::difference::nominal_difference;
 use session::counters::Counters;
-use session::counters::Running;
 use session::effect::Effect;
 use session::report::Awaited;
 use session::report::Positions;
 use session::report::Report;
 use session::report::Tally;
+use session::running::Running;
 use session::session::Session;
 ghost use mathlib.Core.Path.{_≡_};
 ghost use Rattle.amounts.specs.Inner.Fits.{DifferenceFits};

@@ -1,6 +1,6 @@
 // A centre, as it stands between two calls.
-use session::counters::Running;
-use session::counters::empty;
+use session::running::Running;
+use session::running::empty;
 use session::session::Session;
 ghost use mathlib.Core.Path.{_≡_};
 ghost use Rattle.session.specs.Engine.{withEmpty, Ready};

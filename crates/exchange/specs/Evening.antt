@@ -12,7 +12,8 @@ use Rattle.session.specs.declared.report.Awaited.{Awaited}
 use Rattle.session.specs.declared.report.Report.{Report}
 use Rattle.session.specs.declared.session.Close.{Close}
 use Rattle.session.specs.Hours.{close}
-use Rattle.session.specs.Running.{Running, empty}
+use Rattle.session.specs.declared.running.Running.{Running}
+use Rattle.session.specs.Running.{empty}
 use Rattle.session.specs.Start.{start}
 use Rattle.session.specs.Report.{report}
 use Rattle.session.specs.Engine.{Call, Engine, withEmpty, performed}

@@ -1,9 +1,9 @@
 // What an evening shows: the two reports in plain numbers, as C takes them. include/line.h says what each is.
 use session::counters::Lot;
-use session::counters::Running;
-use session::counters::empty;
 use session::report::Awaited;
 use session::report::Report;
+use session::running::Running;
+use session::running::empty;
 use session::session::Close;
 ghost use mathlib.Core.Path.{_≡_};
 ghost use Rattle.exchange.specs.Evening.{sumsOf, closeNumber, awaitedNumber, noLot, awaitedLot, sideOf, noSide};

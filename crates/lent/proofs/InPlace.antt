@@ -90,7 +90,7 @@ pub use denote.Triple.Spec.{tripleOf}
 pub use denote.Triple.Table.{cited}
 pub use denote.Triple.Walked.{says, walkOf, ends-at}
 pub use Rattle.session.specs.declared.session.Session.{Session}
-pub use Rattle.session.specs.Running.{Running}
+pub use Rattle.session.specs.declared.running.Running.{Running}
 pub use Rattle.session.specs.Parties.{Direction}
 pub use Rattle.session.specs.Premise.{Sound, Carried}
 pub use Rattle.receiving.specs.declared.receive.Received.{Received}

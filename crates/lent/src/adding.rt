@@ -1,6 +1,6 @@
 // The step of an accepted detail alone: what it does to the running totals of a presented lot.
 use calls::course::advance;
-use session::counters::Running;
+use session::running::Running;
 use session::session::Session;
 ghost use mathlib.Core.Path.{_≡_};
 ghost use Rattle.session.specs.Parties.{Direction};

@@ -2,7 +2,7 @@
 // reference to running totals, so that whoever calls this function is proved as any other caller.
 use crate::receive::receive;
 use receiving::receive::ReceiveOutcome;
-use session::counters::Running;
+use session::running::Running;
 use session::session::Session;
 ghost use mathlib.Core.Path.{_≡_};
 ghost use Rattle.session.specs.Parties.{Direction};

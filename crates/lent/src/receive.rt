@@ -1,6 +1,6 @@
 // Receiving, with the running totals of the received lot lent.
 use receiving::receive::Received;
-use session::counters::Running;
+use session::running::Running;
 use session::session::Session;
 ghost use mathlib.Core.Path.{_≡_};
 ghost use Rattle.session.specs.Parties.{Direction};

@@ -1,6 +1,6 @@
 // The reply call, with the running totals of the presented lot lent.
 use calls::called::Called;
-use session::counters::Running;
+use session::running::Running;
 use session::session::Session;
 ghost use mathlib.Core.Path.{_≡_};
 ghost use mathlib.Core.List.{List};

@@ -1,9 +1,9 @@
 // The accepted lots, and whether a new one repeats one of them.
 use amounts::Totals;
 use session::counters::Lot;
-use session::counters::stated;
 use session::effect::Effect;
 use session::limits::MOST_LOTS;
+use session::running::stated;
 ghost use mathlib.Core.Path.{_≡_};
 ghost use Prim.Native.Nat.{_≤_, _<_};
 ghost use mathlib.Core.Bool.{true};

@@ -10,7 +10,7 @@ use message::envelope::ENVELOPE_BYTES;
 use message::envelope::Envelope;
 use message::envelope::REPLY_ROOM;
 use message::line::write_reply;
-use session::counters::Running;
+use session::running::Running;
 use session::session::Answer;
 use session::session::Session;
 ghost use mathlib.Core.Path.{_≡_};

@@ -10,14 +10,14 @@ use Rattle.amounts.specs.declared.Totals.{Totals}
 use Rattle.amounts.specs.Totals.{totals, zeros}
 use Rattle.codes.specs.declared.code.Code.{Code}
 use Rattle.codes.proofs.Cases.{Case, _is_, AllDue, with-byte}
-use Rattle.document.specs.Operation.{presentedNumber}
+use Rattle.document.specs.Operation.{presented, presentedNumber}
 use Rattle.detail.specs.Limits.{headBytes}
 use Rattle.detail.specs.declared.checked.Checked.{Checked}
 use Rattle.detail.specs.Checked.{fourNumbers, programChecked}
 use Rattle.detail.proofs.Cases.{printed}
 use Rattle.session.specs.declared.counters.Counters.{Counters}
 use Rattle.session.specs.declared.session.Close.{Close}
-use Rattle.session.specs.Running.{documentsIn}
+use Rattle.session.specs.Running.{adding, documentsIn}
 use Rattle.session.specs.Start.{start}
 use Rattle.session.specs.Outcome.{seenAt, withPresenting, withReceiving}
 use Rattle.session.specs.Sending.{openNumber}
@@ -90,7 +90,7 @@ openReceiver = after (arriving 80000 1 (Sent.header 7) ∷ []) receiver
 
 -- the open lot has so many documents
 abbrev pub holding : (documents : ℕ) → Engine → Engine
-holding n e = record { session = e .session; presenting = totals n 0 0; receiving = totals n 0 0 }
+holding n e = record { session = e .session; presenting = adding presented (totals n 0 0); receiving = adding presented (totals n 0 0) }
 
 -- the printed document as a detail, and the total of a lot that has it alone
 abbrev pub detail : Sent

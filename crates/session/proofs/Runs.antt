@@ -12,7 +12,6 @@ use lib.ListN.{replicate}
 use borrow.Author.Tests.{eqb-true}
 use Rattle.packed.specs.Part.{byteAt}
 use Rattle.packed.proofs.Laws.Told.{both}
-use Rattle.amounts.specs.declared.Totals.{Totals}
 use Rattle.amounts.specs.Totals.{totals, zeros}
 use Rattle.codes.specs.declared.code.Code.{Code}
 use Rattle.codes.specs.Field.{tableWritten}
@@ -20,12 +19,14 @@ use Rattle.document.specs.Fields.{documentFields}
 use Rattle.document.specs.Operation.{presented, returned}
 use Rattle.message.specs.declared.envelope.Kind.{Kind}
 use Rattle.message.specs.Envelope.{kindByte}
+use Rattle.session.specs.declared.running.Running.{Running}
 use Rattle.session.specs.declared.report.Tally.{Tally}
 use Rattle.session.specs.declared.report.Awaited.{Awaited}
 use Rattle.session.specs.declared.report.Positions.{Positions}
 use Rattle.session.specs.declared.session.Close.{Close}
 use Rattle.session.specs.Hours.{close}
 use Rattle.session.specs.Reply.{replyCode}
+use Rattle.session.specs.Running.{empty, adding, stated}
 use Rattle.session.specs.Ledger.{LedgerLot, ofOperation}
 use Rattle.session.specs.Engine.{Call}
 use Rattle.session.specs.Ends.{End, other, Event, World, Step, act, run, WrittenBefore, Brought, Possible, begun}
@@ -165,16 +166,24 @@ exchanged p serial (x ∷ xs) = sent p x ∷ arrived p serial x ∷ answered 800
 abbrev closed : List Step
 closed = record { at = End.near; call = Call.clock 84599; line = buffer } ∷ record { at = End.near; call = Call.clock close; line = buffer } ∷ record { at = End.far; call = Call.clock close; line = buffer } ∷ []
 
--- a document for an entity and a drawee; and one whose drawee the entity is
-abbrev drawnOn : (drawee entity nominal commission : ℕ) → List ℕ
-drawnOn drawee entity nominal commission =
+-- a document that goes to an entity, by its taker and its drawee
+abbrev document : (entity taker drawee nominal commission : ℕ) → List ℕ
+document entity taker drawee nominal commission =
     tableWritten (documentFields presented entity)
-    (1 ∷ 0 ∷ 2434157 ∷ 1403 ∷ 81 ∷ 110 ∷ 28 ∷ entity ∷ 8 ∷ 810110 ∷ nominal ∷ drawee ∷ 110 ∷ 123456 ∷ 1 ∷ 1 ∷ commission ∷ 0 ∷ [])
+    (1 ∷ 0 ∷ 2434157 ∷ 1403 ∷ taker ∷ 110 ∷ 28 ∷ entity ∷ 8 ∷ 810110 ∷ nominal ∷ drawee ∷ 110 ∷ 123456 ∷ 1 ∷ 1 ∷ commission ∷ 0 ∷ [])
 
-abbrev document : (entity nominal commission : ℕ) → List ℕ
-document entity nominal commission = drawnOn entity entity nominal commission
+-- what an entity presents it took, and the other is to pay; what it returns the other took, and it does not pay
+abbrev cheque : (from to nominal commission : ℕ) → List ℕ
+cheque from to nominal commission = document to from to nominal commission
 
-abbrev tally : (lots : ℕ) → Totals → Tally
+abbrev unpaid : (from to nominal commission : ℕ) → List ℕ
+unpaid from to nominal commission = document to to from nominal commission
+
+-- what is gathered of some documents, which are counted together
+abbrev together : (documents nominal commission : ℕ) → Running
+together documents nominal commission = adding presented (totals documents nominal commission)
+
+abbrev tally : (lots : ℕ) → Running → Tally
 tally lots t = record { lots = lots; gathered = t }
 
 -- positions of an end that gets, and of one that owes, and of one that does neither
@@ -193,19 +202,19 @@ level lots t close positions = record { counted = lots; confirmed = lots; receiv
 
 -- Lots of presented documents and of returns go both ways, then both session totals, and both ends close in order.
 abbrev near7 : LedgerLot
-near7 = record { number = 7; documents = ofOperation presented (document 72 15000 30 ∷ document 72 22000 45 ∷ []) ++ ofOperation returned (document 72 7000 0 ∷ []) }
+near7 = record { number = 7; documents = ofOperation presented (cheque 81 72 15000 30 ∷ cheque 81 72 22000 45 ∷ []) ++ ofOperation returned (unpaid 81 72 7000 0 ∷ []) }
 
 abbrev near8 : LedgerLot
-near8 = record { number = 8; documents = ofOperation returned (document 72 500 1 ∷ []) }
+near8 = record { number = 8; documents = ofOperation returned (unpaid 81 72 500 1 ∷ []) }
 
 abbrev far7 : LedgerLot
-far7 = record { number = 7; documents = ofOperation returned (document 81 9000 10 ∷ []) ++ ofOperation presented (document 81 1000 2 ∷ []) }
+far7 = record { number = 7; documents = ofOperation returned (unpaid 72 81 9000 10 ∷ []) ++ ofOperation presented (cheque 72 81 1000 2 ∷ []) }
 
 abbrev full : List Step
 full =
-    exchanged End.near 1 (Sent.header 7 ∷ Sent.detail 30 (document 72 15000 30 ++ document 72 22000 45) ∷ [])
-    ++ exchanged End.far 1 (Sent.header 7 ∷ Sent.detail 40 (document 81 9000 10) ∷ Sent.detail 30 (document 81 1000 2) ∷ [])
-    ++ exchanged End.near 3 (Sent.detail 40 (document 72 7000 0) ∷ Sent.lotTotal 7 (totals 3 44000 75) ∷ Sent.header 8 ∷ Sent.detail 40 (document 72 500 1) ∷ [])
+    exchanged End.near 1 (Sent.header 7 ∷ Sent.detail 30 (cheque 81 72 15000 30 ++ cheque 81 72 22000 45) ∷ [])
+    ++ exchanged End.far 1 (Sent.header 7 ∷ Sent.detail 40 (unpaid 72 81 9000 10) ∷ Sent.detail 30 (cheque 72 81 1000 2) ∷ [])
+    ++ exchanged End.near 3 (Sent.detail 40 (unpaid 81 72 7000 0) ∷ Sent.lotTotal 7 (totals 3 44000 75) ∷ Sent.header 8 ∷ Sent.detail 40 (unpaid 81 72 500 1) ∷ [])
     ++ exchanged End.far 4 (Sent.lotTotal 7 (totals 2 10000 12) ∷ Sent.sessionTotal 1 (totals 2 10000 12) ∷ [])
     ++ exchanged End.near 7 (Sent.lotTotal 8 (totals 1 500 1) ∷ Sent.sessionTotal 2 (totals 4 44500 76) ∷ [])
     ++ closed
@@ -213,21 +222,21 @@ full =
 both-ways : Leads full (record {
   refused = [];
   replies = replicate 13 0;
-  near = level (near7 ∷ near8 ∷ []) (tally 2 (totals 4 44500 76)) Close.Ordered (gets 34500 64);
-  far = level (far7 ∷ []) (tally 1 (totals 2 10000 12)) Close.Ordered (owes 34500 64);
+  near = level (near7 ∷ near8 ∷ []) (tally 2 (together 4 44500 76)) Close.Ordered (gets 34500 64);
+  far = level (far7 ∷ []) (tally 1 (together 2 10000 12)) Close.Ordered (owes 34500 64);
 })
 unfolding computing
 both-ways = record { possible = possible full justStarted refl; leads = refl }
 
 -- lots of one document each, with the same totals
-abbrev one : Totals
-one = totals 1 15000 30
+abbrev one : Running
+one = together 1 15000 30
 
 abbrev lot : (number : ℕ) → LedgerLot
-lot n = record { number = n; documents = ofOperation presented (document 72 15000 30 ∷ []) }
+lot n = record { number = n; documents = ofOperation presented (cheque 81 72 15000 30 ∷ []) }
 
 abbrev opening : (number : ℕ) → List Sent
-opening n = Sent.header n ∷ Sent.detail 30 (document 72 15000 30) ∷ []
+opening n = Sent.header n ∷ Sent.detail 30 (cheque 81 72 15000 30) ∷ []
 
 -- the presenter's report names the lot
 abbrev naming : (number : ℕ) → Awaited
@@ -235,27 +244,27 @@ naming n = Awaited.LotTotal (record { number = n; gathered = one })
 
 -- The total of a lot arrives twice, and no reply comes back.
 abbrev lost : List Step
-lost = exchanged End.near 1 (opening 7) ++ sent End.near (Sent.lotTotal 7 one) ∷ arrived End.near 3 (Sent.lotTotal 7 one) ∷ arrived End.near 3 (Sent.lotTotal 7 one) ∷ []
+lost = exchanged End.near 1 (opening 7) ++ sent End.near (Sent.lotTotal 7 (stated one)) ∷ arrived End.near 3 (Sent.lotTotal 7 (stated one)) ∷ arrived End.near 3 (Sent.lotTotal 7 (stated one)) ∷ []
 
 abbrev ahead : Close → Standing
-ahead close = record { counted = lot 7 ∷ []; confirmed = []; received = tally 1 one; presented = tally 0 zeros; awaited = naming 7; close = close; positions = even }
+ahead close = record { counted = lot 7 ∷ []; confirmed = []; received = tally 1 one; presented = tally 0 empty; awaited = naming 7; close = close; positions = even }
 
-named-and-counted : Leads lost (record { refused = []; replies = replicate 4 0; near = ahead Close.Open; far = level [] (tally 0 zeros) Close.Open (owes 15000 30) })
+named-and-counted : Leads lost (record { refused = []; replies = replicate 4 0; near = ahead Close.Open; far = level [] (tally 0 empty) Close.Open (owes 15000 30) })
 unfolding computing
 named-and-counted = record { possible = possible lost justStarted refl; leads = refl }
 
 -- Then one of the two replies comes, and the other after it, which is for nothing that is awaited.
 abbrev found : List Step
-found = lost ++ answered 80000 End.near 3 (Sent.lotTotal 7 one) Code.Accepted ∷ answered 80000 End.near 3 (Sent.lotTotal 7 one) Code.Accepted ∷ []
+found = lost ++ answered 80000 End.near 3 (Sent.lotTotal 7 (stated one)) Code.Accepted ∷ answered 80000 End.near 3 (Sent.lotTotal 7 (stated one)) Code.Accepted ∷ []
 
-settled-late : Leads found (record { refused = 35 ∷ []; replies = replicate 4 0; near = level (lot 7 ∷ []) (tally 1 one) Close.Open (gets 15000 30); far = level [] (tally 0 zeros) Close.Open (owes 15000 30) })
+settled-late : Leads found (record { refused = 35 ∷ []; replies = replicate 4 0; near = level (lot 7 ∷ []) (tally 1 one) Close.Open (gets 15000 30); far = level [] (tally 0 empty) Close.Open (owes 15000 30) })
 unfolding computing
 settled-late = record { possible = possible found justStarted refl; leads = refl }
 
 -- A header is handed back to its own end, to the reply call, and its reply to receiving. A detail of a drawee that is not served gets 06, so the
 -- lot is ended by a total of zeros, with 07; its number is used again.
 abbrev stray : Sent
-stray = Sent.detail 30 (drawnOn 9999 72 500 1)
+stray = Sent.detail 30 (document 72 81 9999 500 1)
 
 abbrev again : List Step
 again =
@@ -271,30 +280,30 @@ again =
     ∷ sent End.near (Sent.lotTotal 7 zeros)
     ∷ arrived End.near 3 (Sent.lotTotal 7 zeros)
     ∷ answered 80000 End.near 3 (Sent.lotTotal 7 zeros) Code.WrongSequence
-    ∷ exchanged End.near 4 (opening 7 ++ Sent.lotTotal 7 one ∷ [])
+    ∷ exchanged End.near 4 (opening 7 ++ Sent.lotTotal 7 (stated one) ∷ [])
 
-number-used-again : Leads again (record { refused = 21 ∷ 21 ∷ 33 ∷ []; replies = 0 ∷ 0 ∷ 0 ∷ 7 ∷ 6 ∷ 0 ∷ []; near = level (lot 7 ∷ []) (tally 1 one) Close.Open (gets 15000 30); far = level [] (tally 0 zeros) Close.Open (owes 15000 30) })
+number-used-again : Leads again (record { refused = 21 ∷ 21 ∷ 33 ∷ []; replies = 0 ∷ 0 ∷ 0 ∷ 7 ∷ 6 ∷ 0 ∷ []; near = level (lot 7 ∷ []) (tally 1 one) Close.Open (gets 15000 30); far = level [] (tally 0 empty) Close.Open (owes 15000 30) })
 unfolding computing
 number-used-again = record { possible = possible again justStarted refl; leads = refl }
 
 -- A second lot has the totals of the first: the receiver replies 04, and the reply is lost.
 abbrev duplicate : List Step
 duplicate =
-    exchanged End.near 1 (opening 7 ++ Sent.lotTotal 7 one ∷ opening 8) ++ sent End.near (Sent.lotTotal 8 one) ∷ arrived End.near 6 (Sent.lotTotal 8 one) ∷ []
+    exchanged End.near 1 (opening 7 ++ Sent.lotTotal 7 (stated one) ∷ opening 8) ++ sent End.near (Sent.lotTotal 8 (stated one)) ∷ arrived End.near 6 (Sent.lotTotal 8 (stated one)) ∷ []
 
 named-not-counted : Leads duplicate (record {
   refused = [];
   replies = 4 ∷ replicate 5 0;
   near = record { counted = lot 7 ∷ []; confirmed = lot 7 ∷ []; received = tally 1 one; presented = tally 1 one; awaited = naming 8; close = Close.Open; positions = gets 15000 30 };
-  far = level [] (tally 0 zeros) Close.Open (owes 15000 30);
+  far = level [] (tally 0 empty) Close.Open (owes 15000 30);
 })
 unfolding computing
 named-not-counted = record { possible = possible duplicate justStarted refl; leads = refl }
 
 -- After the close the lost reply comes, and is refused with 32.
 abbrev late : List Step
-late = lost ++ closed ++ answered close End.near 3 (Sent.lotTotal 7 one) Code.Accepted ∷ record { at = End.near; call = Call.report; line = buffer } ∷ []
+late = lost ++ closed ++ answered close End.near 3 (Sent.lotTotal 7 (stated one)) Code.Accepted ∷ record { at = End.near; call = Call.report; line = buffer } ∷ []
 
-named-after-close : Leads late (record { refused = 32 ∷ []; replies = replicate 4 0; near = ahead Close.Forced; far = level [] (tally 0 zeros) Close.Forced (owes 15000 30) })
+named-after-close : Leads late (record { refused = 32 ∷ []; replies = replicate 4 0; near = ahead Close.Forced; far = level [] (tally 0 empty) Close.Forced (owes 15000 30) })
 unfolding computing
 named-after-close = record { possible = possible late justStarted refl; leads = refl }

@@ -8,7 +8,8 @@ use Rattle.session.specs.declared.counters.Lot.{Lot}
 use Rattle.session.specs.declared.counters.Counters.{Counters}
 use Rattle.session.specs.declared.counters.Course.{Course}
 use Rattle.session.specs.declared.effect.Effect.{Effect}
-use Rattle.session.specs.Running.{Running, empty, gather}
+use Rattle.session.specs.declared.running.Running.{Running}
+use Rattle.session.specs.Running.{empty, gather}
 
 -- counters, and the running totals beside them
 abbrev pub course : Counters → Running → Course

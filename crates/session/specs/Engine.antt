@@ -4,7 +4,8 @@ use mathlib.Core.List.{List}
 use lib.ListN.{take}
 use Rattle.session.specs.Parties.{Direction}
 use Rattle.session.specs.declared.session.Session.{Session}
-use Rattle.session.specs.Running.{Running, empty}
+use Rattle.session.specs.declared.running.Running.{Running}
+use Rattle.session.specs.Running.{empty}
 use Rattle.session.specs.Outcome.{Held, held, Outcome, silent}
 use Rattle.session.specs.Sending.{sendHeader, sendDetail, sendLotTotal, sendSessionTotal}
 use Rattle.session.specs.Receiving as Receiving

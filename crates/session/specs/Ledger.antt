@@ -14,7 +14,8 @@ use Rattle.message.specs.Content.{contentOf}
 use Rattle.message.specs.Header.{headerOf}
 use Rattle.session.specs.declared.counters.Lot.{Lot}
 use Rattle.session.specs.declared.report.Tally.{Tally}
-use Rattle.session.specs.Running.{Running, empty, gather, detailAdds}
+use Rattle.session.specs.declared.running.Running.{Running}
+use Rattle.session.specs.Running.{empty, gather, detailAdds}
 use Rattle.document.specs.Part.{documentsOf}
 
 -- a document to the byte, its key included, and its operation as the byte of its group

@@ -10,7 +10,7 @@ use Rattle.session.specs.declared.session.Answer.{Answer}
 use Rattle.session.specs.declared.session.Presenting.{Presenting}
 use Rattle.session.specs.declared.session.Receiving.{Receiving}
 use Rattle.session.specs.declared.session.Session.{Session}
-use Rattle.session.specs.Running.{Running}
+use Rattle.session.specs.declared.running.Running.{Running}
 
 -- what the caller holds before a call and after it: the session, the running totals of the call's direction, the line buffer
 pub record Held : Type 0 where

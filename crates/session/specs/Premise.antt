@@ -13,14 +13,15 @@ use Rattle.session.specs.declared.parties.Parties.{Parties}
 use Rattle.session.specs.declared.session.Session.{Session}
 use Rattle.session.specs.Limits.{mostLotDocuments, mostLots}
 use Rattle.session.specs.Parties.{largestDate, Direction, opposite}
-use Rattle.session.specs.Running.{Running, empty, gather, documentsIn}
+use Rattle.session.specs.declared.running.Running.{Running}
+use Rattle.session.specs.Running.{gather, stated, documentsIn}
 use Rattle.session.specs.Sequence.{isOpen}
 
 -- running totals of at most so many documents, each amount within its digits
 pub record Fits (most : ℕ) (r : Running) : Type 0 where
   pub documents : documentsIn r ≤ most
-  pub nominal : r .nominal .0 ≤ documentsIn r * largestNominal
-  pub commission : r .commission .0 ≤ documentsIn r * largestCommission
+  pub nominal : stated r .nominal .0 ≤ documentsIn r * largestNominal
+  pub commission : stated r .commission .0 ≤ documentsIn r * largestCommission
 
 -- an open lot has an order number, and room among the accepted ones
 abbrev pub OpenSound : OpenLot → (lots : ℕ) → Type 0
@@ -51,7 +52,6 @@ pub record PartiesSound (p : Parties) : Type 0 where
 -- the first part: of a session
 pub record Sound (s : Session) : Type 0 where
   pub parties : PartiesSound (s .parties)
-  pub sent : s .presenting .serial ≤ largestSerial
   pub received : s .receiving .serial ≤ largestSerial
   pub presenting : CountersSound (s .presenting .counters)
   pub receiving : CountersSound (s .receiving .counters)
@@ -79,7 +79,6 @@ PendingCarried Effect.SessionTotal t = Unit {0}
 
 -- the second part: of the running totals that are lent for a direction
 pub record Carried (d : Direction) (s : Session) (t : Running) : Type 0 where
-  pub none-open : countersOf d s .current ≡ OpenLot.None → t ≡ empty
   pub fits : Fits mostLotDocuments t
   pub pending : PendingCarried (pendingOf d s) t
 

@@ -33,7 +33,8 @@ use Rattle.session.specs.declared.session.Session.{Session}
 use Rattle.session.specs.Limits.{passesLot, lotsUsed}
 use Rattle.session.specs.Hours.{receiverLate}
 use Rattle.session.specs.Parties.{representedBy, receivingRoute}
-use Rattle.session.specs.Running.{Running, detailAdds, stated, documentsIn}
+use Rattle.session.specs.declared.running.Running.{Running}
+use Rattle.session.specs.Running.{detailAdds, stated, documentsIn}
 use Rattle.session.specs.Course.{course, advance, ends, kept}
 use Rattle.session.specs.Sequence.{headerSequence, lotSequence, lotTotalSequence, sessionTotalSequence}
 use Rattle.session.specs.Outcome.{Held, held, Outcome, decided, wrote, noRoom, seenAt, withReceiving}

@@ -18,7 +18,7 @@ use Rattle.session.specs.declared.effect.Effect.{Effect}
 use Rattle.session.specs.declared.session.Presenting.{Presenting}
 use Rattle.session.specs.declared.session.Session.{Session}
 use Rattle.session.specs.Parties.{presentingRoute}
-use Rattle.session.specs.Running.{Running}
+use Rattle.session.specs.declared.running.Running.{Running}
 use Rattle.session.specs.Course.{course, advance, ends}
 use Rattle.session.specs.Outcome.{Held, held, Outcome, decided, silent, seenAt, withPresenting}
 use Rattle.session.specs.Time.{timeRefusal}

@@ -7,7 +7,8 @@ use Rattle.session.specs.declared.report.Awaited.{Awaited}
 use Rattle.session.specs.declared.report.Positions.{Positions}
 use Rattle.session.specs.declared.report.Report.{Report}
 use Rattle.session.specs.declared.session.Session.{Session}
-use Rattle.session.specs.Running.{Running}
+use Rattle.session.specs.Running.{stated}
+use Rattle.session.specs.declared.running.Running.{Running}
 
 -- the totals of a direction: its accepted lots
 abbrev pub tally : Counters → Tally
@@ -23,7 +24,7 @@ awaited (Effect.Detail more) = Awaited.Neither
 
 -- presented less received
 abbrev pub positions : (presented received : Running) → Positions
-positions p r = record { nominal = difference (p .nominal .0) (r .nominal .0); commission = difference (p .commission .0) (r .commission .0) }
+positions p r = record { nominal = difference (stated p .nominal .0) (stated r .nominal .0); commission = difference (stated p .commission .0) (stated r .commission .0) }
 
 -- all of it
 unfoldable pub report : Session → Report

@@ -21,7 +21,8 @@ use Rattle.session.specs.declared.session.Session.{Session}
 use Rattle.session.specs.Limits.{passesLot, lotsUsed}
 use Rattle.session.specs.Hours.{presenterLate}
 use Rattle.session.specs.Parties.{presentingRoute}
-use Rattle.session.specs.Running.{Running, detailAdds, stated, documentsIn}
+use Rattle.session.specs.declared.running.Running.{Running}
+use Rattle.session.specs.Running.{detailAdds, stated, documentsIn}
 use Rattle.session.specs.Sequence.{headerSequence, lotSequence, sessionTotalSequence}
 use Rattle.session.specs.Outcome.{Held, held, Outcome, decided, wrote, noRoom, seenAt, withPresenting}
 use Rattle.session.specs.Time.{timeRefusal}

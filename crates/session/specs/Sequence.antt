@@ -5,7 +5,8 @@ use mathlib.Core.Bool.{Bool, true, false, not}
 use lib.Dec.{eqb}
 use Rattle.codes.specs.Chain.{_when_, _orelse_}
 use Rattle.session.specs.declared.counters.OpenLot.{OpenLot}
-use Rattle.session.specs.Running.{Running, documentsIn}
+use Rattle.session.specs.declared.running.Running.{Running}
+use Rattle.session.specs.Running.{documentsIn}
 
 -- a lot is open
 abbrev pub isOpen : OpenLot → Bool

@@ -8,4 +8,5 @@ pub mod hours;
 pub mod limits;
 pub mod parties;
 pub mod report;
+pub mod running;
 pub mod session;

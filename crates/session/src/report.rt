@@ -1,6 +1,6 @@
 // What a report shows.
 use crate::counters::Lot;
-use crate::counters::Running;
+use crate::running::Running;
 use crate::session::Close;
 
 // The accepted lots of a direction: how many, and what they gathered.

@@ -2,13 +2,13 @@
 use crate::counters::Counters;
 use crate::counters::Lot;
 use crate::counters::OpenLot;
-use crate::counters::empty;
 use crate::effect::Effect;
 use crate::limits::MOST_LOTS;
 use crate::parties::Parties;
 use crate::parties::nobody;
 use crate::parties::parties_good;
 use crate::parties::parties_of;
+use crate::running::empty;
 use codes::code::Code;
 use codes::refusal::Refusal;
 use message::reply::Reply;

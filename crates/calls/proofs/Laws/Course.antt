@@ -7,7 +7,8 @@ use Rattle.session.specs.declared.counters.Lot.{Lot}
 use Rattle.session.specs.declared.counters.Counters.{Counters}
 use Rattle.session.specs.declared.effect.Effect.{Effect}
 use Rattle.session.specs.Limits.{mostLotDocuments}
-use Rattle.session.specs.Running.{Running, gather}
+use Rattle.session.specs.declared.running.Running.{Running}
+use Rattle.session.specs.Running.{gather}
 use Rattle.session.specs.Premise.{Fits, CountersSound}
 use Rattle.calls.specs.Inner.Course.{Countable}
 

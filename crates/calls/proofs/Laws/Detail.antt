@@ -7,7 +7,8 @@ use Rattle.amounts.specs.Totals.{zeros}
 use Rattle.codes.specs.Chain.{_when_, _orelse_}
 use Rattle.codes.proofs.Laws.Chain.{none-both, rest-same}
 use Rattle.session.specs.Limits.{passesLot}
-use Rattle.session.specs.Running.{Running, documentsIn}
+use Rattle.session.specs.declared.running.Running.{Running}
+use Rattle.session.specs.Running.{documentsIn}
 
 module _ (bytes place : ℕ) (t adds meant : Running) (read : adds ≡ cond (eqb bytes 0) meant zeros) where
   abbrev rest : Running → ℕ

@@ -4,7 +4,7 @@ use mathlib.Core.Bool.{Bool, true}
 use Rattle.session.specs.declared.counters.Counters.{Counters}
 use Rattle.session.specs.declared.effect.Effect.{Effect}
 use Rattle.session.specs.Limits.{mostLotDocuments}
-use Rattle.session.specs.Running.{Running}
+use Rattle.session.specs.declared.running.Running.{Running}
 use Rattle.session.specs.Premise.{Fits, CountersSound, PendingSound, PendingCarried}
 
 pub record Countable (effect : Effect) (accepted : Bool) (c : Counters) (t : Running) : Type 0 where

@@ -25,7 +25,8 @@ use Rattle.message.proofs.Laws.Line.{body-length}
 use Rattle.session.specs.declared.effect.Effect.{Effect}
 use Rattle.session.specs.declared.session.Session.{Session}
 use Rattle.session.specs.Parties.{presentingRoute}
-use Rattle.session.specs.Running.{Running, empty}
+use Rattle.session.specs.declared.running.Running.{Running}
+use Rattle.session.specs.Running.{empty}
 use Rattle.session.specs.Outcome.{Outcome, noRoom, held}
 use Rattle.session.specs.Time.{timeRefusal}
 use Rattle.session.specs.Sending.{isPending, nextEnvelope, sendRefusal, sent, posted, send}

@@ -23,7 +23,8 @@ use Rattle.session.specs.declared.effect.Effect.{Effect}
 use Rattle.session.specs.declared.parties.Parties.{Parties}
 use Rattle.session.specs.declared.session.Receiving.{Receiving}
 use Rattle.session.specs.Limits.{mostLots}
-use Rattle.session.specs.Running.{Running, empty}
+use Rattle.session.specs.declared.running.Running.{Running}
+use Rattle.session.specs.Running.{empty}
 use Rattle.session.specs.Course.{course, reopened, advance, ends, kept}
 use Rattle.session.specs.Receiving.{receivedCode, receivedEffect}
 use Rattle.session.specs.Premise.{OpenSound}

@@ -17,7 +17,7 @@ use Rattle.message.proofs.Laws.Envelope.{whole-length}
 use Rattle.session.specs.declared.session.Receiving.{Receiving}
 use Rattle.session.specs.declared.session.Session.{Session}
 use Rattle.session.specs.Parties.{receivingRoute}
-use Rattle.session.specs.Running.{Running}
+use Rattle.session.specs.declared.running.Running.{Running}
 use Rattle.session.specs.Outcome.{Held, held, seenAt, withReceiving}
 use Rattle.session.specs.Receiving.{earnedCode, receivingCourse, receivingAfter, isNext, isExpected, afterNew, afterRepeat, receiveRefusal, replying, receive}
 use Rattle.session.proofs.Laws.Refusals.{ReceiveTold, receive-told, last-told}

@@ -10,7 +10,7 @@ use Rattle.message.specs.declared.content.Content.{Content}
 use Rattle.session.specs.declared.effect.Effect.{Effect}
 use Rattle.session.specs.declared.parties.Parties.{Parties}
 use Rattle.session.specs.declared.session.Receiving.{Receiving}
-use Rattle.session.specs.Running.{Running}
+use Rattle.session.specs.declared.running.Running.{Running}
 use Rattle.session.specs.Receiving.{receivedCode, receivedEffect}
 use Rattle.receiving.specs.declared.earned.Found.{Found}
 

@@ -7,7 +7,7 @@ use Rattle.message.specs.Limits.{largestSerial}
 use Rattle.session.specs.declared.parties.Parties.{Parties}
 use Rattle.session.specs.declared.session.Receiving.{Receiving}
 use Rattle.session.specs.Limits.{mostLotDocuments, mostLots}
-use Rattle.session.specs.Running.{Running}
+use Rattle.session.specs.declared.running.Running.{Running}
 use Rattle.session.specs.Premise.{Fits, CountersSound}
 
 pub record Lent (p : Parties) (t : Running) (r : Receiving) : Type 0 where

@@ -15,7 +15,6 @@ use Rattle.codes.specs.Body.{operationOf}
 use Rattle.codes.proofs.Laws.Chain.{none-test, none-both, passed, none-held, held}
 use Rattle.document.specs.Limits.{documentBytes}
 use Rattle.document.specs.Fields.{amountsGood}
-use Rattle.document.specs.Amounts.{totalsOf}
 use Rattle.document.proofs.Laws.Amounts.{totals-below}
 use Rattle.detail.specs.Codes.{receiverCode, presenterCode}
 use Rattle.detail.specs.Groups.{documents}
@@ -35,7 +34,8 @@ use Rattle.session.specs.declared.session.Receiving.{Receiving}
 use Rattle.session.specs.Limits.{mostLotDocuments, mostLots, passesLot, lotsUsed}
 use Rattle.session.specs.Hours.{presenterLate, receiverLate}
 use Rattle.session.specs.Parties.{receivingRoute, representedBy}
-use Rattle.session.specs.Running.{Running, empty, gather, detailAdds, documentsIn}
+use Rattle.session.specs.declared.running.Running.{Running}
+use Rattle.session.specs.Running.{empty, gather, detailAdds, documentsIn}
 use Rattle.session.specs.Course.{course}
 use Rattle.session.specs.Sequence.{isOpen, isOpenLot, headerSequence, lotSequence, lotTotalSequence}
 use Rattle.session.specs.Sending.{headerStop, detailStop, lotTotalStop, partAdds, openNumber, endingLot}
@@ -43,7 +43,7 @@ use Rattle.session.specs.Receiving.{acceptedLots, numberUsed, headerCode
 use Rattle.session.specs.Premise.{Fits, PendingSound, PendingCarried}
 
 -- amounts of digits fit, and add
-documents-fit : (operation receiving : ℕ) (ds : List (List ℕ)) → every (amountsGood operation receiving) ds ≡ true → Fits (length ds) (totalsOf ds)
+documents-fit : (operation receiving : ℕ) (ds : List (List ℕ)) → every (amountsGood operation receiving) ds ≡ true → Fits (length ds) (detailAdds operation ds)
 documents-fit operation receiving ds e = let t = totals-below operation receiving ds e in record { documents = omega (arith, t .0); nominal = omega (arith, t .0, t .1); commission = omega (arith, t .0, t .2) }
 
 pub fits-gather : (m n most : ℕ) (a b : Running) → documentsIn a + documentsIn b ≤ most → Fits m a → Fits n b → Fits most (gather a b)

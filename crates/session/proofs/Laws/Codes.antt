@@ -12,7 +12,7 @@ use Rattle.message.specs.declared.content.Content.{Content}
 use Rattle.message.specs.Layout.{Layout, bodyCode}
 use Rattle.session.specs.declared.parties.Parties.{Parties}
 use Rattle.session.specs.declared.session.Receiving.{Receiving}
-use Rattle.session.specs.Running.{Running}
+use Rattle.session.specs.declared.running.Running.{Running}
 use Rattle.session.specs.Sequence.{headerSequence, lotSequence, lotTotalSequence, sessionTotalSequence}
 use Rattle.session.specs.Receiving.{headerCode, detailCode, lotTotalCode, sessionTotalCode, receivedCode}
 

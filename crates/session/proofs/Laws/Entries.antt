@@ -26,7 +26,7 @@ use Rattle.message.proofs.Laws.Line.{content-told}
 use Rattle.session.specs.declared.counters.Counters.{Counters}
 use Rattle.session.specs.declared.counters.Lot.{Lot}
 use Rattle.session.specs.declared.counters.Course.{Course}
-use Rattle.session.specs.Running.{Running}
+use Rattle.session.specs.declared.running.Running.{Running}
 use Rattle.session.specs.Sending.{openNumber, endingLot}
 use Rattle.session.specs.Ledger.{LedgerLot, Ledger, Entry, receivedEntry, bodyEntry, partEntry, ofOperation}
 use Rattle.session.proofs.Laws.Ledger.{summary, openOf, runningOf, lotOf}

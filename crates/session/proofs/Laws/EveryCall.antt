@@ -10,13 +10,12 @@ use lib.Seq.{length-sets}
 use Rattle.message.specs.Envelope.{envelopeOf, bodyOf}
 use Rattle.message.specs.Line.{wholeReply}
 use Rattle.session.specs.Parties.{Direction, opposite}
-use Rattle.session.specs.declared.counters.OpenLot.{OpenLot}
 use Rattle.session.specs.declared.effect.Effect.{Effect}
 use Rattle.session.specs.declared.session.Close.{Close}
 use Rattle.session.specs.declared.session.Presenting.{Presenting}
 use Rattle.session.specs.declared.session.Receiving.{Receiving}
 use Rattle.session.specs.declared.session.Session.{Session}
-use Rattle.session.specs.Running.{Running}
+use Rattle.session.specs.declared.running.Running.{Running}
 use Rattle.session.specs.Outcome.{Held, Outcome, refused, decided, silent, wrote, held, withPresenting, withReceiving}
 use Rattle.session.specs.Hours.{atClose}
 use Rattle.session.specs.Time.{timeRefusal, clockRefusal}
@@ -195,10 +194,9 @@ keeps Call.report h g = g
 -- What the other direction carries it carries on, since its record stays.
 other-carried : (d : Direction) (before after : Session) → OtherSide d before after → (t : Running) → Carried (opposite d) before t → Carried (opposite d) after t
 other-carried Direction.presenting before after same t g =
-    record { none-open = λ (q : after .receiving .counters .current ≡ OpenLot.None). g .none-open (ap (λ (x : Receiving). x .counters .current) (sym same) ∙ q); fits = g .fits; pending = tt }
+    record { fits = g .fits; pending = tt }
 other-carried Direction.receiving before after same t g =
     record {
-      none-open = λ (q : after .presenting .counters .current ≡ OpenLot.None). g .none-open (ap (λ (x : Presenting). x .counters .current) (sym same) ∙ q);
       fits = g .fits;
       pending = subst (λ (x : Presenting). PendingCarried (x .pending) t) (sym same) (g .pending);
     }

@@ -18,7 +18,8 @@ use Rattle.session.specs.declared.counters.Course.{Course}
 use Rattle.session.specs.declared.effect.Effect.{Effect}
 use Rattle.session.specs.declared.session.Presenting.{Presenting}
 use Rattle.session.specs.declared.session.Receiving.{Receiving}
-use Rattle.session.specs.Running.{Running, empty}
+use Rattle.session.specs.declared.running.Running.{Running}
+use Rattle.session.specs.Running.{empty}
 use Rattle.session.specs.Receiving.{acceptedLots}
 use Rattle.session.specs.Ledger.{LedgerLot, Ledger, Entry, enter, bodyEntry, lotSum, numbers, Distinct}
 use Rattle.session.specs.Engine.{Call}

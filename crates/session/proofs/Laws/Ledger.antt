@@ -10,7 +10,8 @@ use Rattle.session.specs.declared.counters.OpenLot.{OpenLot}
 use Rattle.session.specs.declared.counters.Lot.{Lot}
 use Rattle.session.specs.declared.counters.Course.{Course}
 use Rattle.session.specs.declared.effect.Effect.{Effect}
-use Rattle.session.specs.Running.{Running, empty, gather, detailAdds}
+use Rattle.session.specs.declared.running.Running.{Running}
+use Rattle.session.specs.Running.{empty, gather, detailAdds}
 use Rattle.session.specs.Course.{advance}
 use Rattle.session.specs.Sequence.{isOpen}
 use Rattle.session.proofs.Laws.Running.{gather-empty, empty-gather, gather-assoc, adds-none, adds-one}

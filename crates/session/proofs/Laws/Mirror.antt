@@ -23,7 +23,7 @@ use Rattle.session.specs.declared.parties.Parties.{Parties}
 use Rattle.session.specs.declared.session.Receiving.{Receiving}
 use Rattle.session.specs.Hours.{receiverLate}
 use Rattle.session.specs.Parties.{receivingRoute}
-use Rattle.session.specs.Running.{Running}
+use Rattle.session.specs.declared.running.Running.{Running}
 use Rattle.session.specs.Course.{advance, kept}
 use Rattle.session.specs.Sequence.{isOpen, headerSequence}
 use Rattle.session.specs.Sending.{openNumber}

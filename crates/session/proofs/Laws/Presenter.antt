@@ -31,7 +31,7 @@ use Rattle.session.specs.declared.counters.Course.{Course}
 use Rattle.session.specs.declared.effect.Effect.{Effect}
 use Rattle.session.specs.declared.session.Presenting.{Presenting}
 use Rattle.session.specs.Parties.{presentingRoute, Direction}
-use Rattle.session.specs.Running.{Running}
+use Rattle.session.specs.declared.running.Running.{Running}
 use Rattle.session.specs.Course.{advance}
 use Rattle.session.specs.Sequence.{isOpen}
 use Rattle.session.specs.Outcome.{Held, Outcome, silent}

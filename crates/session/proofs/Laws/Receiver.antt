@@ -24,7 +24,7 @@ use Rattle.session.specs.declared.counters.OpenLot.{OpenLot}
 use Rattle.session.specs.declared.effect.Effect.{Effect}
 use Rattle.session.specs.declared.session.Receiving.{Receiving}
 use Rattle.session.specs.Limits.{mostLots}
-use Rattle.session.specs.Running.{Running}
+use Rattle.session.specs.declared.running.Running.{Running}
 use Rattle.session.specs.Sequence.{isOpen}
 use Rattle.session.specs.Outcome.{Held, Outcome}
 use Rattle.session.specs.Time.{clockRefusal}

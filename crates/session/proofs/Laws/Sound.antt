@@ -1,6 +1,6 @@
 -- The premise is kept: a start gives a sound session with empty running totals, and every call keeps both parts, whatever its arguments.
-use mathlib.Core.Path.{_≡_, refl, ap, sym, subst, _∙_}
-use mathlib.Core.Bool.{Bool, true, false, cond, false≢true}
+use mathlib.Core.Path.{_≡_, refl, sym, subst, _∙_}
+use mathlib.Core.Bool.{Bool, true, false, cond}
 use mathlib.Core.List.{List}
 use Prim.Native.Nat.{ℕ, suc, _*_, _<_}
 use native.Mathlib.Omega.{arith}
@@ -23,9 +23,9 @@ use Rattle.session.specs.declared.session.Close.{Close}
 use Rattle.session.specs.declared.session.Session.{Session}
 use Rattle.session.specs.Limits.{mostLotDocuments, mostLots}
 use Rattle.session.specs.Parties.{partiesGood, partiesOf, nobody, Direction}
-use Rattle.session.specs.Running.{Running, empty}
+use Rattle.session.specs.declared.running.Running.{Running}
+use Rattle.session.specs.Running.{empty}
 use Rattle.session.specs.Course.{advance, kept, course}
-use Rattle.session.specs.Sequence.{isOpen}
 use Rattle.session.specs.Start.{noLots, fresh, started, start}
 use Rattle.session.specs.Outcome.{Held, Outcome, silent, held}
 use Rattle.session.specs.Time.{clockRefusal}
@@ -48,12 +48,7 @@ pub record Premise (d : Direction) (h : Held) : Type 0 where
 -- a direction's counters with the running totals lent for it
 pub record CourseSound (k : Course) : Type 0 where
   pub counters : CountersSound (k .counters)
-  pub none-open : k .counters .current ≡ OpenLot.None → k .running ≡ empty
   pub fits : Fits mostLotDocuments (k .running)
-
--- a lot that is open is not none
-none-while-open : (lot : OpenLot) {A : Type 0} → isOpen lot ≡ true → lot ≡ OpenLot.None → A
-none-while-open lot o e = absurd (false≢true (sym (ap isOpen e) ∙ o))
 
 -- counters that advance by what may be accepted stay sound
 pub advanced : (effect : Effect) (accepted : Bool) (k : Course) → CourseSound k → (accepted ≡ true → Allowed effect k) → CourseSound (advance effect accepted k)
@@ -62,12 +57,11 @@ advanced (Effect.Header n) true k s h =
     let a = h refl in
     record {
       counters = record { lots = s .counters .lots; open-lot = a .sound; gathered = s .counters .gathered };
-      none-open = λ (e : OpenLot.Numbered n ≡ OpenLot.None). refl;
       fits = fits-empty mostLotDocuments;
     }
 advanced (Effect.Detail more) true k s h =
     let a = h refl in
-    record { counters = s .counters; none-open = λ (e : k .counters .current ≡ OpenLot.None). none-while-open (k .counters .current) (a .sound) e; fits = a .carried }
+    record { counters = s .counters; fits = a .carried }
 advanced (Effect.LotTotal lot) true k s h =
     let a = h refl in
     let room : OpenSound (OpenLot.Numbered (lot .number)) (k .counters .lots) = subst (λ (o : OpenLot). OpenSound o (k .counters .lots)) (a .sound) (s .counters .open-lot) in
@@ -75,13 +69,11 @@ advanced (Effect.LotTotal lot) true k s h =
     let f : Fits mostLotDocuments (lot .gathered) = subst (Fits mostLotDocuments) (sym (a .carried)) (s .fits) in
     record {
       counters = record { lots = omega (arith, room .1); open-lot = tt; gathered = fits-gather (k .counters .lots * mostLotDocuments) mostLotDocuments (suc (k .counters .lots) * mostLotDocuments) (k .counters .gathered) (lot .gathered) (omega (arith, g .documents, f .documents)) g f };
-      none-open = λ (e : OpenLot.None ≡ OpenLot.None). refl;
       fits = fits-empty mostLotDocuments;
     }
 advanced (Effect.LotTotal lot) false k s h =
     record {
       counters = record { lots = s .counters .lots; open-lot = tt; gathered = s .counters .gathered };
-      none-open = λ (e : OpenLot.None ≡ OpenLot.None). refl;
       fits = fits-empty mostLotDocuments;
     }
 advanced (Effect.Header n) false k s h = s
@@ -90,17 +82,17 @@ advanced Effect.SessionTotal accepted k s h = s
 advanced Effect.Nothing accepted k s h = s
 
 presenting-course : (h : Held) → Premise Direction.presenting h → CourseSound (course (h .session .presenting .counters) (h .running))
-presenting-course h g = record { counters = g .sound .presenting; none-open = g .carried .none-open; fits = g .carried .fits }
+presenting-course h g = record { counters = g .sound .presenting; fits = g .carried .fits }
 
 receiving-course : (h : Held) → Premise Direction.receiving h → CourseSound (course (h .session .receiving .counters) (h .running))
-receiving-course h g = record { counters = g .sound .receiving; none-open = g .carried .none-open; fits = g .carried .fits }
+receiving-course h g = record { counters = g .sound .receiving; fits = g .carried .fits }
 
 -- a send, by what its own code lets pass; each part of the premise for itself, for the calls that are lent no running totals
 sent-sound : (time : ℕ) (effect : Effect) (s : Session) → Sound s → s .presenting .serial < largestSerial → PendingSound effect (s .presenting .counters) → Sound (sent time effect s)
-sent-sound time effect s g more a = record { parties = g .parties; sent = omega (arith, more); received = g .received; presenting = g .presenting; receiving = g .receiving; pending = a; places = g .places }
+sent-sound time effect s g more a = record { parties = g .parties; received = g .received; presenting = g .presenting; receiving = g .receiving; pending = a; places = g .places }
 
 sent-carried : (time : ℕ) (effect : Effect) (s : Session) (t : Running) → Carried Direction.presenting s t → PendingCarried effect t → Carried Direction.presenting (sent time effect s) t
-sent-carried time effect s t g a = record { none-open = g .none-open; fits = g .fits; pending = a }
+sent-carried time effect s t g a = record { fits = g .fits; pending = a }
 
 module _ (time code : ℕ) (effect : Effect) (body : List ℕ) (h : Held) where
   abbrev bytes : List ℕ
@@ -158,8 +150,8 @@ reply-keeps time bytes h g =
     let p = h .session .presenting in
     let after = advanced (p .pending) (isAccepted bytes) (record { counters = p .counters; running = h .running }) (presenting-course h g) (λ (t : isAccepted bytes ≡ true). record { sound = g .sound .pending; carried = g .carried .pending }) in
     record {
-      sound = record { parties = g .sound .parties; sent = g .sound .sent; received = g .sound .received; presenting = after .counters; receiving = g .sound .receiving; pending = tt; places = g .sound .places };
-      carried = record { none-open = after .none-open; fits = after .fits; pending = tt };
+      sound = record { parties = g .sound .parties; received = g .sound .received; presenting = after .counters; receiving = g .sound .receiving; pending = tt; places = g .sound .places };
+      carried = record { fits = after .fits; pending = tt };
     })
 
 -- a message, whatever its bytes
@@ -184,14 +176,13 @@ handled-keeps time bytes h g known next =
       sound =
           record {
             parties = g .sound .parties;
-            sent = g .sound .sent;
             received = omega (arith, serial-told Kind.Message bytes (known .good) .1, eqb-true (serialOf bytes) (suc (r .serial)) next);
             presenting = g .sound .presenting;
             receiving = after .counters;
             pending = g .sound .pending;
             places = kept-length effect (eqb code 0) (r .counters .lots) (r .lots) ∙ g .sound .places;
           };
-      carried = record { none-open = after .none-open; fits = after .fits; pending = tt };
+      carried = record { fits = after .fits; pending = tt };
     }
 
 pub receive-keeps : (time : ℕ) (bytes : List ℕ) (h : Held) → Premise Direction.receiving h → Premise Direction.receiving (receive time bytes h .left)
@@ -208,14 +199,14 @@ receive-keeps time bytes h g =
     go true n known = handled-keeps time bytes h g known n
     go false n known =
         record {
-          sound = record { parties = g .sound .parties; sent = g .sound .sent; received = g .sound .received; presenting = g .sound .presenting; receiving = g .sound .receiving; pending = g .sound .pending; places = g .sound .places };
-          carried = record { none-open = g .carried .none-open; fits = g .carried .fits; pending = tt };
+          sound = record { parties = g .sound .parties; received = g .sound .received; presenting = g .sound .presenting; receiving = g .sound .receiving; pending = g .sound .pending; places = g .sound .places };
+          carried = record { fits = g .carried .fits; pending = tt };
         }
 
 -- a clock call, again each part for itself, and whatever running totals are carried
 ticked-carried : (time : ℕ) (d : Direction) (s : Session) (t : Running) → Carried d s t → Carried d (ticked time s) t
-ticked-carried time Direction.presenting s t g = record { none-open = g .none-open; fits = g .fits; pending = g .pending }
-ticked-carried time Direction.receiving s t g = record { none-open = g .none-open; fits = g .fits; pending = tt }
+ticked-carried time Direction.presenting s t g = record { fits = g .fits; pending = g .pending }
+ticked-carried time Direction.receiving s t g = record { fits = g .fits; pending = tt }
 
 module _ (time : ℕ) (h : Held) where
   abbrev ticking : Outcome
@@ -226,7 +217,7 @@ module _ (time : ℕ) (h : Held) where
   clock-sound g =
       either (λ (o : Outcome). Sound (o .left .session)) (clockRefusal time (h .session .seen) (h .session .close)) h ticking
       (λ (k : ℕ). g)
-      (λ (e : clockRefusal time (h .session .seen) (h .session .close) ≡ 0). record { parties = g .parties; sent = g .sent; received = g .received; presenting = g .presenting; receiving = g .receiving; pending = g .pending; places = g .places })
+      (λ (e : clockRefusal time (h .session .seen) (h .session .close) ≡ 0). record { parties = g .parties; received = g .received; presenting = g .presenting; receiving = g .receiving; pending = g .pending; places = g .places })
 
   pub clock-carried : (d : Direction) (t : Running) → Carried d (h .session) t → Carried d (clock time h .left .session) t
   unfolding clock
@@ -247,7 +238,7 @@ pub fresh-sound : (parties : Parties) (close : Close) → PartiesSound parties �
 unfolding fresh
 fresh-sound parties close p =
     let none : CountersSound noLots = record { lots = omega arith; open-lot = tt; gathered = fits-empty 0 } in
-    record { parties = p; sent = omega arith; received = omega arith; presenting = none; receiving = none; pending = tt; places = length-replicate {A = Lot} mostLots (record { number = 0; gathered = empty }) }
+    record { parties = p; received = omega arith; presenting = none; receiving = none; pending = tt; places = length-replicate {A = Lot} mostLots (record { number = 0; gathered = empty }) }
 
 pub start-sound : (date own partner : ℕ) (represented : List ℕ) → Sound (start date own partner represented .session)
 unfolding start
@@ -259,8 +250,8 @@ start-sound date own partner represented = go (partiesGood date own partner repr
 
 pub fresh-carried : (parties : Parties) (close : Close) (d : Direction) → Carried d (fresh parties close) empty
 unfolding fresh
-fresh-carried parties close Direction.presenting = record { none-open = λ (e : OpenLot.None ≡ OpenLot.None). refl; fits = fits-empty mostLotDocuments; pending = tt }
-fresh-carried parties close Direction.receiving = record { none-open = λ (e : OpenLot.None ≡ OpenLot.None). refl; fits = fits-empty mostLotDocuments; pending = tt }
+fresh-carried parties close Direction.presenting = record { fits = fits-empty mostLotDocuments; pending = tt }
+fresh-carried parties close Direction.receiving = record { fits = fits-empty mostLotDocuments; pending = tt }
 
 -- so whatever a start gives
 pub begun : (date own partner : ℕ) (represented : List ℕ) → Ready (withEmpty (start date own partner represented .session))

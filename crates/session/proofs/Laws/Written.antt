@@ -32,7 +32,8 @@ use Rattle.session.specs.declared.effect.Effect.{Effect}
 use Rattle.session.specs.declared.session.Session.{Session}
 use Rattle.session.specs.Limits.{mostLotDocuments}
 use Rattle.session.specs.Parties.{presentingRoute}
-use Rattle.session.specs.Running.{Running}
+use Rattle.session.specs.declared.running.Running.{Running}
+use Rattle.session.specs.Running.{stated}
 use Rattle.session.specs.Outcome.{Held, Outcome}
 use Rattle.session.specs.Sending.{nextEnvelope, sendRefusal, posted, send, headerStop, detailStop, openNumber, headerBody, lotTotalBody, sessionTotalBody, sendHeader, sendDetail, sendLotTotal, sendSessionTotal}
 use Rattle.session.specs.Premise.{Fits, OpenSound, Sound}
@@ -67,14 +68,14 @@ module _ (s : Session) (sound : Sound s) where
   lot-total-takes : (t : Running) → Fits mostLotDocuments t → BodyFits (nextEnvelope s) (lotTotalBody (s .presenting .counters) t)
   lot-total-takes t f =
       let c = s .presenting .counters in
-      lot-in-range (record { number = openNumber (c .current); stated = t }) (number-fits (c .current) (c .lots) (sound .presenting .open-lot)) (omega (arith, f .documents)) (omega (arith, f .documents, f .nominal)) (omega (arith, f .documents, f .commission))
+      lot-in-range (record { number = openNumber (c .current); stated = stated t }) (number-fits (c .current) (c .lots) (sound .presenting .open-lot)) (omega (arith, f .documents)) (omega (arith, f .documents, f .nominal)) (omega (arith, f .documents, f .commission))
 
   session-total-takes : BodyFits (nextEnvelope s) (sessionTotalBody (s .presenting .counters))
   session-total-takes =
       let c = s .presenting .counters in
       let f = sound .presenting .gathered in
       let lots = sound .presenting .lots in
-      session-in-range (record { number = c .lots; stated = c .gathered }) (omega (arith, lots)) (omega (arith, lots, f .documents)) (omega (arith, lots, f .documents, f .nominal)) (omega (arith, lots, f .documents, f .commission))
+      session-in-range (record { number = c .lots; stated = stated (c .gathered) }) (omega (arith, lots)) (omega (arith, lots, f .documents)) (omega (arith, lots, f .documents, f .nominal)) (omega (arith, lots, f .documents, f .commission))
 
 -- messages with a detail, whose documents are read one by one
 pub detail-read : DetailWrittenThenRead

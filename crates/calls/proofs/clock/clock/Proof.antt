@@ -2,7 +2,8 @@
 use mathlib.Core.Path.{_≡_, sym, _∙_}
 use mathlib.Core.List.{List, []}
 use Prim.Native.Nat.{ℕ}
-use Rattle.session.specs.Running.{Running, empty}
+use Rattle.session.specs.declared.running.Running.{Running}
+use Rattle.session.specs.Running.{empty}
 use Rattle.session.specs.Outcome.{answerNumber, silent, held}
 use Rattle.session.specs.Time.{clockRefusal}
 use Rattle.session.specs.Clock.{ticked, clock}

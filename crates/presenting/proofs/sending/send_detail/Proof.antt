@@ -15,7 +15,7 @@ use Rattle.message.specs.declared.envelope.Kind.{Kind}
 use Rattle.message.specs.Limits.{envelopeBytes}
 use Rattle.message.proofs.Laws.Envelope.{whole-length}
 use Rattle.session.specs.declared.effect.Effect.{Effect}
-use Rattle.session.specs.Running.{Running}
+use Rattle.session.specs.declared.running.Running.{Running}
 use Rattle.session.specs.Parties.{Direction}
 use Rattle.session.specs.Outcome.{held}
 use Rattle.session.specs.Sending.{partAdds, nextEnvelope, detailStop, sent, sendDetail}

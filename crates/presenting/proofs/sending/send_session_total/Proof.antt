@@ -12,7 +12,8 @@ use Rattle.message.proofs.Laws.Line.{body-length}
 use Rattle.amounts.specs.declared.Totals.{Totals}
 use Rattle.session.specs.declared.effect.Effect.{Effect}
 use Rattle.session.specs.Parties.{presentingRoute}
-use Rattle.session.specs.Running.{Running, empty, stated}
+use Rattle.session.specs.declared.running.Running.{Running}
+use Rattle.session.specs.Running.{empty, stated}
 use Rattle.session.specs.Outcome.{held}
 use Rattle.session.specs.Sending.{sessionTotalStop, sendSessionTotal}
 use Rattle.session.specs.Premise.{Kept}
