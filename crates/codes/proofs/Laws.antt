@@ -3,5 +3,6 @@ pub mod Numbered
 pub mod Code
 pub mod Refusal
 pub mod Chain
+pub mod Listed
 pub mod Field
 pub mod Table

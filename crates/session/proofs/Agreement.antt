@@ -2,8 +2,8 @@
 -- call is made at either, so they are joined after every list; and joined ends agree as the claim says.
 use mathlib.Core.Path.{_≡_, refl, ap, sym, subst, _∙_}
 use mathlib.Core.Bool.{Bool, true, false, cond, false≢true}
-use mathlib.Core.List.{List, [], _∷_, _++_}
-use mathlib.Core.Logic.{_⊎_, inl, inr}
+use mathlib.Core.List.{List, [], _∷_}
+use mathlib.Core.Logic.{inl}
 use mathlib.Core.Option.{Option, none, some, Option·none-ne-some}
 use Prim.Native.Nat.{ℕ}
 use lib.Dec.{eqb, lit<}
@@ -22,15 +22,15 @@ use Rattle.session.specs.Sequence.{isOpen}
 use Rattle.session.specs.Start.{fresh, started, start}
 use Rattle.session.specs.Report.{tally, awaited, report}
 use Rattle.session.specs.Premise.{PendingSound}
-use Rattle.session.specs.Ledger.{LedgerLot, Ledger, Entry, blank, enter, moved, lotSum, lotsSum, tallied}
+use Rattle.session.specs.Ledger.{LedgerLot, Ledger, Entry, blank, enter, moved, lotsSum, tallied}
 use Rattle.session.specs.Engine.{Call, Engine, performed, saidBy, withEmpty, Ready}
 use Rattle.session.specs.Ends.{End, other, Event, World, Step, replaced, act, run, Brought, Possible, engines, begun, StartsAccepted}
 use Rattle.session.specs.Entering.{Waiting, namedLot, namedBy, awaitedBy, toBeNamed, PresenterLedger, unpresented, ReceiverLedger, presenterEnters, receiverEnters, presenterLedgerAt, receiverLedgerAt}
-use Rattle.session.specs.Claim.{oneMore, confirmed, counted, reportAt, presentedTally, receivedTally, Level, Ahead, JustReplied, Agreement, AfterAnyCalls, BothEndsTogether}
+use Rattle.session.specs.Claim.{confirmed, counted, reportAt, presentedTally, receivedTally, Level, Beyond, JustReplied, Agreement, AfterAnyCalls, BothEndsTogether}
 use Rattle.session.proofs.Laws.Parties.{Told, told}
-use Rattle.session.proofs.Laws.Ledger.{openOf, lotOf, lots-last, one-longer}
+use Rattle.session.proofs.Laws.Ledger.{openOf, lotOf, effectOf}
 use Rattle.session.proofs.Laws.Line.{accepts}
-use Rattle.session.proofs.Laws.Joined.{pendingAs, waitingEffect, Link, Joined, PresentingEnd, ReceivingEnd, presentingEnd, receivingEnd}
+use Rattle.session.proofs.Laws.Joined.{waitingEffect, Link, Joined, PresentingEnd, ReceivingEnd, presentingEnd, receivingEnd}
 use Rattle.session.proofs.Laws.Steps.{every-end, both-ends, at-its-end}
 use Rattle.session.proofs.Laws.Presenter.{presenter-step}
 use Rattle.session.proofs.Laws.Receiver.{receiver-step}
@@ -191,58 +191,39 @@ module _ (w : World) (all : Whole w) (p : End) where
       lot none h = absurd (false≢true (ap isOpen h))
       lot (some l) h = refl
 
-      by-entry : (d : Entry) → PendingSound (pendingAs d (bp .ledger)) (e .session .presenting .counters) → awaited (pendingAs d (bp .ledger)) ≡ namedBy d (bp .ledger .current)
+      by-entry : (d : Entry) → PendingSound (effectOf d (bp .ledger)) (e .session .presenting .counters) → awaited (effectOf d (bp .ledger)) ≡ namedBy d (bp .ledger .current)
       by-entry (Entry.header number) s = refl
       by-entry (Entry.detail ds) s = refl
       by-entry Entry.lotTotal s = lot (bp .ledger .current) (sym same-open ∙ s)
       by-entry Entry.sessionTotal s = refl
-      by-entry Entry.unknown s = refl
 
       go : (waiting : Option Waiting) → PendingSound (waitingEffect waiting (bp .ledger)) (e .session .presenting .counters) → awaited (waitingEffect waiting (bp .ledger)) ≡ awaitedBy waiting (bp .ledger .current)
       go none s = refl
       go (some m) s = by-entry (m .entry) s
 
-  level : counted w p ≡ confirmed w p → Level w p
-  level same = record { lots = same; totals = received ∙ ap tallied same ∙ sym presented }
-
-  ahead : (l : LedgerLot) → bp .ledger .current ≡ some l → toBeNamed bp ≡ Awaited.LotTotal (lotSum l) → counted w p ≡ confirmed w p ++ l ∷ [] → Ahead w p
-  ahead l current names more =
-      record {
-        lot = l;
-        unconfirmed = current;
-        named = named ∙ names;
-        lots = more;
-        totals =
-            received
-            ∙ ap tallied more
-            ∙ (λ i. record { lots = one-longer (confirmed w p) l i; gathered = lots-last (confirmed w p) l i })
-            ∙ ap (oneMore (lotSum l)) (sym presented);
-      }
-
-  agreed : Level w p ⊎ Ahead w p
+  agreed : Beyond w p
   unfolding enter
   agreed = go (all .joined p .link)
     where
       lots-of : {a b : Ledger} → a ≡ b → a .lots ≡ b .lots
       lots-of h = ap (λ (l : Ledger). l .lots) h
 
-      ended : (current : Option LedgerLot) → toBeNamed bp ≡ namedLot (bp .ledger .current) → bp .ledger .current ≡ current → counted w p ≡ moved (confirmed w p) current → Level w p ⊎ Ahead w p
-      ended none n c h = inl (level h)
-      ended (some l) n c h = inr (ahead l c (n ∙ ap namedLot c) h)
+      ended : (current : Option LedgerLot) → toBeNamed bp ≡ namedLot (bp .ledger .current) → bp .ledger .current ≡ current → counted w p ≡ moved (confirmed w p) current → Beyond w p
+      ended none n c h = Beyond.nothing h
+      ended (some l) n c h = Beyond.oneLot l (record { unconfirmed = c; shown = named ∙ n ∙ ap namedLot c }) h
 
-      entered : (d : Entry) (accepted : Bool) → toBeNamed bp ≡ namedBy d (bp .ledger .current) → br .ledger ≡ enter d accepted (bp .ledger) → Level w p ⊎ Ahead w p
-      entered (Entry.header number) true w h = inl (level (lots-of h))
-      entered (Entry.header number) false w h = inl (level (lots-of h))
-      entered (Entry.detail ds) true w h = inl (level (lots-of h))
-      entered (Entry.detail ds) false w h = inl (level (lots-of h))
+      entered : (d : Entry) (accepted : Bool) → toBeNamed bp ≡ namedBy d (bp .ledger .current) → br .ledger ≡ enter d accepted (bp .ledger) → Beyond w p
+      entered (Entry.header number) true w h = Beyond.nothing (lots-of h)
+      entered (Entry.header number) false w h = Beyond.nothing (lots-of h)
+      entered (Entry.detail ds) true w h = Beyond.nothing (lots-of h)
+      entered (Entry.detail ds) false w h = Beyond.nothing (lots-of h)
       entered Entry.lotTotal true w h = ended (bp .ledger .current) w refl (lots-of h)
-      entered Entry.lotTotal false w h = inl (level (lots-of h))
-      entered Entry.sessionTotal accepted w h = inl (level (lots-of h))
-      entered Entry.unknown accepted w h = inl (level (lots-of h))
+      entered Entry.lotTotal false w h = Beyond.nothing (lots-of h)
+      entered Entry.sessionTotal accepted w h = Beyond.nothing (lots-of h)
 
-      go : Link (e .session .presenting) (f .session .receiving) (bp .waiting) (bp .ledger) (br .ledger) → Level w p ⊎ Ahead w p
-      go (Link.idle w s b) = inl (level (lots-of (sym b)))
-      go (Link.sent d w s b) = inl (level (lots-of (sym b)))
+      go : Link (e .session .presenting) (f .session .receiving) (bp .waiting) (bp .ledger) (br .ledger) → Beyond w p
+      go (Link.idle w s b) = Beyond.nothing (lots-of (sym b))
+      go (Link.sent d w s b) = Beyond.nothing (lots-of (sym b))
       go (Link.taken m w s b o) = entered (m .entry) (accepts (f .session .receiving .reply .code)) (ap (λ (o : Option Waiting). awaitedBy o (bp .ledger .current)) w) b
 
   settled : JustReplied w p → (reportAt w p .awaited ≡ Awaited.Neither) × Level w p
@@ -252,7 +233,7 @@ module _ (w : World) (all : Whole w) (p : End) where
       waits = ap (λ (trace : List Event). presenterLedgerAt p trace .waiting) (just .latest) ∙ ap (λ (b : PresenterLedger). b .waiting) (at-its-end p (Call.reply (just .time) (just .bytes)) 0 (just .said) (just .earlier) refl)
 
       go : Link (e .session .presenting) (f .session .receiving) (bp .waiting) (bp .ledger) (br .ledger) → Level w p
-      go (Link.idle h s b) = level (ap (λ (l : Ledger). l .lots) (sym b))
+      go (Link.idle h s b) = ap (λ (l : Ledger). l .lots) (sym b)
       go (Link.sent d h s b) = absurd (Option·none-ne-some d (sym waits ∙ h))
       go (Link.taken d h s b o) = absurd (Option·none-ne-some d (sym waits ∙ h))
 

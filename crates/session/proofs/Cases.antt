@@ -1,6 +1,7 @@
--- 01, 'Cases': the starred ones, each beside what the paper says of it: one table, one theorem. A second table has what else decides a number, a start
--- among it, and the closes.
+-- 01, 'Cases': the starred ones, each beside what the paper says of it: one table, one theorem. A second table has 07 clause by clause, a third what else
+-- decides a number, a start among it, and the closes.
 use mathlib.Core.Path.{refl}
+use mathlib.Core.Bool.{true, false}
 use mathlib.Core.List.{List, [], _∷_, _++_}
 use Prim.Native.Nat.{ℕ}
 use lib.ListN.{drop, replicate}
@@ -16,11 +17,13 @@ use Rattle.detail.specs.declared.checked.Checked.{Checked}
 use Rattle.detail.specs.Checked.{fourNumbers, programChecked}
 use Rattle.detail.proofs.Cases.{printed}
 use Rattle.session.specs.declared.counters.Counters.{Counters}
+use Rattle.session.specs.declared.counters.OpenLot.{OpenLot}
 use Rattle.session.specs.declared.session.Close.{Close}
-use Rattle.session.specs.Running.{adding, documentsIn}
+use Rattle.session.specs.Running.{empty, adding, documentsIn}
+use Rattle.session.specs.Sequence.{headerSequence, lotSequence, lotTotalSequence, sessionTotalSequence}
 use Rattle.session.specs.Start.{start}
 use Rattle.session.specs.Outcome.{seenAt, withPresenting, withReceiving}
-use Rattle.session.specs.Sending.{openNumber}
+use Rattle.session.specs.Sending.{openNumber, Send}
 use Rattle.session.specs.Engine.{Call, Engine, Performed, performed, saidBy, withEmpty}
 use Rattle.session.specs.Ends.{End}
 use Rattle.session.proofs.Examples.{computing, buffer, moment, Sent, messageFrom, replyTo, sending, receiving, replied}
@@ -208,6 +211,39 @@ withDrawee b = Sent.detail presentedNumber (drop headBytes (with-byte 37 b print
 abbrev strange : Call
 strange = Call.receive 80000 (with-byte 15 0x02 (messageFrom End.near 1 (Sent.header 7)))
 
+-- no lot is open, and lot 7 is
+abbrev pub none : OpenLot
+none = OpenLot.None
+
+abbrev pub seven : OpenLot
+seven = OpenLot.Numbered 7
+
+-- 07, clause by clause: what the definitions of a message's place give. The rows of calls below, and those of Order and Runs, cite the definitions.
+places :
+    let cases : List (Case ℕ) =
+    -- a header, and a session total: after the end, in a lot, between lots
+    headerSequence true none is 7
+    ∷ headerSequence false seven is 7
+    ∷ headerSequence false none is 0
+    ∷ sessionTotalSequence true none is 7
+    ∷ sessionTotalSequence false seven is 7
+    ∷ sessionTotalSequence false none is 0
+    -- a detail, and a lot total as its presenter asks for it: after the end, with no lot open, in a lot
+    ∷ lotSequence true none is 7
+    ∷ lotSequence false none is 7
+    ∷ lotSequence false seven is 0
+    -- a lot total as its receiver does: after the end, with no lot open, of another lot, with no detail, in its place
+    ∷ lotTotalSequence true 7 none empty is 7
+    ∷ lotTotalSequence false 7 none empty is 7
+    ∷ lotTotalSequence false 8 seven (adding presented (totals 1 15000 30)) is 7
+    ∷ lotTotalSequence false 7 seven empty is 7
+    ∷ lotTotalSequence false 7 seven (adding presented (totals 1 15000 30)) is 0
+    ∷ []
+    in
+    AllDue cases
+unfolding computing
+places = refl
+
 -- Beside the starred cases, every other number that the state, the clock, the line or the buffer decides, each where it begins and where it does
 -- not yet, and every close: one table, one theorem.
 every-number :
@@ -240,23 +276,23 @@ every-number :
     ∷ numberInRoom 15 receiver (arriving 80000 1 (Sent.header 7)) is Answer.number 23
     ∷ numberInRoom 16 receiver (arriving 80000 1 (Sent.header 7)) is Answer.number 0
     -- 01 and 07 of a presenter's own calls
-    ∷ numberOf presenter (Call.header 80000 24000000 1 7) is Answer.number 1
-    ∷ numberOf presenter (Call.header 80000 moment 1 0) is Answer.number 1
-    ∷ numberOf presenter (Call.detail 80000 31 (drop headBytes printed)) is Answer.number 1
-    ∷ numberOf openPresenter (sending 80000 (Sent.header 8)) is Answer.number 7
-    ∷ numberOf presenter (sending 80000 detail) is Answer.number 7
-    ∷ numberOf presenter (sending 80000 (total 7)) is Answer.number 7
-    ∷ numberOf openPresenter (sending 80000 (Sent.sessionTotal 0 zeros)) is Answer.number 7
+    ∷ numberOf presenter (Call.send 80000 (Send.header 24000000 1 7)) is Answer.number 1
+    ∷ numberOf presenter (Call.send 80000 (Send.header moment 1 0)) is Answer.number 1
+    ∷ numberOf presenter (Call.send 80000 (Send.detail 31 (drop headBytes printed))) is Answer.number 1
+    ∷ numberOf openPresenter (sending 80000 (Sent.header 8)) is Answer.number (headerSequence false seven)
+    ∷ numberOf presenter (sending 80000 detail) is Answer.number (lotSequence false none)
+    ∷ numberOf presenter (sending 80000 (total 7)) is Answer.number (lotSequence false none)
+    ∷ numberOf openPresenter (sending 80000 (Sent.sessionTotal 0 zeros)) is Answer.number (sessionTotalSequence false seven)
     ∷ numberOf openPresenter (sending 80000 (total 7)) is Answer.number 0
-    ∷ numberOf endedPresenter (sending 80000 (Sent.header 7)) is Answer.number 7
-    ∷ numberOf endedPresenter (sending 80000 (Sent.sessionTotal 0 zeros)) is Answer.number 7
+    ∷ numberOf endedPresenter (sending 80000 (Sent.header 7)) is Answer.number (headerSequence true none)
+    ∷ numberOf endedPresenter (sending 80000 (Sent.sessionTotal 0 zeros)) is Answer.number (sessionTotalSequence true none)
     -- 07 in replies
-    ∷ replyOf openReceiver (arriving 80000 2 (Sent.header 8)) is Answer.reply 0 86 7 7 0
-    ∷ replyOf receiver (arriving 80000 1 detail) is Answer.reply 0 86 7 0 0
-    ∷ replyOf (after (arriving 80000 2 detail ∷ []) openReceiver) (arriving 80000 3 (total 8)) is Answer.reply 0 87 7 0 0
-    ∷ replyOf openReceiver (arriving 80000 2 (Sent.sessionTotal 0 zeros)) is Answer.reply 0 97 7 7 0
-    ∷ replyOf endedReceiver (arriving 80000 2 (Sent.header 7)) is Answer.reply 0 86 7 0 0
-    ∷ replyOf endedReceiver (arriving 80000 2 (Sent.sessionTotal 0 zeros)) is Answer.reply 0 97 7 0 0
+    ∷ replyOf openReceiver (arriving 80000 2 (Sent.header 8)) is Answer.reply 0 86 (headerSequence false seven) 7 0
+    ∷ replyOf receiver (arriving 80000 1 detail) is Answer.reply 0 86 (lotSequence false none) 0 0
+    ∷ replyOf (after (arriving 80000 2 detail ∷ []) openReceiver) (arriving 80000 3 (total 8)) is Answer.reply 0 87 (lotTotalSequence false 8 seven empty) 0 0
+    ∷ replyOf openReceiver (arriving 80000 2 (Sent.sessionTotal 0 zeros)) is Answer.reply 0 97 (sessionTotalSequence false seven) 7 0
+    ∷ replyOf endedReceiver (arriving 80000 2 (Sent.header 7)) is Answer.reply 0 86 (headerSequence true none) 0 0
+    ∷ replyOf endedReceiver (arriving 80000 2 (Sent.sessionTotal 0 zeros)) is Answer.reply 0 97 (sessionTotalSequence true none) 0 0
     -- 04, 11, 08
     ∷ replyOf onePast (arriving 80000 4 (Sent.header 7)) is Answer.reply 0 86 4 0 0
     ∷ replyOf (withLots 63 receiver) (arriving 80000 1 (Sent.header 7)) is Answer.reply 0 86 0 7 0

@@ -26,7 +26,7 @@ use Rattle.session.specs.Course.{advance, kept}
 use Rattle.session.specs.Sequence.{headerSequence, lotSequence, lotTotalSequence, sessionTotalSequence}
 use Rattle.session.specs.Outcome.{decided}
 use Rattle.session.specs.Time.{clockRefusal, timeRefusal}
-use Rattle.session.specs.Sending.{sendRefusal, send, headerStop, detailStop, lotTotalStop, sessionTotalStop, sendHeader, sendDetail, sendLotTotal, sendSessionTotal}
+use Rattle.session.specs.Sending.{sendRefusal, send, headerStop, detailStop, lotTotalStop, sessionTotalStop, Send, sendMessage}
 use Rattle.session.specs.Receiving.{headerCode, detailCode, lotTotalCode, sessionTotalCode, receivedCode, receivedEffect, receivingAfter, receiveRefusal, receive}
 use Rattle.session.specs.Reply.{isAwaited, replyRefusal, takeReply}
 use Rattle.session.specs.Clock.{clock}
@@ -38,7 +38,7 @@ use Rattle.session.specs.Entering.{presenterLedgerAt, receiverLedgerAt}
 
 -- whoever unfolds this unfolds them all, those of a detail among them
 unfoldable pub computing : Unit {0}
-unfolding detailComputing tableWritten numbered codes codeByte codeNumbered readCode knownCode writtenDetail byOperation envelopeFields envelopeGood headerFields headerSendable fixedShape bodyCode bodyBytes operationByte replyGood lotTotalFields sessionTotalFields realDate partiesGood padded fresh start advance kept headerSequence lotSequence lotTotalSequence sessionTotalSequence decided clockRefusal timeRefusal sendRefusal send headerStop detailStop lotTotalStop sessionTotalStop sendHeader sendDetail sendLotTotal sendSessionTotal headerCode detailCode lotTotalCode sessionTotalCode receivedCode receivedEffect receivingAfter receiveRefusal receive isAwaited replyRefusal takeReply clock report enter receivedEntry sum lotsSum meaning performed act run presenterLedgerAt receiverLedgerAt begun
+unfolding detailComputing tableWritten numbered codes codeByte codeNumbered readCode knownCode writtenDetail byOperation envelopeFields envelopeGood headerFields headerSendable fixedShape bodyCode bodyBytes operationByte replyGood lotTotalFields sessionTotalFields realDate partiesGood padded fresh start advance kept headerSequence lotSequence lotTotalSequence sessionTotalSequence decided clockRefusal timeRefusal sendRefusal send headerStop detailStop lotTotalStop sessionTotalStop sendMessage headerCode detailCode lotTotalCode sessionTotalCode receivedCode receivedEffect receivingAfter receiveRefusal receive isAwaited replyRefusal takeReply clock report enter receivedEntry sum lotsSum meaning performed act run presenterLedgerAt receiverLedgerAt begun
 computing = tt
 
 -- the route on which an end presents
@@ -79,10 +79,10 @@ buffer = replicate 300 0xEE
 
 -- the calls of a message at a time: its presenter sends it, the other end receives it, the presenter takes the reply
 abbrev pub sending : (time : ℕ) → Sent → Call
-sending time (Sent.header number) = Call.header time moment 1 number
-sending time (Sent.detail operation part) = Call.detail time operation part
-sending time (Sent.lotTotal number stated) = Call.lotTotal time
-sending time (Sent.sessionTotal lots stated) = Call.sessionTotal time
+sending time (Sent.header number) = Call.send time (Send.header moment 1 number)
+sending time (Sent.detail operation part) = Call.send time (Send.detail operation part)
+sending time (Sent.lotTotal number stated) = Call.send time Send.lotTotal
+sending time (Sent.sessionTotal lots stated) = Call.send time Send.sessionTotal
 
 abbrev pub receiving : (time : ℕ) → End → (serial : ℕ) → Sent → Call
 receiving time p serial x = Call.receive time (messageFrom p serial x)

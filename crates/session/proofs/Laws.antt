@@ -2,6 +2,7 @@
 pub mod Parties
 pub mod Decided
 pub mod Refusals
+pub mod Sequence
 pub mod Codes
 pub mod Allowed
 pub mod Sound

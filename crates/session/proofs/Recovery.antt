@@ -40,10 +40,11 @@ use Rattle.session.specs.Recovery.{Allowing, saidAt, Unrefused, delivery
 use Rattle.session.proofs.Laws.Decided.{first-bytes}
 use Rattle.session.proofs.Laws.EveryCall.{same-line}
 use Rattle.session.proofs.Laws.Steps.{unchanged-here}
-use Rattle.session.proofs.Laws.Joined.{pendingAs, waitingEffect, replyFor, OnLine, Link}
+use Rattle.session.proofs.Laws.Ledger.{effectOf}
+use Rattle.session.proofs.Laws.Joined.{waitingEffect, replyFor, OnLine, Link}
 use Rattle.session.proofs.Laws.Foreign.{reply-fits}
 use Rattle.session.proofs.Laws.Presenter.{pending-some}
-use Rattle.session.proofs.Laws.Receiver.{reply-entry}
+use Rattle.session.proofs.Laws.Receiver.{replyForRead, reply-entry}
 use Rattle.session.proofs.Agreement.{Whole, act-keeps, whole-after, agree}
 
 -- the last message is expected again, and so is the next one
@@ -54,12 +55,11 @@ next-expected : (bytes : List ℕ) (last : ℕ) → isNext bytes last ≡ true �
 next-expected bytes last next = simp (next, or-true)
 
 -- what a presenter awaits is the reply to what waits
-awaits : (d : Entry) (b : Ledger) → awaitedOperation (pendingAs d b) ≡ replyFor d
+awaits : (d : Entry) (b : Ledger) → awaitedOperation (effectOf d b) ≡ replyFor d
 awaits (Entry.header number) b = refl
 awaits (Entry.detail ds) b = refl
 awaits Entry.lotTotal b = refl
 awaits Entry.sessionTotal b = refl
-awaits Entry.unknown b = refl
 
 module _ (w : World) (all : Whole w) (p : End) (m : Waiting) (waiting : presenterLedgerAt p (w .trace) .waiting ≡ some m) where
   abbrev e : Engine
@@ -109,7 +109,7 @@ module _ (w : World) (all : Whole w) (p : End) (m : Waiting) (waiting : presente
         go (Link.idle s n b) = absurd (Option·none-ne-some m (sym s ∙ waiting))
         go (Link.sent c s n b) =
             let next : isNext bytes last ≡ true = eq-eqb (serialOf bytes) (suc last) (found .numbered ∙ n) in
-            record { expected = next-expected bytes last next; operation = kept-by true next ∙ reply-entry (bodyOf bytes) ∙ ap replyFor (found .reads) }
+            record { expected = next-expected bytes last next; operation = kept-by true next ∙ reply-entry (bodyOf bytes) ∙ ap replyForRead (found .reads) }
         go (Link.taken c s n b o) =
             let again : serialOf bytes ≡ last = found .numbered ∙ n in
             let next : isNext bytes last ≡ false = ne-eqb (serialOf bytes) (suc last) (λ (z : serialOf bytes ≡ suc last). omega arith) in
@@ -146,7 +146,7 @@ module _ (w : World) (all : Whole w) (p : End) (m : Waiting) (waiting : presente
     told : envelopeOf whole ≡ envelopeOf bytes
     told = envelope-told Kind.Reply (envelopeOf bytes) (writtenReplyBody kept) (reply-fits (f .session) (all .ready (other p) .sound) bytes (found .good) way-there)
 
-    pending-so : e .session .presenting .pending ≡ pendingAs (m .entry) (bp .ledger)
+    pending-so : e .session .presenting .pending ≡ effectOf (m .entry) (bp .ledger)
     pending-so = all .joined p .presenter .pending ∙ ap (λ (o : Option Waiting). waitingEffect o (bp .ledger)) waiting
 
     awaited : isAwaited (serialOf whole) (operationOf (bodyOf whole)) (e .session .presenting) ≡ true

@@ -14,12 +14,14 @@ use Rattle.packed.specs.Part.{byteAt}
 use Rattle.packed.proofs.Laws.Told.{both}
 use Rattle.amounts.specs.Totals.{totals, zeros}
 use Rattle.codes.specs.declared.code.Code.{Code}
+use Rattle.codes.specs.Code.{codeNumbered}
 use Rattle.codes.specs.Field.{tableWritten}
 use Rattle.document.specs.Fields.{documentFields}
 use Rattle.document.specs.Operation.{presented, returned}
 use Rattle.message.specs.declared.envelope.Kind.{Kind}
 use Rattle.message.specs.Envelope.{kindByte}
 use Rattle.session.specs.declared.running.Running.{Running}
+use Rattle.session.specs.declared.counters.OpenLot.{OpenLot}
 use Rattle.session.specs.declared.report.Tally.{Tally}
 use Rattle.session.specs.declared.report.Awaited.{Awaited}
 use Rattle.session.specs.declared.report.Positions.{Positions}
@@ -27,6 +29,7 @@ use Rattle.session.specs.declared.session.Close.{Close}
 use Rattle.session.specs.Hours.{close}
 use Rattle.session.specs.Reply.{replyCode}
 use Rattle.session.specs.Running.{empty, adding, stated}
+use Rattle.session.specs.Sequence.{lotTotalSequence}
 use Rattle.session.specs.Ledger.{LedgerLot, ofOperation}
 use Rattle.session.specs.Engine.{Call}
 use Rattle.session.specs.Ends.{End, other, Event, World, Step, act, run, WrittenBefore, Brought, Possible, begun}
@@ -47,10 +50,7 @@ isWritten bytes (e ∷ earlier) = eqb (e .said .number) 0 && sameBytes (e .said 
 abbrev isBrought : Call → List Event → Bool
 isBrought (Call.receive time bytes) trace = isWritten bytes trace
 isBrought (Call.reply time bytes) trace = isWritten bytes trace
-isBrought (Call.header time moment centre number) trace = true
-isBrought (Call.detail time operation part) trace = true
-isBrought (Call.lotTotal time) trace = true
-isBrought (Call.sessionTotal time) trace = true
+isBrought (Call.send time x) trace = true
 isBrought (Call.clock time) trace = true
 isBrought Call.report trace = true
 
@@ -82,10 +82,7 @@ written bytes (x ∷ earlier) e =
 brought : (call : Call) (trace : List Event) → isBrought call trace ≡ true → Brought call trace
 brought (Call.receive time bytes) trace e = written bytes trace e
 brought (Call.reply time bytes) trace e = written bytes trace e
-brought (Call.header time moment centre number) trace e = tt
-brought (Call.detail time operation part) trace e = tt
-brought (Call.lotTotal time) trace e = tt
-brought (Call.sessionTotal time) trace e = tt
+brought (Call.send time x) trace e = tt
 brought (Call.clock time) trace e = tt
 brought Call.report trace e = tt
 
@@ -266,6 +263,10 @@ settled-late = record { possible = possible found justStarted refl; leads = refl
 abbrev stray : Sent
 stray = Sent.detail 30 (document 72 81 9999 500 1)
 
+-- the code of a lot total that no detail came before
+abbrev noDetail : ℕ
+noDetail = lotTotalSequence false 7 (OpenLot.Numbered 7) empty
+
 abbrev again : List Step
 again =
     sent End.near (Sent.header 7)
@@ -279,10 +280,10 @@ again =
     ∷ answered 80000 End.near 2 stray Code.WrongDrawee
     ∷ sent End.near (Sent.lotTotal 7 zeros)
     ∷ arrived End.near 3 (Sent.lotTotal 7 zeros)
-    ∷ answered 80000 End.near 3 (Sent.lotTotal 7 zeros) Code.WrongSequence
+    ∷ answered 80000 End.near 3 (Sent.lotTotal 7 zeros) (codeNumbered noDetail)
     ∷ exchanged End.near 4 (opening 7 ++ Sent.lotTotal 7 (stated one) ∷ [])
 
-number-used-again : Leads again (record { refused = 21 ∷ 21 ∷ 33 ∷ []; replies = 0 ∷ 0 ∷ 0 ∷ 7 ∷ 6 ∷ 0 ∷ []; near = level (lot 7 ∷ []) (tally 1 one) Close.Open (gets 15000 30); far = level [] (tally 0 empty) Close.Open (owes 15000 30) })
+number-used-again : Leads again (record { refused = 21 ∷ 21 ∷ 33 ∷ []; replies = 0 ∷ 0 ∷ 0 ∷ noDetail ∷ 6 ∷ 0 ∷ []; near = level (lot 7 ∷ []) (tally 1 one) Close.Open (gets 15000 30); far = level [] (tally 0 empty) Close.Open (owes 15000 30) })
 unfolding computing
 number-used-again = record { possible = possible again justStarted refl; leads = refl }
 

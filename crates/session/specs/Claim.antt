@@ -1,16 +1,13 @@
 -- Demand 3, 01's 'Both ends together': what holds of a direction, in which one end presents and the other receives, after any list of calls.
 -- The theorem is `agreement` of proofs/Agreement. docs/AGREEMENT.md leads from the demand's sentences to the fields.
-use Prim.Native.Nat.{ℕ, suc}
+use Prim.Native.Nat.{ℕ}
 use mathlib.Core.Path.{_≡_}
 use mathlib.Core.List.{List, [], _∷_, _++_}
-use mathlib.Core.Logic.{_⊎_}
 use mathlib.Core.Option.{some}
-use Rattle.session.specs.declared.counters.Lot.{Lot}
 use Rattle.session.specs.declared.report.Tally.{Tally}
 use Rattle.session.specs.declared.report.Awaited.{Awaited}
 use Rattle.session.specs.declared.report.Report.{Report}
 use Rattle.session.specs.Report.{report}
-use Rattle.session.specs.Running.{gather}
 use Rattle.session.specs.Ledger.{LedgerLot, lotSum, tallied, numbers, Distinct}
 use Rattle.session.specs.Engine.{Call, Ready}
 use Rattle.session.specs.Ends.{End, other, Event, World, Step, run, Possible, begun, StartsAccepted}
@@ -36,22 +33,19 @@ presentedTally w p = reportAt w p .presented
 abbrev pub receivedTally : World → End → Tally
 receivedTally w p = reportAt w (other p) .received
 
--- totals that are larger by exactly one lot
-abbrev pub oneMore : Lot → Tally → Tally
-oneMore lot t = record { lots = suc (t .lots); gathered = gather (t .gathered) (lot .gathered) }
+-- the same lots at both ends, with the same documents and operations in the same order
+abbrev pub Level : World → End → Type 0
+Level w p = counted w p ≡ confirmed w p
 
--- the same lots, with the same documents and operations in the same order, and so the same totals
-pub record Level (w : World) (p : End) : Type 0 where
-  pub lots : counted w p ≡ confirmed w p
-  pub totals : receivedTally w p ≡ presentedTally w p
-
--- the presenter's report names its open lot, and the receiver has counted the confirmed ones and then that one, document by document
-pub record Ahead (w : World) (p : End) : Type 0 where
-  pub lot : LedgerLot
+-- a lot is the presenter's open one, document by document, and its report names it
+pub record Named (w : World) (p : End) (lot : LedgerLot) : Type 0 where
   pub unconfirmed : presenterLedgerAt p (w .trace) .ledger .current ≡ some lot
-  pub named : reportAt w p .awaited ≡ Awaited.LotTotal (lotSum lot)
-  pub lots : counted w p ≡ confirmed w p ++ lot ∷ []
-  pub totals : receivedTally w p ≡ oneMore (lotSum lot) (presentedTally w p)
+  pub shown : reportAt w p .awaited ≡ Awaited.LotTotal (lotSum lot)
+
+-- what the receiver has counted beyond the confirmed lots: nothing, or exactly the named one
+pub data Beyond (w : World) (p : End) : Type 0 where
+  nothing : Level w p → Beyond w p
+  oneLot : (lot : LedgerLot) → Named w p lot → counted w p ≡ confirmed w p ++ lot ∷ [] → Beyond w p
 
 -- the latest call was a reply call at this end, and was not refused
 pub record JustReplied (w : World) (p : End) : Type 0 where
@@ -64,11 +58,11 @@ pub record JustReplied (w : World) (p : End) : Type 0 where
 -- the claim about one direction, in which the end p presents
 pub record Agreement (w : World) (p : End) : Type 0 where
   -- the clause on the lots: counted are the confirmed ones; or the report names an unconfirmed one, and counted are the confirmed and then it
-  pub agreed : Level w p ⊎ Ahead w p
+  pub agreed : Beyond w p
   -- on the numbers: none stands twice in either list
   pub counted-once : Distinct (numbers (counted w p))
   pub confirmed-once : Distinct (numbers (confirmed w p))
-  -- on a report's totals: they are counts and sums over its end's list
+  -- on a report's totals: they are counts and sums over its end's list, so those of two equal lists are equal
   pub presented : presentedTally w p ≡ tallied (confirmed w p)
   pub received : receivedTally w p ≡ tallied (counted w p)
   -- on what a report names: the open lot, with number, counts and sums (or a session total), from the send of its total that was not refused until the reply call for

@@ -60,10 +60,7 @@ WrittenBefore bytes (e ∷ earlier) = ((e .said .number ≡ 0) × (e .said .byte
 abbrev pub Brought : Call → List Event → Type 0
 Brought (Call.receive time bytes) trace = WrittenBefore bytes trace
 Brought (Call.reply time bytes) trace = WrittenBefore bytes trace
-Brought (Call.header time moment centre number) trace = Unit {0}
-Brought (Call.detail time operation part) trace = Unit {0}
-Brought (Call.lotTotal time) trace = Unit {0}
-Brought (Call.sessionTotal time) trace = Unit {0}
+Brought (Call.send time x) trace = Unit {0}
 Brought (Call.clock time) trace = Unit {0}
 Brought Call.report trace = Unit {0}
 

@@ -7,7 +7,7 @@ use Rattle.session.specs.declared.session.Session.{Session}
 use Rattle.session.specs.declared.running.Running.{Running}
 use Rattle.session.specs.Running.{empty}
 use Rattle.session.specs.Outcome.{Held, held, Outcome, silent}
-use Rattle.session.specs.Sending.{sendHeader, sendDetail, sendLotTotal, sendSessionTotal}
+use Rattle.session.specs.Sending.{Send, sendMessage}
 use Rattle.session.specs.Receiving as Receiving
 use Rattle.session.specs.Reply.{takeReply}
 use Rattle.session.specs.Clock as Clock
@@ -15,10 +15,7 @@ use Rattle.session.specs.Premise.{Sound, Carried}
 
 -- every call on a running session, with its arguments
 pub data Call : Type 0 where
-  header : (time moment centre number : ℕ) → Call
-  detail : (time operation : ℕ) (part : List ℕ) → Call
-  lotTotal : (time : ℕ) → Call
-  sessionTotal : (time : ℕ) → Call
+  send : (time : ℕ) → Send → Call
   receive : (time : ℕ) (bytes : List ℕ) → Call
   reply : (time : ℕ) (bytes : List ℕ) → Call
   clock : (time : ℕ) → Call
@@ -26,10 +23,7 @@ pub data Call : Type 0 where
 
 -- what each of them means
 unfoldable pub meaning : Call → Held → Outcome
-meaning (Call.header time moment centre number) h = sendHeader time moment centre number h
-meaning (Call.detail time operation part) h = sendDetail time operation part h
-meaning (Call.lotTotal time) h = sendLotTotal time h
-meaning (Call.sessionTotal time) h = sendSessionTotal time h
+meaning (Call.send time x) h = sendMessage time x h
 meaning (Call.receive time bytes) h = Receiving.receive time bytes h
 meaning (Call.reply time bytes) h = takeReply time bytes h
 meaning (Call.clock time) h = Clock.clock time h
@@ -38,10 +32,7 @@ meaning Call.report h = silent h  -- what it shows is `report`
 -- the direction whose running totals stand in what it is lent; header, session total, clock call and report do not use them
 abbrev pub directionOf : Call → Direction
 directionOf (Call.receive time bytes) = Direction.receiving
-directionOf (Call.header time moment centre number) = Direction.presenting
-directionOf (Call.detail time operation part) = Direction.presenting
-directionOf (Call.lotTotal time) = Direction.presenting
-directionOf (Call.sessionTotal time) = Direction.presenting
+directionOf (Call.send time x) = Direction.presenting
 directionOf (Call.reply time bytes) = Direction.presenting
 directionOf (Call.clock time) = Direction.presenting
 directionOf Call.report = Direction.presenting

@@ -9,7 +9,7 @@ use Rattle.packed.specs.Every.{member}
 use Rattle.message.specs.Envelope.{serialOf, bodyOf}
 use Rattle.session.specs.declared.report.Awaited.{Awaited}
 use Rattle.session.specs.Reply.{isAccepted}
-use Rattle.session.specs.Ledger.{LedgerLot, Ledger, Entry, blank, enter, partEntry, bodyEntry, lotSum}
+use Rattle.session.specs.Ledger.{LedgerLot, Ledger, Entry, blank, enter, enterRead, sentEntry, bodyEntry, lotSum}
 use Rattle.session.specs.Engine.{Call}
 use Rattle.session.specs.Ends.{End, Event}
 
@@ -42,10 +42,7 @@ answeredWith accepted b = record { ledger = enterWaiting accepted (b .waiting) (
 
 -- what an unrefused call does there; what it wrote waits, and enters no ledger
 abbrev pub presenterEnters : Call → (written : List ℕ) → PresenterLedger → PresenterLedger
-presenterEnters (Call.header time moment centre number) written b = waitingFor (Entry.header number) written b
-presenterEnters (Call.detail time operation part) written b = waitingFor (partEntry operation part) written b
-presenterEnters (Call.lotTotal time) written b = waitingFor Entry.lotTotal written b
-presenterEnters (Call.sessionTotal time) written b = waitingFor Entry.sessionTotal written b
+presenterEnters (Call.send time x) written b = waitingFor (sentEntry x) written b
 presenterEnters (Call.reply time bytes) written b = answeredWith (isAccepted bytes) b
 presenterEnters (Call.receive time bytes) written b = b
 presenterEnters (Call.clock time) written b = b
@@ -57,16 +54,13 @@ pub record ReceiverLedger : Type 0 where
   pub serials : List ℕ
 
 -- a message is entered when its serial is first received, with the code replied
-abbrev pub firstReceived : (serial : ℕ) → Entry → (accepted : Bool) → ReceiverLedger → ReceiverLedger
-firstReceived serial e accepted b = cond (member serial (b .serials)) b (record { ledger = enter e accepted (b .ledger); serials = serial ∷ b .serials })
+abbrev pub firstReceived : (serial : ℕ) → Option Entry → (accepted : Bool) → ReceiverLedger → ReceiverLedger
+firstReceived serial e accepted b = cond (member serial (b .serials)) b (record { ledger = enterRead e accepted (b .ledger); serials = serial ∷ b .serials })
 
 -- what an unrefused call does there; of what it wrote the code is entered
 abbrev pub receiverEnters : Call → (written : List ℕ) → ReceiverLedger → ReceiverLedger
 receiverEnters (Call.receive time bytes) written b = firstReceived (serialOf bytes) (bodyEntry (bodyOf bytes)) (isAccepted written) b
-receiverEnters (Call.header time moment centre number) written b = b
-receiverEnters (Call.detail time operation part) written b = b
-receiverEnters (Call.lotTotal time) written b = b
-receiverEnters (Call.sessionTotal time) written b = b
+receiverEnters (Call.send time x) written b = b
 receiverEnters (Call.reply time bytes) written b = b
 receiverEnters (Call.clock time) written b = b
 receiverEnters Call.report written b = b
@@ -103,7 +97,6 @@ namedBy Entry.lotTotal current = namedLot current
 namedBy Entry.sessionTotal current = Awaited.SessionTotal
 namedBy (Entry.header number) current = Awaited.Neither
 namedBy (Entry.detail ds) current = Awaited.Neither
-namedBy Entry.unknown current = Awaited.Neither
 
 abbrev pub awaitedBy : Option Waiting → Option LedgerLot → Awaited
 awaitedBy none current = Awaited.Neither

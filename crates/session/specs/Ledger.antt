@@ -16,6 +16,7 @@ use Rattle.session.specs.declared.counters.Lot.{Lot}
 use Rattle.session.specs.declared.report.Tally.{Tally}
 use Rattle.session.specs.declared.running.Running.{Running}
 use Rattle.session.specs.Running.{empty, gather, detailAdds}
+use Rattle.session.specs.Sending.{Send}
 use Rattle.document.specs.Part.{documentsOf}
 
 -- a document to the byte, its key included, and its operation as the byte of its group
@@ -43,7 +44,6 @@ pub data Entry : Type 0 where
   detail : List Document → Entry
   lotTotal : Entry
   sessionTotal : Entry
-  unknown : Entry  -- a body that is no message
 
 -- the open lot with more documents
 abbrev pub longer : List Document → Option LedgerLot → Option LedgerLot
@@ -67,26 +67,33 @@ enter Entry.lotTotal false b = record { lots = b .lots; current = none }
 enter (Entry.header number) false b = b
 enter (Entry.detail ds) false b = b
 enter Entry.sessionTotal accepted b = b
-enter Entry.unknown accepted b = b
+
+-- a body that is no message is none
+abbrev pub enterRead : Option Entry → (accepted : Bool) → Ledger → Ledger
+enterRead none accepted b = b
+enterRead (some e) accepted b = enter e accepted b
 
 -- documents of one operation
 abbrev pub ofOperation : (operation : ℕ) → List (List ℕ) → List Document
 ofOperation operation ds = map (λ (d : List ℕ). record { operation = operation; bytes = d }) ds
 
--- what a part is sent as
-abbrev pub partEntry : (operation : ℕ) (part : List ℕ) → Entry
-partEntry operation part = Entry.detail (ofOperation (packedByte operation) (documentsOf part))
+-- what a send is entered as
+abbrev pub sentEntry : Send → Entry
+sentEntry (Send.header moment centre number) = Entry.header number
+sentEntry (Send.detail operation part) = Entry.detail (ofOperation (packedByte operation) (documentsOf part))
+sentEntry Send.lotTotal = Entry.lotTotal
+sentEntry Send.sessionTotal = Entry.sessionTotal
 
--- and what a body is received as, by what it is
-unfoldable pub receivedEntry : Content → (body : List ℕ) → Entry
-receivedEntry Content.Header body = Entry.header (headerOf body .number)
-receivedEntry Content.Detail body = Entry.detail (ofOperation (operationOf body) (documents body))
-receivedEntry Content.LotTotal body = Entry.lotTotal
-receivedEntry Content.SessionTotal body = Entry.sessionTotal
-receivedEntry Content.Unknown body = Entry.unknown
+-- and what a body is read as, by what it is
+unfoldable pub receivedEntry : Content → (body : List ℕ) → Option Entry
+receivedEntry Content.Header body = some (Entry.header (headerOf body .number))
+receivedEntry Content.Detail body = some (Entry.detail (ofOperation (operationOf body) (documents body)))
+receivedEntry Content.LotTotal body = some Entry.lotTotal
+receivedEntry Content.SessionTotal body = some Entry.sessionTotal
+receivedEntry Content.Unknown body = none
 
 -- by its operation
-abbrev pub bodyEntry : (body : List ℕ) → Entry
+abbrev pub bodyEntry : (body : List ℕ) → Option Entry
 bodyEntry body = receivedEntry (contentOf body) body
 
 -- counts and sums over documents

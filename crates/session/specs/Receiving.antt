@@ -104,8 +104,8 @@ receivedEffect Content.SessionTotal body running = Effect.SessionTotal
 receivedEffect Content.Unknown body running = Effect.Nothing
 
 -- the code that a new message earns
-abbrev pub earnedCode : (time : ℕ) (body : List ℕ) → Held → ℕ
-earnedCode time body h = receivedCode (contentOf body) time body (h .session .parties) (h .running) (h .session .receiving)
+abbrev pub earnedCode : (time : ℕ) (body : List ℕ) → Parties → Running → Receiving → ℕ
+earnedCode time body p running r = receivedCode (contentOf body) time body p running r
 
 -- the course of the direction after a message of this code
 abbrev pub receivingCourse : (code : ℕ) (body : List ℕ) → Running → Receiving → Course
@@ -137,8 +137,8 @@ isExpected bytes last = isLast bytes last || isNext bytes last
 -- a new message is handled
 abbrev pub afterNew : (time : ℕ) (body : List ℕ) → Held → Held
 afterNew time body h =
-    let code = earnedCode time body h in
     let r = h .session .receiving in
+    let code = earnedCode time body (h .session .parties) (h .running) r in
     held (seenAt time (withReceiving (receivingAfter code body (h .running) r) (h .session))) (receivingCourse code body (h .running) r .running) (h .line)
 
 -- the last one again: its body is not read, and only the last seen time moves

@@ -118,25 +118,34 @@ lotTotalBody c running = let lot = endingLot c running in Body.lotEnding (record
 abbrev pub sessionTotalBody : Counters → Body
 sessionTotalBody c = Body.sessionEnding (record { number = c .lots; stated = stated (c .gathered) })
 
--- The four calls.
-unfoldable pub sendHeader : (time moment centre number : ℕ) → Held → Outcome
-sendHeader time moment centre number h =
-    send time (headerStop time moment centre number (h .session .presenting)) (Effect.Header number)
-    (bodyBytes (presentingRoute (h .session .parties)) (headerBody moment centre number)) h
+-- 'a send (header, detail, lot total, session total)': what each is given beside its time
+pub data Send : Type 0 where
+  header : (moment centre number : ℕ) → Send
+  detail : (operation : ℕ) (part : List ℕ) → Send  -- the documents of a part, in groups of four
+  lotTotal : Send
+  sessionTotal : Send
 
--- the documents of a part, in groups of four
-unfoldable pub sendDetail : (time operation : ℕ) (part : List ℕ) → Held → Outcome
-sendDetail time operation part h =
-    send time (detailStop operation (h .session .parties .partner) part (h .running) (h .session .presenting)) (Effect.Detail (partAdds operation part))
-    (writtenDetail (packedByte operation) part) h
+-- the code that stops it, or 00
+abbrev pub sendStop : Send → (time : ℕ) → Held → ℕ
+sendStop (Send.header moment centre number) time h = headerStop time moment centre number (h .session .presenting)
+sendStop (Send.detail operation part) time h = detailStop operation (h .session .parties .partner) part (h .running) (h .session .presenting)
+sendStop Send.lotTotal time h = lotTotalStop (h .session .presenting)
+sendStop Send.sessionTotal time h = sessionTotalStop (h .session .presenting)
 
-unfoldable pub sendLotTotal : (time : ℕ) → Held → Outcome
-sendLotTotal time h =
-    let c = h .session .presenting .counters in
-    send time (lotTotalStop (h .session .presenting)) (Effect.LotTotal (endingLot c (h .running)))
-    (bodyBytes (presentingRoute (h .session .parties)) (lotTotalBody c (h .running))) h
+-- what then awaits its reply
+abbrev pub sentEffect : Send → Held → Effect
+sentEffect (Send.header moment centre number) h = Effect.Header number
+sentEffect (Send.detail operation part) h = Effect.Detail (partAdds operation part)
+sentEffect Send.lotTotal h = Effect.LotTotal (endingLot (h .session .presenting .counters) (h .running))
+sentEffect Send.sessionTotal h = Effect.SessionTotal
 
-unfoldable pub sendSessionTotal : (time : ℕ) → Held → Outcome
-sendSessionTotal time h =
-    send time (sessionTotalStop (h .session .presenting)) Effect.SessionTotal
-    (bodyBytes (presentingRoute (h .session .parties)) (sessionTotalBody (h .session .presenting .counters))) h
+-- and its body
+abbrev pub sentBody : Send → Held → List ℕ
+sentBody (Send.header moment centre number) h = bodyBytes (presentingRoute (h .session .parties)) (headerBody moment centre number)
+sentBody (Send.detail operation part) h = writtenDetail (packedByte operation) part
+sentBody Send.lotTotal h = bodyBytes (presentingRoute (h .session .parties)) (lotTotalBody (h .session .presenting .counters) (h .running))
+sentBody Send.sessionTotal h = bodyBytes (presentingRoute (h .session .parties)) (sessionTotalBody (h .session .presenting .counters))
+
+-- a send, at any time
+unfoldable pub sendMessage : (time : ℕ) → Send → Held → Outcome
+sendMessage time x h = send time (sendStop x time h) (sentEffect x h) (sentBody x h) h

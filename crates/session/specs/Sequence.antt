@@ -20,11 +20,15 @@ isOpenLot number (OpenLot.Numbered n) = eqb n number
 
 -- Each is told whether the direction has ended, and which lot is open. A detail and a lot total do not ask for the end: after it no lot is open.
 
--- a header: not after the end, nor while a lot is open
-unfoldable pub headerSequence : (ended : Bool) → OpenLot → ℕ
-headerSequence ended lot =
+-- between lots: not after the end, nor while a lot is open
+abbrev pub betweenLots : (ended : Bool) → OpenLot → ℕ
+betweenLots ended lot =
     7 when ended
     orelse 7 when isOpen lot
+
+-- a header
+unfoldable pub headerSequence : (ended : Bool) → OpenLot → ℕ
+headerSequence ended lot = betweenLots ended lot
 
 -- what belongs into a lot, a detail, or a lot total that its presenter is about to write: a lot is open
 unfoldable pub lotSequence : (ended : Bool) → OpenLot → ℕ
@@ -36,8 +40,6 @@ lotTotalSequence ended number lot running =
     7 when not (isOpenLot number lot)
     orelse 7 when eqb (documentsIn running) 0
 
--- a session total: not after the end, nor while a lot is open
+-- a session total
 unfoldable pub sessionTotalSequence : (ended : Bool) → OpenLot → ℕ
-sessionTotalSequence ended lot =
-    7 when ended
-    orelse 7 when isOpen lot
+sessionTotalSequence ended lot = betweenLots ended lot

@@ -19,9 +19,8 @@ use Rattle.message.specs.Line.{wholeMessage}
 use Rattle.message.specs.RoundTrip.{EnvelopeFits, EnvelopeRead, MessageRead}
 use Rattle.session.specs.Parties.{Direction}
 use Rattle.session.specs.Outcome.{Held}
-use Rattle.session.specs.Sending.{nextEnvelope, headerBody, lotTotalBody, sessionTotalBody}
+use Rattle.session.specs.Sending.{nextEnvelope, headerBody, lotTotalBody, sessionTotalBody, Send, sendMessage}
 use Rattle.session.specs.Premise.{Sound, Carried}
-use Rattle.session.specs.Engine.{Call, meaning}
 
 -- a detail: its operation and its documents, keys included; and its receiver, whomever that represents, finds no fault but a drawee whom it does not serve
 pub record ReadsAsDetail (e : Envelope) (operation : ℕ) (part bytes : List ℕ) : Type 0 where
@@ -38,17 +37,13 @@ DetailWrittenThenRead = (e : Envelope) (operation : ℕ) (part : List ℕ) → E
 abbrev pub DetailReadThenWritten : Type 0
 DetailReadThenWritten = (e : Envelope) (represented bytes : List ℕ) → EnvelopeRead Kind.Message e bytes → let body = bodyOf bytes in receiverCode (e .route .receiving) represented body ≡ 0 → wholeMessage e (writtenDetail (operationOf body) (partOf body)) ≡ take envelopeBytes bytes ++ clearedGroups body
 
--- what a call that sends means to say, with what it is lent: every field of a header or a total, and no fault; the others write no message
-abbrev pub AsMeant : Call → Held → (bytes : List ℕ) → Type 0
-AsMeant (Call.header time moment centre number) h bytes = MessageRead (nextEnvelope (h .session)) (headerBody moment centre number) bytes
-AsMeant (Call.detail time operation part) h bytes = ReadsAsDetail (nextEnvelope (h .session)) operation part bytes
-AsMeant (Call.lotTotal time) h bytes = MessageRead (nextEnvelope (h .session)) (lotTotalBody (h .session .presenting .counters) (h .running)) bytes
-AsMeant (Call.sessionTotal time) h bytes = MessageRead (nextEnvelope (h .session)) (sessionTotalBody (h .session .presenting .counters)) bytes
-AsMeant (Call.receive time message) h bytes = Unit {0}
-AsMeant (Call.reply time reply) h bytes = Unit {0}
-AsMeant (Call.clock time) h bytes = Unit {0}
-AsMeant Call.report h bytes = Unit {0}
+-- what a send means to say, with what it is lent: every field of a header or a total, and no fault
+abbrev pub AsMeant : Send → Held → (bytes : List ℕ) → Type 0
+AsMeant (Send.header moment centre number) h bytes = MessageRead (nextEnvelope (h .session)) (headerBody moment centre number) bytes
+AsMeant (Send.detail operation part) h bytes = ReadsAsDetail (nextEnvelope (h .session)) operation part bytes
+AsMeant Send.lotTotal h bytes = MessageRead (nextEnvelope (h .session)) (lotTotalBody (h .session .presenting .counters) (h .running)) bytes
+AsMeant Send.sessionTotal h bytes = MessageRead (nextEnvelope (h .session)) (sessionTotalBody (h .session .presenting .counters)) bytes
 
--- of every call that is not refused, what it wrote
+-- of every send that is not refused, what it wrote
 abbrev pub WrittenAsMeant : Type 0
-WrittenAsMeant = (call : Call) (h : Held) → Sound (h .session) → Carried Direction.presenting (h .session) (h .running) → let o = meaning call h in o .number ≡ 0 → AsMeant call h (take (o .written) (o .left .line))
+WrittenAsMeant = (time : ℕ) (x : Send) (h : Held) → Sound (h .session) → Carried Direction.presenting (h .session) (h .running) → let o = sendMessage time x h in o .number ≡ 0 → AsMeant x h (take (o .written) (o .left .line))

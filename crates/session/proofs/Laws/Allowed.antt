@@ -1,6 +1,6 @@
 -- What the codes let pass: a message that no code stops may be accepted, at either end, and the direction stays within its limits.
 use mathlib.Core.Path.{_≡_, refl, ap}
-use mathlib.Core.Bool.{Bool, true, false≢true}
+use mathlib.Core.Bool.{true, false≢true}
 use mathlib.Core.List.{List}
 use Prim.Native.Nat.{ℕ, _+_, _≤_, _<_}
 use native.Mathlib.Omega.{arith}
@@ -12,7 +12,7 @@ use Rattle.packed.specs.Pieces.{pieces}
 use Rattle.packed.specs.Writing.{packedByte}
 use Rattle.packed.proofs.Laws.Told.{both, three}
 use Rattle.codes.specs.Body.{operationOf}
-use Rattle.codes.proofs.Laws.Chain.{none-test, none-both, passed, none-held, held}
+use Rattle.codes.proofs.Laws.Chain.{none-test, none-both, passed, held}
 use Rattle.document.specs.Limits.{documentBytes}
 use Rattle.document.specs.Fields.{amountsGood}
 use Rattle.document.proofs.Laws.Amounts.{totals-below}
@@ -37,10 +37,12 @@ use Rattle.session.specs.Parties.{receivingRoute, representedBy}
 use Rattle.session.specs.declared.running.Running.{Running}
 use Rattle.session.specs.Running.{empty, gather, detailAdds, documentsIn}
 use Rattle.session.specs.Course.{course}
+use Rattle.session.specs.Outcome.{Held}
 use Rattle.session.specs.Sequence.{isOpen, isOpenLot, headerSequence, lotSequence, lotTotalSequence}
-use Rattle.session.specs.Sending.{headerStop, detailStop, lotTotalStop, partAdds, openNumber, endingLot}
+use Rattle.session.specs.Sending.{headerStop, detailStop, lotTotalStop, partAdds, openNumber, Send, sendStop, sentEffect}
 use Rattle.session.specs.Receiving.{acceptedLots, numberUsed, headerCode, detailCode, lotTotalCode, receivedCode, receivedEffect}
 use Rattle.session.specs.Premise.{Fits, PendingSound, PendingCarried}
+use Rattle.session.proofs.Laws.Sequence.{open-told, this-told}
 
 -- amounts of digits fit, and add
 documents-fit : (operation receiving : ℕ) (ds : List (List ℕ)) → every (amountsGood operation receiving) ds ≡ true → Fits (length ds) (detailAdds operation ds)
@@ -57,10 +59,6 @@ pub record Allowed (effect : Effect) (k : Course) : Type 0 where
   pub sound : PendingSound effect (k .counters)
   pub carried : PendingCarried effect (k .running)
 
-open-told : (ended : Bool) (lot : OpenLot) → lotSequence ended lot ≡ 0 → isOpen lot ≡ true
-unfolding lotSequence
-open-told ended lot e = none-held 7 (isOpen lot) (lit< tt) e
-
 numbered-open : (lot : OpenLot) → isOpen lot ≡ true → lot ≡ OpenLot.Numbered (openNumber lot)
 numbered-open OpenLot.None e = absurd (false≢true e)
 numbered-open (OpenLot.Numbered n) e = refl
@@ -69,7 +67,7 @@ this-open : (number : ℕ) (lot : OpenLot) → isOpenLot number lot ≡ true →
 this-open number OpenLot.None e = absurd (false≢true e)
 this-open number (OpenLot.Numbered n) e = ap OpenLot.Numbered (eqb-true n number e)
 
--- the presenter's codes let pass only what may be accepted; of a header and a session total without a word about running totals
+-- the presenter's codes let pass only what may be accepted; of a header without a word about running totals
 pub header-sound : (time moment centre number : ℕ) (p : Presenting) → headerStop time moment centre number p ≡ 0 → PendingSound (Effect.Header number) (p .counters)
 unfolding headerStop headerSendable
 header-sound time moment centre number p e =
@@ -79,26 +77,25 @@ header-sound time moment centre number p e =
     let order = three (timeOfDay moment) (leb centre largestCentre) (orderNumber number) (fields .0) .2 in
     (leb-true number largestOrderNumber (both (leb 1 number) (leb number largestOrderNumber) order .1), leb-false mostLots (p .counters .lots) (none-test 11 (lotsUsed (p .counters .lots)) (lit< tt) (late .1)))
 
-module _ (t : Running) (p : Presenting) (fits : Fits mostLotDocuments t) where
-  abbrev pub ownCourse : Course
-  ownCourse = course (p .counters) t
-
-  pub detail-allowed : (operation partner : ℕ) (part : List ℕ) → detailStop operation partner part t p ≡ 0 → Allowed (Effect.Detail (partAdds operation part)) ownCourse
-  unfolding detailStop
-  detail-allowed operation partner part e =
-      let ds = pieces documentBytes part in
-      let more = partAdds operation part in
-      let own = none-both (presenterCode operation partner part) _ e in
-      let place = none-both (lotSequence (p .ended) (p .counters .current)) _ (own .1) in
-      let room = ltb-false mostLotDocuments (documentsIn t + documentsIn more) (none-test 12 (passesLot (documentsIn t + documentsIn more)) (lit< tt) (place .1)) in
-      record {
-        sound = open-told (p .ended) (p .counters .current) (place .0);
-        carried = fits-gather mostLotDocuments (length ds) mostLotDocuments t more room fits (documents-fit (packedByte operation) partner ds (accepted-part operation partner part (own .0) .2));
-      }
-
-  pub lot-total-allowed : lotTotalStop p ≡ 0 → Allowed (Effect.LotTotal (endingLot (p .counters) t)) ownCourse
-  unfolding lotTotalStop
-  lot-total-allowed e = record { sound = numbered-open (p .counters .current) (open-told (p .ended) (p .counters .current) e); carried = refl }
+-- of every send
+pub send-allowed : (time : ℕ) (x : Send) (h : Held) → Fits mostLotDocuments (h .running) → sendStop x time h ≡ 0 → Allowed (sentEffect x h) (course (h .session .presenting .counters) (h .running))
+unfolding detailStop lotTotalStop
+send-allowed time (Send.header moment centre number) h fits e = record { sound = header-sound time moment centre number (h .session .presenting) e; carried = tt }
+send-allowed time (Send.detail operation part) h fits e =
+    let t = h .running in
+    let p = h .session .presenting in
+    let partner = h .session .parties .partner in
+    let ds = pieces documentBytes part in
+    let more = partAdds operation part in
+    let own = none-both (presenterCode operation partner part) _ e in
+    let place = none-both (lotSequence (p .ended) (p .counters .current)) _ (own .1) in
+    let room = ltb-false mostLotDocuments (documentsIn t + documentsIn more) (none-test 12 (passesLot (documentsIn t + documentsIn more)) (lit< tt) (place .1)) in
+    record {
+      sound = open-told (p .ended) (p .counters .current) (place .0);
+      carried = fits-gather mostLotDocuments (length ds) mostLotDocuments t more room fits (documents-fit (packedByte operation) partner ds (accepted-part operation partner part (own .0) .2));
+    }
+send-allowed time Send.lotTotal h fits e = let p = h .session .presenting in record { sound = numbered-open (p .counters .current) (open-told (p .ended) (p .counters .current) e); carried = refl }
+send-allowed time Send.sessionTotal h fits e = record { sound = tt; carried = tt }
 
 -- and so do the receiver's
 module _ (time : ℕ) (body : List ℕ) (parties : Parties) (t : Running) (r : Receiving) (fits : Fits mostLotDocuments t) where
@@ -106,7 +103,7 @@ module _ (time : ℕ) (body : List ℕ) (parties : Parties) (t : Running) (r : R
   receiving-here = course (r .counters) t
 
   pub received-allowed : (c : Content) → receivedCode c time body parties t r ≡ 0 → Allowed (receivedEffect c body t) receiving-here
-  unfolding receivedCode receivedEffect headerCode detailCode lotTotalCode lotTotalSequence
+  unfolding receivedCode receivedEffect headerCode detailCode lotTotalCode
   received-allowed Content.Header e =
       let read = none-both (bodyCode (header (receivingRoute parties)) body) _ e in
       let place = none-both (headerSequence (r .ended) (r .counters .current)) _ (read .1) in
@@ -130,7 +127,6 @@ module _ (time : ℕ) (body : List ℕ) (parties : Parties) (t : Running) (r : R
       let number = totalOf lotTotalFields body .number in
       let read = none-both (bodyCode lotTotal body) _ e in
       let place = none-both (lotTotalSequence (r .ended) number (r .counters .current) t) _ (read .1) in
-      let this = held 7 (isOpenLot number (r .counters .current)) _ (lit< tt) (place .0) in
-      record { sound = this-open number (r .counters .current) (this .0); carried = refl }
+      record { sound = this-open number (r .counters .current) (this-told (r .ended) number (r .counters .current) t (place .0)); carried = refl }
   received-allowed Content.SessionTotal e = record { sound = tt; carried = tt }
   received-allowed Content.Unknown e = record { sound = tt; carried = tt }

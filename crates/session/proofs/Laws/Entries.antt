@@ -27,19 +27,19 @@ use Rattle.session.specs.declared.counters.Counters.{Counters}
 use Rattle.session.specs.declared.counters.Lot.{Lot}
 use Rattle.session.specs.declared.counters.Course.{Course}
 use Rattle.session.specs.declared.running.Running.{Running}
-use Rattle.session.specs.Sending.{openNumber, endingLot}
-use Rattle.session.specs.Ledger.{LedgerLot, Ledger, Entry, receivedEntry, bodyEntry, partEntry, ofOperation}
+use Rattle.session.specs.Sending.{openNumber, endingLot, Send}
+use Rattle.session.specs.Ledger.{LedgerLot, Ledger, Entry, receivedEntry, bodyEntry, sentEntry, ofOperation}
 use Rattle.session.proofs.Laws.Ledger.{summary, openOf, runningOf, lotOf}
 
 header-read : (route : Route) (h : Header) → tableTakes (headerFields route) (headerValues route h) ≡ true → headerOf (bodyBytes route (Body.opening h)) ≡ h
 unfolding bodyBytes
 header-read route h e = header-told route h e
 
-pub header-entry : (route : Route) (h : Header) → tableTakes (headerFields route) (headerValues route h) ≡ true → bodyEntry (bodyBytes route (Body.opening h)) ≡ Entry.header (h .number)
+pub header-entry : (route : Route) (h : Header) → tableTakes (headerFields route) (headerValues route h) ≡ true → bodyEntry (bodyBytes route (Body.opening h)) ≡ some (Entry.header (h .number))
 unfolding receivedEntry
-header-entry route h fits = ap (λ (c : Content). receivedEntry c (bodyBytes route (Body.opening h))) (content-told route (Body.opening h)) ∙ ap (λ (x : Header). Entry.header (x .number)) (header-read route h fits)
+header-entry route h fits = ap (λ (c : Content). receivedEntry c (bodyBytes route (Body.opening h))) (content-told route (Body.opening h)) ∙ ap (λ (x : Header). some (Entry.header (x .number))) (header-read route h fits)
 
-pub detail-entry : (operation : ℕ) (part : List ℕ) → partSendable operation part ≡ true → bodyEntry (writtenDetail (packedByte operation) part) ≡ partEntry operation part
+pub detail-entry : (operation : ℕ) (part : List ℕ) → partSendable operation part ≡ true → bodyEntry (writtenDetail (packedByte operation) part) ≡ some (sentEntry (Send.detail operation part))
 unfolding receivedEntry
 detail-entry operation part s =
     let fit = sendable-part operation part s in
@@ -48,13 +48,13 @@ detail-entry operation part s =
     let some-bytes : 0 < length part = omega (arith, fit .least) in
     let op = operation-written o part some-bytes in
     ap (λ (c : Content). receivedEntry c body) (ap byOperation op ∙ detail-told o (operation-byte operation (fit .kind)))
-    ∙ λ i. Entry.detail (ofOperation (op i) (documents-written o part i))
+    ∙ λ i. some (Entry.detail (ofOperation (op i) (documents-written o part i)))
 
-pub lot-total-entry : (route : Route) (t : Total) → bodyEntry (bodyBytes route (Body.lotEnding t)) ≡ Entry.lotTotal
+pub lot-total-entry : (route : Route) (t : Total) → bodyEntry (bodyBytes route (Body.lotEnding t)) ≡ some Entry.lotTotal
 unfolding receivedEntry
 lot-total-entry route t = ap (λ (c : Content). receivedEntry c (bodyBytes route (Body.lotEnding t))) (content-told route (Body.lotEnding t))
 
-pub session-total-entry : (route : Route) (t : Total) → bodyEntry (bodyBytes route (Body.sessionEnding t)) ≡ Entry.sessionTotal
+pub session-total-entry : (route : Route) (t : Total) → bodyEntry (bodyBytes route (Body.sessionEnding t)) ≡ some Entry.sessionTotal
 unfolding receivedEntry
 session-total-entry route t = ap (λ (c : Content). receivedEntry c (bodyBytes route (Body.sessionEnding t))) (content-told route (Body.sessionEnding t))
 

@@ -19,15 +19,14 @@ use Rattle.session.specs.declared.running.Running.{Running}
 use Rattle.session.specs.Outcome.{Held, Outcome, refused, decided, silent, wrote, held, withPresenting, withReceiving}
 use Rattle.session.specs.Hours.{atClose}
 use Rattle.session.specs.Time.{timeRefusal, clockRefusal}
-use Rattle.session.specs.Sending.{sendRefusal, send, headerStop, sessionTotalStop, sendHeader, sendDetail, sendLotTotal, sendSessionTotal}
+use Rattle.session.specs.Sending.{sendRefusal, send, Send, sendStop, sentEffect, sendMessage}
 use Rattle.session.specs.Receiving.{isNext, receiveRefusal, receive, receivingAfter, afterNew, afterRepeat, afterMessage, replying}
 use Rattle.session.specs.Reply.{replyRefusal, takeReply}
 use Rattle.session.specs.Clock.{closing, clock}
-use Rattle.session.specs.Premise.{PendingCarried, Sound, Carried, Kept, KeptBeside}
+use Rattle.session.specs.Premise.{PendingSound, PendingCarried, Sound, Carried, Kept, KeptBeside}
 use Rattle.session.specs.Engine.{Call, Engine, meaning, directionOf, lent, givenBack, performed, Ready}
 use Rattle.session.proofs.Laws.Decided.{either, unrefused, refused-keeps}
-use Rattle.session.proofs.Laws.Allowed.{header-sound}
-use Rattle.session.proofs.Laws.Sound.{Premise, send-sound, send-carried, clock-sound, clock-carried, send-header-keeps, send-detail-keeps, send-lot-total-keeps, send-session-total-keeps, receive-keeps, reply-keeps, clock-keeps}
+use Rattle.session.proofs.Laws.Sound.{Premise, send-sound, send-carried, clock-sound, clock-carried, send-message-keeps, receive-keeps, reply-keeps, clock-keeps}
 
 -- a call is a refusal that leaves what it was lent, or what it does where its chain gives 0
 pub record Decided (h : Held) (o : Outcome) : Type 0 where
@@ -37,11 +36,8 @@ pub record Decided (h : Held) (o : Outcome) : Type 0 where
   pub outcome : o ≡ decided refusal h done
 
 pub is-decided : (call : Call) (h : Held) → Decided h (meaning call h)
-unfolding meaning sendHeader sendDetail sendLotTotal sendSessionTotal send receive takeReply clock
-is-decided (Call.header time moment centre number) h = record { refusal = _; done = _; unrefused = refl; outcome = refl }
-is-decided (Call.detail time operation part) h = record { refusal = _; done = _; unrefused = refl; outcome = refl }
-is-decided (Call.lotTotal time) h = record { refusal = _; done = _; unrefused = refl; outcome = refl }
-is-decided (Call.sessionTotal time) h = record { refusal = _; done = _; unrefused = refl; outcome = refl }
+unfolding meaning sendMessage send receive takeReply clock
+is-decided (Call.send time x) h = record { refusal = _; done = _; unrefused = refl; outcome = refl }
 is-decided (Call.receive time bytes) h = record { refusal = _; done = _; unrefused = refl; outcome = refl }
 is-decided (Call.reply time bytes) h = record { refusal = _; done = _; unrefused = refl; outcome = refl }
 is-decided (Call.clock time) h = record { refusal = _; done = _; unrefused = refl; outcome = refl }
@@ -91,10 +87,7 @@ Apart Direction.receiving call = (h : Held) (p : Presenting) → call (heldPrese
 -- all calls but the clock call and the report, which look at both, belong to one direction
 abbrev belongs : Call → Bool
 belongs (Call.clock time) = false
-belongs (Call.header time moment centre number) = true
-belongs (Call.detail time operation part) = true
-belongs (Call.lotTotal time) = true
-belongs (Call.sessionTotal time) = true
+belongs (Call.send time x) = true
 belongs (Call.receive time bytes) = true
 belongs (Call.reply time bytes) = true
 belongs Call.report = false
@@ -111,12 +104,16 @@ received-apart time bytes h p =
     either-way true a b = refl
     either-way false a b = refl
 
+sent-apart : (time : ℕ) (x : Send) → Apart Direction.presenting (sendMessage time x)
+unfolding sendMessage send sendRefusal timeRefusal clockRefusal
+sent-apart time (Send.header moment centre number) h r = apart (heldReceiving r) _ h _
+sent-apart time (Send.detail operation part) h r = apart (heldReceiving r) _ h _
+sent-apart time Send.lotTotal h r = apart (heldReceiving r) _ h _
+sent-apart time Send.sessionTotal h r = apart (heldReceiving r) _ h _
+
 pub directions-apart : (call : Call) → belongs call ≡ true → Apart (directionOf call) (meaning call)
-unfolding meaning sendHeader sendDetail sendLotTotal sendSessionTotal send sendRefusal takeReply replyRefusal timeRefusal clockRefusal
-directions-apart (Call.header time moment centre number) b = λ (h : Held) (r : Receiving). apart (heldReceiving r) _ h _
-directions-apart (Call.detail time operation part) b = λ (h : Held) (r : Receiving). apart (heldReceiving r) _ h _
-directions-apart (Call.lotTotal time) b = λ (h : Held) (r : Receiving). apart (heldReceiving r) _ h _
-directions-apart (Call.sessionTotal time) b = λ (h : Held) (r : Receiving). apart (heldReceiving r) _ h _
+unfolding meaning takeReply replyRefusal timeRefusal clockRefusal
+directions-apart (Call.send time x) b = sent-apart time x
 directions-apart (Call.reply time bytes) b = λ (h : Held) (r : Receiving). apart (heldReceiving r) _ h _
 directions-apart Call.report b = absurd (false≢true b)
 directions-apart (Call.clock time) b = absurd (false≢true b)
@@ -135,11 +132,8 @@ by-decision : (h : Held) (n : ℕ) (done : Outcome) → done .left .session .par
 by-decision h n done p r = either (λ (o : Outcome). Untouched Direction.presenting h (o .left)) n h done (λ (k : ℕ). record { parties = refl; otherSide = refl }) (λ (e : n ≡ 0). record { parties = p; otherSide = r })
 
 pub untouched : (call : Call) (h : Held) → Untouched (directionOf call) h (meaning call h .left)
-unfolding meaning sendHeader sendDetail sendLotTotal sendSessionTotal send receive takeReply clock
-untouched (Call.header time moment centre number) h = by-decision h _ _ refl refl
-untouched (Call.detail time operation part) h = by-decision h _ _ refl refl
-untouched (Call.lotTotal time) h = by-decision h _ _ refl refl
-untouched (Call.sessionTotal time) h = by-decision h _ _ refl refl
+unfolding meaning sendMessage send receive takeReply clock
+untouched (Call.send time x) h = by-decision h _ _ refl refl
 untouched (Call.reply time bytes) h = by-decision h _ _ refl refl
 untouched (Call.clock time) h = by-decision h _ _ refl refl
 untouched Call.report h = record { parties = refl; otherSide = refl }
@@ -156,10 +150,7 @@ abbrev pub stampOf : Session → Stamp
 stampOf s = record { seen = s .seen; close = s .close }
 
 abbrev pub stamped : Call → Session → Stamp
-stamped (Call.header time moment centre number) s = record { seen = time; close = s .close }
-stamped (Call.detail time operation part) s = record { seen = time; close = s .close }
-stamped (Call.lotTotal time) s = record { seen = time; close = s .close }
-stamped (Call.sessionTotal time) s = record { seen = time; close = s .close }
+stamped (Call.send time x) s = record { seen = time; close = s .close }
 stamped (Call.receive time bytes) s = record { seen = time; close = s .close }
 stamped (Call.reply time bytes) s = record { seen = time; close = s .close }
 stamped (Call.clock time) s = record { seen = time; close = cond (atClose time) (closing s) (s .close) }
@@ -169,11 +160,8 @@ stamp-decided : (stamp : Stamp) (n : ℕ) (h : Held) (done : Outcome) → stampO
 stamp-decided stamp n h done d = either (λ (o : Outcome). o .number ≡ 0 → stampOf (o .left .session) ≡ stamp) n h done (λ (k : ℕ) (z : suc k ≡ 0). absurd (omega arith)) (λ (e : n ≡ 0) (z : done .number ≡ 0). d)
 
 pub stamps : (call : Call) (h : Held) → meaning call h .number ≡ 0 → stampOf (meaning call h .left .session) ≡ stamped call (h .session)
-unfolding meaning sendHeader sendDetail sendLotTotal sendSessionTotal send receive takeReply clock
-stamps (Call.header time moment centre number) h = stamp-decided _ _ h _ refl
-stamps (Call.detail time operation part) h = stamp-decided _ _ h _ refl
-stamps (Call.lotTotal time) h = stamp-decided _ _ h _ refl
-stamps (Call.sessionTotal time) h = stamp-decided _ _ h _ refl
+unfolding meaning sendMessage send receive takeReply clock
+stamps (Call.send time x) h = stamp-decided _ _ h _ refl
 stamps (Call.reply time bytes) h = stamp-decided _ _ h _ refl
 stamps (Call.clock time) h = stamp-decided _ _ h _ refl
 stamps Call.report h = λ z. refl
@@ -182,10 +170,7 @@ stamps (Call.receive time bytes) h = stamp-decided _ _ h _ (either-message (λ (
 -- Every call keeps the premise of its direction.
 pub keeps : (call : Call) (h : Held) → Premise (directionOf call) h → Premise (directionOf call) (meaning call h .left)
 unfolding meaning
-keeps (Call.header time moment centre number) h g = send-header-keeps time moment centre number h g
-keeps (Call.detail time operation part) h g = send-detail-keeps time operation part h g
-keeps (Call.lotTotal time) h g = send-lot-total-keeps time h g
-keeps (Call.sessionTotal time) h g = send-session-total-keeps time h g
+keeps (Call.send time x) h g = send-message-keeps time x h g
 keeps (Call.receive time bytes) h g = receive-keeps time bytes h g
 keeps (Call.reply time bytes) h g = reply-keeps time bytes h g
 keeps (Call.clock time) h g = clock-keeps time h Direction.presenting g
@@ -205,25 +190,14 @@ other-carried Direction.receiving before after same t g =
 pub kept-beside : (call : Call) (h : Held) → Premise (directionOf call) h → KeptBeside (directionOf call) (h .session) (meaning call h .left .session) (meaning call h .left .running)
 kept-beside call h g = let after = keeps call h g in record { sound = after .sound; carried = after .carried; other = other-carried (directionOf call) (h .session) (meaning call h .left .session) (untouched call h .otherSide) }
 
--- and those that are lent no running totals, whatever both carry
-sends-kept : (h : Held) (after : Session) → OtherSide Direction.presenting (h .session) after → Sound after → ((t : Running) → Carried Direction.presenting (h .session) t → Carried Direction.presenting after t) → Kept (h .session) after
-sends-kept h after same g own = record { sound = g; carried = each }
+-- and those that are lent no running totals, whatever both carry: a send whose effect asks nothing of them, and the clock call
+pub sends-kept : (time : ℕ) (x : Send) (h : Held) → (sendStop x time h ≡ 0 → PendingSound (sentEffect x h) (h .session .presenting .counters)) → ((t : Running) → PendingCarried (sentEffect x h) t) → Sound (h .session) → Kept (h .session) (sendMessage time x h .left .session)
+unfolding sendMessage meaning
+sends-kept time x h sound carried g = record { sound = send-sound time _ _ _ h g sound; carried = each }
   where
-    each : (d : Direction) (t : Running) → Carried d (h .session) t → Carried d after t
-    each Direction.presenting t c = own t c
-    each Direction.receiving t c = other-carried Direction.presenting (h .session) after same t c
-
-pub header-kept : (time moment centre number : ℕ) (h : Held) → Sound (h .session) → Kept (h .session) (sendHeader time moment centre number h .left .session)
-unfolding sendHeader meaning
-header-kept time moment centre number h g =
-    sends-kept h _ (untouched (Call.header time moment centre number) h .otherSide) (send-sound time _ _ _ h g (header-sound time moment centre number (h .session .presenting)))
-    (λ (t : Running) (c : Carried Direction.presenting (h .session) t). send-carried time _ _ _ h t c (λ (e : headerStop time moment centre number (h .session .presenting) ≡ 0). tt))
-
-pub session-total-kept : (time : ℕ) (h : Held) → Sound (h .session) → Kept (h .session) (sendSessionTotal time h .left .session)
-unfolding sendSessionTotal meaning
-session-total-kept time h g =
-    sends-kept h _ (untouched (Call.sessionTotal time) h .otherSide) (send-sound time _ _ _ h g (λ (e : sessionTotalStop (h .session .presenting) ≡ 0). tt))
-    (λ (t : Running) (c : Carried Direction.presenting (h .session) t). send-carried time _ _ _ h t c (λ (e : sessionTotalStop (h .session .presenting) ≡ 0). tt))
+    each : (d : Direction) (t : Running) → Carried d (h .session) t → Carried d (sendMessage time x h .left .session) t
+    each Direction.presenting t c = send-carried time _ _ _ h t c (λ (e : sendStop x time h ≡ 0). carried t)
+    each Direction.receiving t c = other-carried Direction.presenting (h .session) (sendMessage time x h .left .session) (untouched (Call.send time x) h .otherSide) t c
 
 pub clock-kept : (time : ℕ) (h : Held) → Sound (h .session) → Kept (h .session) (clock time h .left .session)
 clock-kept time h g = record { sound = clock-sound time h g; carried = clock-carried time h }

@@ -19,7 +19,6 @@ use Rattle.session.specs.declared.effect.Effect.{Effect}
 use Rattle.session.specs.declared.session.Presenting.{Presenting}
 use Rattle.session.specs.declared.session.Receiving.{Receiving}
 use Rattle.session.specs.declared.running.Running.{Running}
-use Rattle.session.specs.Running.{empty}
 use Rattle.session.specs.Receiving.{acceptedLots}
 use Rattle.session.specs.Ledger.{LedgerLot, Ledger, Entry, enter, bodyEntry, lotSum, numbers, Distinct}
 use Rattle.session.specs.Engine.{Call}
@@ -30,17 +29,10 @@ use Rattle.session.proofs.Laws.Foreign.{Foreign}
 use Rattle.session.proofs.Laws.Line.{accepts, MessageFact, ReplyFact}
 use Rattle.session.proofs.Laws.Lists.{upTo}
 
--- what waits, as the presenter's state has it; an unknown body never waits, and is put down as pending so that whatever waits is
-abbrev pub pendingAs : Entry → Ledger → Effect
-pendingAs (Entry.header number) b = effectOf (Entry.header number) b
-pendingAs (Entry.detail ds) b = effectOf (Entry.detail ds) b
-pendingAs Entry.lotTotal b = effectOf Entry.lotTotal b
-pendingAs Entry.sessionTotal b = Effect.SessionTotal
-pendingAs Entry.unknown b = Effect.Detail empty
-
+-- what waits, as the presenter's state has it
 abbrev pub waitingEffect : Option Waiting → Ledger → Effect
 waitingEffect none b = Effect.Nothing
-waitingEffect (some m) b = pendingAs (m .entry) b
+waitingEffect (some m) b = effectOf (m .entry) b
 
 -- the operation of the reply to what waits
 abbrev pub replyFor : Entry → ReplyOperation
@@ -48,7 +40,6 @@ replyFor (Entry.header number) = ReplyOperation.Other
 replyFor (Entry.detail ds) = ReplyOperation.Other
 replyFor Entry.lotTotal = ReplyOperation.LotTotal
 replyFor Entry.sessionTotal = ReplyOperation.SessionTotal
-replyFor Entry.unknown = ReplyOperation.Other
 
 -- the message that waits is on the line, and reads as its entry
 pub record OnLine (route : Route) (serial : ℕ) (m : Waiting) (trace : List Event) : Type 0 where
@@ -56,7 +47,7 @@ pub record OnLine (route : Route) (serial : ℕ) (m : Waiting) (trace : List Eve
   pub good : envelopeGood Kind.Message (m .message) ≡ true
   pub way : envelopeOf (m .message) .route ≡ route
   pub numbered : serialOf (m .message) ≡ serial
-  pub reads : bodyEntry (bodyOf (m .message)) ≡ m .entry
+  pub reads : bodyEntry (bodyOf (m .message)) ≡ some (m .entry)
 
 pub record PresenterSide (p : Presenting) (t : Running) (b : PresenterLedger) : Type 0 where
   pub course : _≡_ {A = Course} (record { counters = p .counters; running = t }) (summary (b .ledger))

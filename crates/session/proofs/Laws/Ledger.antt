@@ -60,7 +60,6 @@ effectOf (Entry.header number) b = Effect.Header number
 effectOf (Entry.detail ds) b = Effect.Detail (sum ds)
 effectOf Entry.lotTotal b = Effect.LotTotal (lotOf (b .current))
 effectOf Entry.sessionTotal b = Effect.SessionTotal
-effectOf Entry.unknown b = Effect.Nothing
 
 -- an entry that is accepted into an open lot finds one
 abbrev pub Finds : Entry → OpenLot → Type 0
@@ -68,7 +67,6 @@ Finds (Entry.header number) lot = Unit {0}
 Finds (Entry.detail ds) lot = isOpen lot ≡ true
 Finds Entry.lotTotal lot = isOpen lot ≡ true
 Finds Entry.sessionTotal lot = Unit {0}
-Finds Entry.unknown lot = Unit {0}
 
 -- counters move as the ledger does
 pub mirrors : (e : Entry) (accepted : Bool) (b : Ledger) → (accepted ≡ true → Finds e (openOf (b .current))) → advance (effectOf e b) accepted (summary b) ≡ summary (enter e accepted b)
@@ -89,4 +87,3 @@ mirrors Entry.lotTotal true b h = go (b .current) (h refl)
     go (some l) e =
         λ i. record { counters = record { current = OpenLot.None; lots = sym (one-longer (b .lots) l) i; gathered = sym (lots-last (b .lots) l) i }; running = empty }
 mirrors Entry.sessionTotal accepted b h = refl
-mirrors Entry.unknown accepted b h = refl

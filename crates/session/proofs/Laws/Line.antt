@@ -30,7 +30,7 @@ accepts c = eqb (codeNumber c) 0
 -- a message of a direction is no later than the presenter's last, and that one reads as what is waiting
 abbrev pub MessageFact : Route → (serial : ℕ) → Option Waiting → List ℕ → Type 0
 MessageFact route serial waiting bytes =
-    envelopeGood Kind.Message bytes ≡ true → envelopeOf bytes .route ≡ route → (serialOf bytes ≤ serial) × ((m : Waiting) → serialOf bytes ≡ serial → waiting ≡ some m → bodyEntry (bodyOf bytes) ≡ m .entry)
+    envelopeGood Kind.Message bytes ≡ true → envelopeOf bytes .route ≡ route → (serialOf bytes ≤ serial) × ((m : Waiting) → serialOf bytes ≡ serial → waiting ≡ some m → bodyEntry (bodyOf bytes) ≡ some (m .entry))
 
 -- a reply is to nothing later than the receiver's last, and that one brings the kept code
 abbrev pub ReplyFact : Route → (serial : ℕ) → Code → List ℕ → Type 0

@@ -28,7 +28,7 @@ use Rattle.session.specs.Course.{advance, kept}
 use Rattle.session.specs.Sequence.{isOpen, headerSequence}
 use Rattle.session.specs.Sending.{openNumber}
 use Rattle.session.specs.Receiving.{acceptedLots, numberUsed, headerCode, receivedCode, receivedEffect}
-use Rattle.session.specs.Ledger.{Document, LedgerLot, Ledger, Entry, longer, moved, enter, receivedEntry, ofOperation, sum, lotSum, numbers, Distinct}
+use Rattle.session.specs.Ledger.{Document, LedgerLot, Ledger, Entry, longer, moved, enter, enterRead, receivedEntry, ofOperation, sum, lotSum, numbers, Distinct}
 use Rattle.session.proofs.Laws.Allowed.{Allowed}
 use Rattle.session.proofs.Laws.Ledger.{summary, openOf, runningOf, effectOf, lotOf, detail-sum, mirrors}
 use Rattle.session.proofs.Laws.Lists.{distinct-last, numbers-last, sums-last, number-used}
@@ -88,7 +88,7 @@ module _ (r : Receiving) (t : Running) (b : Ledger) (m : Mirrored r t b) where
     free-header time p Content.Unknown e = tt
 
     -- the counters
-    pub course-mirrors : (c : Content) (accepted : Bool) → (accepted ≡ true → Allowed (receivedEffect c body t) course) → advance (receivedEffect c body t) accepted course ≡ summary (enter (receivedEntry c body) accepted b)
+    pub course-mirrors : (c : Content) (accepted : Bool) → (accepted ≡ true → Allowed (receivedEffect c body t) course) → advance (receivedEffect c body t) accepted course ≡ summary (enterRead (receivedEntry c body) accepted b)
     unfolding receivedEffect receivedEntry advance enter
     course-mirrors Content.Header accepted a = let e = Entry.header (headerOf body .number) in ap (advance (effectOf e b) accepted) (m .course) ∙ mirrors e accepted b (λ (h : accepted ≡ true). tt)
     course-mirrors Content.Detail accepted a =
@@ -109,7 +109,7 @@ module _ (r : Receiving) (t : Running) (b : Ledger) (m : Mirrored r t b) where
         let effect = receivedEffect c body t in
         acceptedLots (record { serial = r .serial; reply = r .reply; counters = advance effect accepted course .counters; ended = r .ended; lots = kept effect accepted (r .counters .lots) (r .lots) })
 
-    pub lots-mirror : (c : Content) (accepted : Bool) → (accepted ≡ true → Allowed (receivedEffect c body t) course) → (isOpen (r .counters .current) ≡ true → r .counters .lots < length (r .lots)) → keptLots c accepted ≡ map lotSum (enter (receivedEntry c body) accepted b .lots)
+    pub lots-mirror : (c : Content) (accepted : Bool) → (accepted ≡ true → Allowed (receivedEffect c body t) course) → (isOpen (r .counters .current) ≡ true → r .counters .lots < length (r .lots)) → keptLots c accepted ≡ map lotSum (enterRead (receivedEntry c body) accepted b .lots)
     unfolding receivedEffect receivedEntry advance enter kept
     lots-mirror Content.LotTotal true a room =
         let last = ended (totalOf lotTotalFields body .number) (a refl .sound) in
@@ -127,7 +127,7 @@ module _ (r : Receiving) (t : Running) (b : Ledger) (m : Mirrored r t b) where
     lots-mirror Content.Unknown accepted a room = m .kept
 
     -- no number stands twice, and the open lot's is new
-    pub numbers-mirror : (c : Content) (accepted : Bool) → (accepted ≡ true → Allowed (receivedEffect c body t) course) → (accepted ≡ true → FreeHeader c) → Distinct (numbers (enter (receivedEntry c body) accepted b .lots)) × NewNumber (enter (receivedEntry c body) accepted b .current) (enter (receivedEntry c body) accepted b .lots)
+    pub numbers-mirror : (c : Content) (accepted : Bool) → (accepted ≡ true → Allowed (receivedEffect c body t) course) → (accepted ≡ true → FreeHeader c) → Distinct (numbers (enterRead (receivedEntry c body) accepted b .lots)) × NewNumber (enterRead (receivedEntry c body) accepted b .current) (enterRead (receivedEntry c body) accepted b .lots)
     unfolding receivedEffect receivedEntry enter
     numbers-mirror Content.Header true a free = (m .once, free refl)
     numbers-mirror Content.Header false a free = (m .once, m .new)

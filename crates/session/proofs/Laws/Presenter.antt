@@ -9,22 +9,19 @@ use native.Mathlib.Omega.{arith}
 use lib.Dec.{eqb}
 use lib.ListN.{length, take}
 use lib.Seq.{sets}
-use Rattle.session.proofs.Laws.Running.{gather-empty}
 use Rattle.codes.proofs.Laws.Chain.{none-both}
 use Rattle.detail.specs.Codes.{presenterCode}
-use Rattle.detail.specs.Writing.{writtenDetail}
 use Rattle.detail.proofs.Laws.Codes.{accepted-part}
 use Rattle.packed.specs.Pieces.{pieces}
 use Rattle.packed.specs.Writing.{packedByte}
 use Rattle.document.specs.Limits.{documentBytes}
 use Rattle.message.specs.declared.route.Route.{Route}
 use Rattle.message.specs.declared.envelope.Kind.{Kind}
-use Rattle.message.specs.declared.header.Header.{Header}
 use Rattle.message.specs.declared.reply.Reply.{Reply}
 use Rattle.message.specs.Reply.{writtenReplyBody}
 use Rattle.message.specs.Limits.{envelopeBytes}
 use Rattle.message.specs.Envelope.{lengthGood, serialOf, envelopeGood, envelopeOf, bodyOf}
-use Rattle.message.specs.Line.{bodyBytes, wholeMessage, wholeReply}
+use Rattle.message.specs.Line.{wholeMessage, wholeReply}
 use Rattle.message.proofs.Laws.Line.{short}
 use Rattle.message.proofs.Laws.Envelope.{body-told, whole-length, written-good}
 use Rattle.session.specs.declared.counters.Course.{Course}
@@ -36,12 +33,12 @@ use Rattle.session.specs.Course.{advance}
 use Rattle.session.specs.Sequence.{isOpen}
 use Rattle.session.specs.Outcome.{Held, Outcome, silent}
 use Rattle.session.specs.Time.{clockRefusal}
-use Rattle.session.specs.Sending.{headerBody, posted, isPending, nextEnvelope, sendRefusal, sent, send, headerStop, detailStop, lotTotalStop, sessionTotalStop, partAdds, sendHeader, sendDetail, sendLotTotal, sendSessionTotal}
+use Rattle.session.specs.Sending.{headerBody, posted, isPending, nextEnvelope, sendRefusal, sent, send, detailStop, Send, sendStop, sentEffect, sentBody, sendMessage}
 use Rattle.session.specs.Receiving.{isNext, receiveRefusal, receive, afterNew, afterRepeat, replying}
 use Rattle.session.specs.Reply.{isAccepted, replyRefusal, replied, takeReply}
 use Rattle.session.specs.Clock.{ticked, clock}
 use Rattle.session.specs.Premise.{PendingSound}
-use Rattle.session.specs.Ledger.{Entry, Ledger, enter, bodyEntry, partEntry, numbers, Distinct}
+use Rattle.session.specs.Ledger.{Entry, Ledger, enter, sentEntry, bodyEntry, numbers, Distinct}
 use Rattle.session.specs.Engine.{Call, Engine, saidBy, meaning, lent, performed, Ready}
 use Rattle.session.specs.Ends.{End, Event, WrittenBefore, Brought}
 use Rattle.session.specs.Entering.{Waiting, PresenterLedger, waitingFor, enterWaiting, answeredWith, presenterEnters}
@@ -49,17 +46,16 @@ use Rattle.session.proofs.Laws.Decided.{either, saidIn, first-bytes}
 use Rattle.session.proofs.Laws.Refusals.{SendTold, send-told, ReceiveTold, receive-told, ReplyTold, reply-told}
 use Rattle.session.proofs.Laws.Ledger.{summary, openOf, Finds, effectOf, detail-sum, mirrors}
 use Rattle.session.proofs.Laws.Line.{accepts, MessageFact, ReplyFact, message-no-reply, route-told, serial-read}
-use Rattle.session.proofs.Laws.Joined.{OnLine, pendingAs, waitingEffect, eventOf, Link, PresentingEnd, ReceivingEnd, presentingEnd, Joined, passed-by, refused-by, not-entered}
+use Rattle.session.proofs.Laws.Joined.{OnLine, waitingEffect, eventOf, Link, PresentingEnd, ReceivingEnd, presentingEnd, Joined, passed-by, refused-by, not-entered}
 use Rattle.session.proofs.Laws.Foreign.{Foreign, nothing-foreign, next-fits, reply-foreign}
 use Rattle.session.proofs.Laws.Written.{header-takes, detail-long}
 use Rattle.session.proofs.Laws.Entries.{header-entry, detail-entry, lot-total-entry, session-total-entry, open-lot-same}
 
-pub pending-some : (e : Entry) (b : Ledger) → isPending (pendingAs e b) ≡ true
+pub pending-some : (e : Entry) (b : Ledger) → isPending (effectOf e b) ≡ true
 pending-some (Entry.header number) b = refl
 pending-some (Entry.detail ds) b = refl
 pending-some Entry.lotTotal b = refl
 pending-some Entry.sessionTotal b = refl
-pending-some Entry.unknown b = refl
 
 module _ (x : End) (e : Engine) (ready : Ready e) (different : e .session .parties .own ≡ e .session .parties .partner → ⊥) (r : ReceivingEnd) (bp : PresenterLedger) (trace : List Event) where
   abbrev route : Route
@@ -76,7 +72,7 @@ module _ (x : End) (e : Engine) (ready : Ready e) (different : e .session .parti
 
   module _ (j : Joined route here r trace) where
     -- what is pending, where an entry waits
-    pending-is : (m : Waiting) → bp .waiting ≡ some m → p .pending ≡ pendingAs (m .entry) (bp .ledger)
+    pending-is : (m : Waiting) → bp .waiting ≡ some m → p .pending ≡ effectOf (m .entry) (bp .ledger)
     pending-is m w = j .presenter .pending ∙ ap (λ (o : Option Waiting). waitingEffect o (bp .ledger)) w
 
     -- the ends after a call with this outcome, in which the running totals are the call's own or not
@@ -86,24 +82,39 @@ module _ (x : End) (e : Engine) (ready : Ready e) (different : e .session .parti
     refused-after : (call : Call) (k : ℕ) → Joined route (presentingEnd p pt (cond (eqb (suc k) 0) (presenterEnters call [] bp) bp)) r (eventOf x call (suc k) [] ∷ trace)
     refused-after call k = subst (λ (b : PresenterLedger). Joined route (presentingEnd p pt b) r (eventOf x call (suc k) [] ∷ trace)) (sym (not-entered k (presenterEnters call [] bp) bp)) (refused-by route here r trace j (eventOf x call (suc k) []) k refl)
 
-    module _ (call : Call) (time code : ℕ) (effect : Effect) (body line : List ℕ) (entry : Entry) where
+    -- what a send that nothing stops awaits is its entry's, and its body reads as that
+    record SentSo (h : Held) (m : Send) : Type 0 where
+      awaits : sentEffect m h ≡ effectOf (sentEntry m) (bp .ledger)
+      reads : bodyEntry (sentBody m h) ≡ some (sentEntry m)
+      long : lengthGood Kind.Message (envelopeBytes + length (sentBody m h)) ≡ true
+
+    module _ (time : ℕ) (m : Send) (line : List ℕ) where
       abbrev h : Held
       h = lent Direction.presenting line e
+
+      abbrev code : ℕ
+      code = sendStop m time h
+
+      abbrev effect : Effect
+      effect = sentEffect m h
+
+      abbrev body : List ℕ
+      body = sentBody m h
 
       abbrev bytes : List ℕ
       bytes = wholeMessage (nextEnvelope (e .session)) body
 
       abbrev event : Event
-      event = eventOf x call 0 bytes
+      event = eventOf x (Call.send time m) 0 bytes
 
       abbrev waiting : Waiting
-      waiting = record { entry = entry; message = bytes }
+      waiting = record { entry = sentEntry m; message = bytes }
 
       -- the message is on the line, and waits
-      sent-joined : SendTold code bytes h → effect ≡ pendingAs entry (bp .ledger) → bodyEntry body ≡ entry → lengthGood Kind.Message (envelopeBytes + length body) ≡ true → Joined route (presentingEnd (sent time effect (e .session) .presenting) pt (waitingFor entry bytes bp)) r (event ∷ trace)
-      sent-joined told matching reads long =
+      sent-joined : SendTold code bytes h → SentSo h m → Joined route (presentingEnd (sent time effect (e .session) .presenting) pt (waitingFor (sentEntry m) bytes bp)) r (event ∷ trace)
+      sent-joined told so =
           record {
-            presenter = record { course = j .presenter .course; pending = matching; once = j .presenter .once };
+            presenter = record { course = j .presenter .course; pending = so .awaits; once = j .presenter .once };
             receiver = j .receiver;
             seen = j .seen;
             link = linked (j .link);
@@ -118,10 +129,10 @@ module _ (x : End) (e : Engine) (ready : Ready e) (different : e .session .parti
               subst (λ (x : Waiting). OnLine route (suc (p .serial)) x (event ∷ trace)) (Option·some-injective waiting m same)
               (record {
                 written = inl (refl, refl);
-                good = written-good Kind.Message (nextEnvelope (e .session)) body fit long;
+                good = written-good Kind.Message (nextEnvelope (e .session)) body fit (so .long);
                 way = route-told Kind.Message (nextEnvelope (e .session)) body fit;
                 numbered = serial-read Kind.Message (nextEnvelope (e .session)) body fit;
-                reads = ap bodyEntry (body-told Kind.Message (nextEnvelope (e .session)) body) ∙ reads;
+                reads = ap bodyEntry (body-told Kind.Message (nextEnvelope (e .session)) body) ∙ so .reads;
               })
 
           waits : (m : Waiting) → bp .waiting ≡ some m → ⊥
@@ -137,7 +148,7 @@ module _ (x : End) (e : Engine) (ready : Ready e) (different : e .session .parti
               subst (MessageFact route (suc (p .serial)) (some waiting)) (w .1)
               (λ (g : envelopeGood Kind.Message bytes ≡ true) (way : envelopeOf bytes .route ≡ route). (
                 omega (arith, serial-read Kind.Message (nextEnvelope (e .session)) body (next-fits (e .session) (ready .sound) (told .more))),
-                λ (m : Waiting) (s : serialOf bytes ≡ suc (p .serial)) (same : some waiting ≡ some m). ap bodyEntry (body-told Kind.Message (nextEnvelope (e .session)) body) ∙ reads ∙ ap (λ (x : Waiting). x .entry) (Option·some-injective waiting m same),
+                λ (m : Waiting) (s : serialOf bytes ≡ suc (p .serial)) (same : some waiting ≡ some m). ap bodyEntry (body-told Kind.Message (nextEnvelope (e .session)) body) ∙ so .reads ∙ ap (λ (x : Waiting). some (x .entry)) (Option·some-injective waiting m same),
               ))
           all-messages b (inr w) =
               λ (g : envelopeGood Kind.Message b ≡ true) (way : envelopeOf b .route ≡ route).
@@ -148,17 +159,15 @@ module _ (x : End) (e : Engine) (ready : Ready e) (different : e .session .parti
           all-replies b (inl w) = subst (ReplyFact route (r .state .serial) (r .state .reply .code)) (w .1) (λ (g : envelopeGood Kind.Reply bytes ≡ true) (way : envelopeOf bytes .route ≡ route). absurd (message-no-reply (nextEnvelope (e .session)) body g))
           all-replies b (inr w) = j .replies b w
 
-      -- so for every send, if its code lets nothing else pass
-      send-after : ((w : List ℕ) → presenterEnters call w bp ≡ waitingFor entry w bp) → (code ≡ 0 → (effect ≡ pendingAs entry (bp .ledger)) × (bodyEntry body ≡ entry) × (lengthGood Kind.Message (envelopeBytes + length body) ≡ true)) → After call (send time code effect body h .left .running) (send time code effect body h)
-      unfolding send
-      send-after books fits =
-          either (λ (o : Outcome). After call (o .left .running) o) (sendRefusal time code (length bytes) (length (h .line)) (h .session)) h (posted time effect body h)
-          (λ (k : ℕ). refused-after call k)
+      -- so for every send, whose code lets nothing else pass
+      send-after : (code ≡ 0 → SentSo h m) → After (Call.send time m) (sendMessage time m h .left .running) (sendMessage time m h)
+      unfolding sendMessage send
+      send-after fits =
+          either (λ (o : Outcome). After (Call.send time m) (o .left .running) o) (sendRefusal time code (length bytes) (length (h .line)) (h .session)) h (posted time effect body h)
+          (λ (k : ℕ). refused-after (Call.send time m) k)
           (λ (z : sendRefusal time code (length bytes) (length (h .line)) (h .session) ≡ 0).
           let told = send-told time code bytes h z in
-          let fit = fits (told .unstopped) in
-          subst (λ (w : List ℕ). Joined route (presentingEnd (sent time effect (e .session) .presenting) pt (presenterEnters call w bp)) r (eventOf x call 0 w ∷ trace)) (sym (first-bytes bytes line (told .room)))
-          (subst (λ (b : PresenterLedger). Joined route (presentingEnd (sent time effect (e .session) .presenting) pt b) r (event ∷ trace)) (sym (books bytes)) (sent-joined told (fit .0) (fit .1) (fit .2))))
+          subst (λ (w : List ℕ). Joined route (presentingEnd (sent time effect (e .session) .presenting) pt (waitingFor (sentEntry m) w bp)) r (eventOf x (Call.send time m) 0 w ∷ trace)) (sym (first-bytes bytes line (told .room))) (sent-joined told (fits (told .unstopped))))
 
     -- a reply enters what waits, with the code that the receiver kept
     module _ (time : ℕ) (bytes line : List ℕ) where
@@ -171,25 +180,14 @@ module _ (x : End) (e : Engine) (ready : Ready e) (different : e .session .parti
           same-open : p .counters .current ≡ openOf (bp .ledger .current)
           same-open = ap (λ (k : Course). k .counters .current) (j .presenter .course)
 
-          go : (d : Entry) → PendingSound (pendingAs d (bp .ledger)) (p .counters) → Finds d (openOf (bp .ledger .current))
+          go : (d : Entry) → PendingSound (effectOf d (bp .ledger)) (p .counters) → Finds d (openOf (bp .ledger .current))
           go (Entry.header number) s = tt
           go (Entry.detail ds) s = sym (ap isOpen same-open) ∙ s
           go Entry.lotTotal s = sym (ap isOpen same-open) ∙ ap isOpen s
           go Entry.sessionTotal s = tt
-          go Entry.unknown s = tt
 
       entered : (m : Waiting) (accepted : Bool) → bp .waiting ≡ some m → advance (p .pending) accepted (record { counters = p .counters; running = pt }) ≡ summary (enter (m .entry) accepted (bp .ledger))
-      unfolding advance enter
-      entered m accepted w =
-          (λ i. advance ((pending-is m w) i) accepted (j .presenter .course i)) ∙ same (m .entry) accepted (mirrors (m .entry) accepted (bp .ledger) (λ (h : accepted ≡ true). finds m w))
-        where
-          same : (d : Entry) (accepted : Bool) → advance (effectOf d (bp .ledger)) accepted (summary (bp .ledger)) ≡ summary (enter d accepted (bp .ledger)) → advance (pendingAs d (bp .ledger)) accepted (summary (bp .ledger)) ≡ summary (enter d accepted (bp .ledger))
-          same (Entry.header number) accepted h = h
-          same (Entry.detail ds) accepted h = h
-          same Entry.lotTotal accepted h = h
-          same Entry.sessionTotal accepted h = h
-          same Entry.unknown true h = λ i. record { counters = summary (bp .ledger) .counters; running = gather-empty (summary (bp .ledger) .running) i }
-          same Entry.unknown false h = refl
+      entered m accepted w = (λ i. advance ((pending-is m w) i) accepted (j .presenter .course i)) ∙ mirrors (m .entry) accepted (bp .ledger) (λ (h : accepted ≡ true). finds m w)
 
       replied-joined : WrittenBefore bytes trace → ReplyTold bytes (e .session) → Joined route (presentingEnd (replied time (isAccepted bytes) replyHeld .session .presenting) (replied time (isAccepted bytes) replyHeld .running) (answeredWith (isAccepted bytes) bp)) r trace
       replied-joined brought told = go (j .link)
@@ -249,22 +247,24 @@ module _ (x : End) (e : Engine) (ready : Ready e) (different : e .session .parti
         (λ (z : clockRefusal time (e .session .seen) (e .session .close) ≡ 0). passed-by route here r trace j _ (λ (n : 0 ≡ 0). nothing-foreign route))
 
     -- what a presenter's own code lets pass is a message that its receiver reads as it was meant
-    header-fits : (time moment centre number : ℕ) → headerStop time moment centre number p ≡ 0 → let body = bodyBytes route (headerBody moment centre number) in (Effect.Header number ≡ pendingAs (Entry.header number) (bp .ledger)) × (bodyEntry body ≡ Entry.header number) × (lengthGood Kind.Message (envelopeBytes + length body) ≡ true)
-    header-fits time moment centre number z = (refl, header-entry route (record { time = moment; centre = centre; number = number }) (header-takes (e .session) (ready .sound) time moment centre number z), short route (headerBody moment centre number))
-
-    detail-fits : (operation : ℕ) (part : List ℕ) → detailStop operation (e .session .parties .partner) part pt p ≡ 0 → let body = writtenDetail (packedByte operation) part in (Effect.Detail (partAdds operation part) ≡ pendingAs (partEntry operation part) (bp .ledger)) × (bodyEntry body ≡ partEntry operation part) × (lengthGood Kind.Message (envelopeBytes + length body) ≡ true)
+    sent-so : (time : ℕ) (m : Send) (line : List ℕ) → let h = lent Direction.presenting line e in sendStop m time h ≡ 0 → SentSo h m
     unfolding detailStop
-    detail-fits operation part z =
+    sent-so time (Send.header moment centre number) line z =
+        record {
+          awaits = refl;
+          reads = header-entry route (record { time = moment; centre = centre; number = number }) (header-takes (e .session) (ready .sound) time moment centre number z);
+          long = short route (headerBody moment centre number);
+        }
+    sent-so time (Send.detail operation part) line z =
         let own = none-both (presenterCode operation (e .session .parties .partner) part) _ z .0 in
         let may = accepted-part operation (e .session .parties .partner) part own .0 in
-        (ap Effect.Detail (sym (detail-sum (packedByte operation) (pieces documentBytes part))), detail-entry operation part may, detail-long operation part may)
+        record { awaits = ap Effect.Detail (sym (detail-sum (packedByte operation) (pieces documentBytes part))); reads = detail-entry operation part may; long = detail-long operation part may }
+    sent-so time Send.lotTotal line z = record { awaits = ap Effect.LotTotal (open-lot-same (p .counters) pt (bp .ledger) (j .presenter .course)); reads = lot-total-entry route _; long = short route _ }
+    sent-so time Send.sessionTotal line z = record { awaits = refl; reads = session-total-entry route _; long = short route _ }
 
     pub presenter-step : (call : Call) (line : List ℕ) → Brought call trace → let d = performed call line e in Joined route (presentingEnd (d .engine .session .presenting) (d .engine .presenting) (cond (eqb (saidBy d .number) 0) (presenterEnters call (saidBy d .bytes) bp) bp)) r (record { at = x; call = call; said = saidBy d } ∷ trace)
-    unfolding performed meaning sendHeader sendDetail sendLotTotal sendSessionTotal
-    presenter-step (Call.header time moment centre number) line brought = send-after (Call.header time moment centre number) time _ _ _ line (Entry.header number) (λ (w : List ℕ). refl) (header-fits time moment centre number)
-    presenter-step (Call.detail time operation part) line brought = send-after (Call.detail time operation part) time _ _ _ line (partEntry operation part) (λ (w : List ℕ). refl) (detail-fits operation part)
-    presenter-step (Call.lotTotal time) line brought = send-after (Call.lotTotal time) time _ _ _ line Entry.lotTotal (λ (w : List ℕ). refl) (λ (z : lotTotalStop p ≡ 0). (ap Effect.LotTotal (open-lot-same (p .counters) pt (bp .ledger) (j .presenter .course)), lot-total-entry route _, short route _))
-    presenter-step (Call.sessionTotal time) line brought = send-after (Call.sessionTotal time) time _ _ _ line Entry.sessionTotal (λ (w : List ℕ). refl) (λ (z : sessionTotalStop p ≡ 0). (refl, session-total-entry route _, short route _))
+    unfolding performed meaning
+    presenter-step (Call.send time m) line brought = send-after time m line (sent-so time m line)
     presenter-step (Call.receive time bytes) line brought = message-after time bytes line
     presenter-step (Call.reply time bytes) line brought = reply-after time bytes line brought
     presenter-step (Call.clock time) line brought = tick-after time line

@@ -1,13 +1,13 @@
 -- The receiving end of a direction: whatever call is made there, the two ends stay joined.
 use mathlib.Core.Path.{_≡_, refl, ap, sym, subst, _∙_}
 use mathlib.Core.Bool.{Bool, true, false, _||_, cond, false≢true}
+use mathlib.Core.Option.{Option, none, some}
 use mathlib.Core.List.{List, [], _∷_}
 use mathlib.Core.Logic.{_⊎_, inl, inr}
 use Prim.Native.Nat.{ℕ, suc, _≤_, _<_}
 use native.Mathlib.Omega.{arith}
 use lib.Dec.{eqb}
-use lib.ListN.{length, take}
-use lib.Seq.{sets}
+use lib.ListN.{length}
 use borrow.Author.Tests.{eqb-true, eq-eqb}
 use Rattle.codes.proofs.Laws.Code.{accepts as code-accepts}
 use Rattle.packed.specs.Every.{member}
@@ -16,24 +16,24 @@ use Rattle.message.specs.declared.envelope.Kind.{Kind}
 use Rattle.message.specs.declared.reply.Reply.{Reply}
 use Rattle.message.specs.Envelope.{serialOf, envelopeGood, envelopeOf, bodyOf}
 use Rattle.message.specs.Content.{contentOf}
+use Rattle.message.specs.declared.reply.ReplyOperation.{ReplyOperation}
 use Rattle.message.specs.Reply.{writtenReplyBody}
 use Rattle.message.specs.Line.{wholeMessage, wholeReply}
 use Rattle.message.proofs.Laws.Envelope.{serial-told, whole-length}
 use Rattle.session.specs.Parties.{Direction, receivingRoute}
 use Rattle.session.specs.declared.counters.OpenLot.{OpenLot}
-use Rattle.session.specs.declared.effect.Effect.{Effect}
 use Rattle.session.specs.declared.session.Receiving.{Receiving}
 use Rattle.session.specs.Limits.{mostLots}
 use Rattle.session.specs.declared.running.Running.{Running}
 use Rattle.session.specs.Sequence.{isOpen}
 use Rattle.session.specs.Outcome.{Held, Outcome}
 use Rattle.session.specs.Time.{clockRefusal}
-use Rattle.session.specs.Sending.{nextEnvelope, sendRefusal, send, sendHeader, sendDetail, sendLotTotal, sendSessionTotal}
+use Rattle.session.specs.Sending.{nextEnvelope, sendRefusal, send, Send, sendStop, sentBody, sendMessage}
 use Rattle.session.specs.Receiving.{isNext, earnedCode, receivedEffect, receivingCourse, receivingAfter, receiveRefusal, receive, afterNew, afterRepeat, replying}
 use Rattle.session.specs.Reply.{isAccepted, replyRefusal, takeReply}
 use Rattle.session.specs.Clock.{clock}
 use Rattle.session.specs.Premise.{OpenSound}
-use Rattle.session.specs.Ledger.{enter, bodyEntry, receivedEntry}
+use Rattle.session.specs.Ledger.{Entry, enterRead, bodyEntry, receivedEntry}
 use Rattle.message.specs.declared.content.Content.{Content}
 use Rattle.message.specs.Reply.{operationFor}
 use Rattle.session.specs.Engine.{Call, Engine, saidBy, meaning, lent, performed, Ready}
@@ -53,12 +53,16 @@ has-room : (lot : OpenLot) (lots : ℕ) → OpenSound lot lots → isOpen lot �
 has-room OpenLot.None lots s e = absurd (false≢true e)
 has-room (OpenLot.Numbered n) lots s e = s .1
 
--- the reply to a body has the operation of what it is entered as
-pub reply-entry : (body : List ℕ) → operationFor (contentOf body) ≡ replyFor (bodyEntry body)
+-- the reply to a body has the operation of what it is read as
+abbrev pub replyForRead : Option Entry → ReplyOperation
+replyForRead none = ReplyOperation.Other
+replyForRead (some e) = replyFor e
+
+pub reply-entry : (body : List ℕ) → operationFor (contentOf body) ≡ replyForRead (bodyEntry body)
 unfolding receivedEntry
 reply-entry body = go (contentOf body)
   where
-    go : (c : Content) → operationFor c ≡ replyFor (receivedEntry c body)
+    go : (c : Content) → operationFor c ≡ replyForRead (receivedEntry c body)
     go Content.Header = refl
     go Content.Detail = refl
     go Content.LotTotal = refl
@@ -86,17 +90,16 @@ module _ (x : End) (e : Engine) (ready : Ready e) (different : e .session .parti
     refused-after call k = subst (λ (b : ReceiverLedger). Joined route p (receivingEnd r rt b) (eventOf x call (suc k) [] ∷ trace)) (sym (not-entered k (receiverEnters call [] br) br)) (refused-by route p here trace j (eventOf x call (suc k) []) k refl)
 
     -- what is sent from here is of the other direction
-    send-after : (call : Call) (time code : ℕ) (effect : Effect) (body line : List ℕ) → ((w : List ℕ) → receiverEnters call w br ≡ br) → After call rt (send time code effect body (lent Direction.presenting line e))
-    unfolding send
-    send-after call time code effect body line books =
+    send-after : (time : ℕ) (m : Send) (line : List ℕ) → After (Call.send time m) rt (sendMessage time m (lent Direction.presenting line e))
+    unfolding sendMessage send
+    send-after time m line =
         let h = lent Direction.presenting line e in
-        let bytes = wholeMessage (nextEnvelope (e .session)) body in
-        either (After call rt) (sendRefusal time code (length bytes) (length (h .line)) (h .session)) h _
-        (λ (k : ℕ). refused-after call k)
-        (λ (z : sendRefusal time code (length bytes) (length (h .line)) (h .session) ≡ 0).
-        let told = send-told time code bytes h z in
-        subst (λ (b : ReceiverLedger). Joined route p (receivingEnd r rt b) (eventOf x call 0 (take (length bytes) (sets line 0 bytes)) ∷ trace)) (sym (books _))
-        (passed-by route p here trace j _ (λ (n : 0 ≡ 0). subst (Foreign route) (sym (first-bytes bytes line (told .room))) (message-foreign (e .session) (ready .sound) different body (told .more)))))
+        let bytes = wholeMessage (nextEnvelope (e .session)) (sentBody m h) in
+        either (After (Call.send time m) rt) (sendRefusal time (sendStop m time h) (length bytes) (length (h .line)) (h .session)) h _
+        (λ (k : ℕ). refused-after (Call.send time m) k)
+        (λ (z : sendRefusal time (sendStop m time h) (length bytes) (length (h .line)) (h .session) ≡ 0).
+        let told = send-told time (sendStop m time h) bytes h z in
+        passed-by route p here trace j _ (λ (n : 0 ≡ 0). subst (Foreign route) (sym (first-bytes bytes line (told .room))) (message-foreign (e .session) (ready .sound) different (sentBody m h) (told .more))))
 
     reply-after : (time : ℕ) (bytes line : List ℕ) → After (Call.reply time bytes) rt (takeReply time bytes (lent Direction.presenting line e))
     unfolding takeReply
@@ -120,7 +123,7 @@ module _ (x : End) (e : Engine) (ready : Ready e) (different : e .session .parti
       body = bodyOf bytes
 
       abbrev code : ℕ
-      code = earnedCode time body h
+      code = earnedCode time body (e .session .parties) rt r
 
       -- the reply of this serial with some code, kept by the receiver, is on the line beside all earlier ones
       module _ (after : Receiving) (reply : Reply) (serial : serialOf bytes ≡ after .serial) (keptReply : after .reply ≡ reply) where
@@ -150,7 +153,7 @@ module _ (x : End) (e : Engine) (ready : Ready e) (different : e .session .parti
       kept = receivingAfter code body rt r .reply
 
       abbrev entered : ReceiverLedger
-      entered = record { ledger = enter (bodyEntry body) (eqb code 0) (br .ledger); serials = suc (r .serial) ∷ br .serials }
+      entered = record { ledger = enterRead (bodyEntry body) (eqb code 0) (br .ledger); serials = suc (r .serial) ∷ br .serials }
 
       replied-code : isAccepted (wholeReply (envelopeOf bytes) kept) ≡ eqb code 0
       unfolding receivingAfter
@@ -158,8 +161,8 @@ module _ (x : End) (e : Engine) (ready : Ready e) (different : e .session .parti
 
       first-time : serialOf bytes ≡ suc (r .serial) → firstReceived (serialOf bytes) (bodyEntry body) (isAccepted (wholeReply (envelopeOf bytes) kept)) br ≡ entered
       first-time next =
-          ap (λ (t : Bool). cond t br (record { ledger = enter (bodyEntry body) (isAccepted (wholeReply (envelopeOf bytes) kept)) (br .ledger); serials = serialOf bytes ∷ br .serials })) (ap (λ (n : ℕ). member n (br .serials)) next ∙ next-unseen (r .serial) (br .serials) (j .seen .earlier))
-          ∙ λ i. record { ledger = enter (bodyEntry body) (replied-code i) (br .ledger); serials = next i ∷ br .serials }
+          ap (λ (t : Bool). cond t br (record { ledger = enterRead (bodyEntry body) (isAccepted (wholeReply (envelopeOf bytes) kept)) (br .ledger); serials = serialOf bytes ∷ br .serials })) (ap (λ (n : ℕ). member n (br .serials)) next ∙ next-unseen (r .serial) (br .serials) (j .seen .earlier))
+          ∙ λ i. record { ledger = enterRead (bodyEntry body) (replied-code i) (br .ledger); serials = next i ∷ br .serials }
 
       mirrored : Mirrored (receivingAfter code body rt r) (receivingCourse code body rt r .running) (entered .ledger)
       unfolding receivingAfter
@@ -180,8 +183,8 @@ module _ (x : End) (e : Engine) (ready : Ready e) (different : e .session .parti
       linked next (Link.idle w s b) = absurd (omega (arith, next, s, j .messages bytes brought (told .good) (told .way) .0))
       linked next (Link.taken d w s b o) = absurd (omega (arith, next, s, j .messages bytes brought (told .good) (told .way) .0))
       linked next (Link.sent m w s b) =
-          let reads : bodyEntry body ≡ m .entry = j .messages bytes brought (told .good) (told .way) .1 m (next ∙ sym s) w in
-          Link.taken m w s (λ i. enter (reads i) (sym (code-accepts code) i) (sym b i)) (reply-entry body ∙ ap replyFor reads)
+          let reads : bodyEntry body ≡ some (m .entry) = j .messages bytes brought (told .good) (told .way) .1 m (next ∙ sym s) w in
+          Link.taken m w s (λ i. enterRead (reads i) (sym (code-accepts code) i) (sym b i)) (reply-entry body ∙ ap replyForRead reads)
 
       taken-joined : serialOf bytes ≡ suc (r .serial) → Joined route p (receivingEnd (receivingAfter code body rt r) (receivingCourse code body rt r .running) entered) (eventOf x (Call.receive time bytes) 0 (wholeReply (envelopeOf bytes) kept) ∷ trace)
       unfolding receivingAfter member
@@ -209,7 +212,7 @@ module _ (x : End) (e : Engine) (ready : Ready e) (different : e .session .parti
           go (inr m) = m
 
       not-again : serialOf bytes ≡ r .serial → (accepted : Bool) → firstReceived (serialOf bytes) (bodyEntry body) accepted br ≡ br
-      not-again same accepted = ap (λ (t : Bool). cond t br (record { ledger = enter (bodyEntry body) accepted (br .ledger); serials = serialOf bytes ∷ br .serials })) (seen-before same)
+      not-again same accepted = ap (λ (t : Bool). cond t br (record { ledger = enterRead (bodyEntry body) accepted (br .ledger); serials = serialOf bytes ∷ br .serials })) (seen-before same)
 
       repeated-joined : serialOf bytes ≡ r .serial → Joined route p here (eventOf x (Call.receive time bytes) 0 (wholeReply (envelopeOf bytes) (r .reply)) ∷ trace)
       repeated-joined same =
@@ -234,7 +237,7 @@ module _ (x : End) (e : Engine) (ready : Ready e) (different : e .session .parti
         go : (t : Bool) → isNext bytes (r .serial) ≡ t → ReceiveTold bytes (lent Direction.receiving line e) → let o = replying bytes (cond t (afterNew time (bodyOf bytes) (lent Direction.receiving line e)) (afterRepeat time (lent Direction.receiving line e))) in After (Call.receive time bytes) (o .left .running) o
         go true n told =
             let next = eqb-true (serialOf bytes) (suc (r .serial)) n in
-            let code = earnedCode time (bodyOf bytes) (lent Direction.receiving line e) in
+            let code = earnedCode time (bodyOf bytes) (e .session .parties) rt r in
             let after = receivingAfter code (bodyOf bytes) rt r in
             let running = receivingCourse code (bodyOf bytes) rt r .running in
             let whole = wholeReply (envelopeOf bytes) (after .reply) in
@@ -248,11 +251,8 @@ module _ (x : End) (e : Engine) (ready : Ready e) (different : e .session .parti
             (subst (λ (b : ReceiverLedger). Joined route p (receivingEnd r rt b) (event whole ∷ trace)) (sym (not-again time bytes line brought told same (isAccepted whole))) (repeated-joined time bytes line brought told same))
 
     pub receiver-step : (call : Call) (line : List ℕ) → Brought call trace → let d = performed call line e in Joined route p (receivingEnd (d .engine .session .receiving) (d .engine .receiving) (cond (eqb (saidBy d .number) 0) (receiverEnters call (saidBy d .bytes) br) br)) (record { at = x; call = call; said = saidBy d } ∷ trace)
-    unfolding performed meaning sendHeader sendDetail sendLotTotal sendSessionTotal
-    receiver-step (Call.header time moment centre number) line brought = send-after (Call.header time moment centre number) time _ _ _ line (λ (w : List ℕ). refl)
-    receiver-step (Call.detail time operation part) line brought = send-after (Call.detail time operation part) time _ _ _ line (λ (w : List ℕ). refl)
-    receiver-step (Call.lotTotal time) line brought = send-after (Call.lotTotal time) time _ _ _ line (λ (w : List ℕ). refl)
-    receiver-step (Call.sessionTotal time) line brought = send-after (Call.sessionTotal time) time _ _ _ line (λ (w : List ℕ). refl)
+    unfolding performed meaning
+    receiver-step (Call.send time m) line brought = send-after time m line
     receiver-step (Call.receive time bytes) line brought = message-after time bytes line brought
     receiver-step (Call.reply time bytes) line brought = reply-after time bytes line
     receiver-step (Call.clock time) line brought = tick-after time line

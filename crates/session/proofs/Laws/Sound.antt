@@ -29,7 +29,7 @@ use Rattle.session.specs.Course.{advance, kept, course}
 use Rattle.session.specs.Start.{noLots, fresh, started, start}
 use Rattle.session.specs.Outcome.{Held, Outcome, silent, held}
 use Rattle.session.specs.Time.{clockRefusal}
-use Rattle.session.specs.Sending.{posted, headerStop, sendRefusal, sent, send, sessionTotalStop, sendHeader, sendDetail, sendLotTotal, sendSessionTotal, nextEnvelope}
+use Rattle.session.specs.Sending.{posted, sendRefusal, sent, send, Send, sendMessage, nextEnvelope}
 use Rattle.session.specs.Receiving.{receivedEffect, earnedCode, receivingAfter, isNext, receive, receiveRefusal, afterNew, afterRepeat, afterMessage}
 use Rattle.session.specs.Reply.{replyRefusal, isAccepted, takeReply}
 use Rattle.session.specs.Clock.{ticked, clock}
@@ -38,7 +38,7 @@ use Rattle.session.specs.Premise.{Fits, CountersSound, OpenSound, Partie
 use Rattle.session.proofs.Laws.Parties.{told as parties-told}
 use Rattle.session.proofs.Laws.Decided.{either}
 use Rattle.session.proofs.Laws.Refusals.{send-told, ReceiveTold, receive-told}
-use Rattle.session.proofs.Laws.Allowed.{fits-gather, fits-empty, Allowed, header-sound, detail-allowed, lot-total-allowed, received-allowed}
+use Rattle.session.proofs.Laws.Allowed.{fits-gather, fits-empty, Allowed, send-allowed, received-allowed}
 
 -- the premise of a call of a direction, of what it is lent
 pub record Premise (d : Direction) (h : Held) : Type 0 where
@@ -124,21 +124,9 @@ module _ (time code : ℕ) (effect : Effect) (body : List ℕ) (h : Held) where
         carried = subst (Carried Direction.presenting (send time code effect body h .left .session)) (sym send-running) (send-carried (h .running) (g .carried) (λ (e : code ≡ 0). a e .carried));
       }
 
-pub send-header-keeps : (time moment centre number : ℕ) (h : Held) → Premise Direction.presenting h → Premise Direction.presenting (sendHeader time moment centre number h .left)
-unfolding sendHeader
-send-header-keeps time moment centre number h g = send-keeps time _ _ _ h g (λ (e : headerStop time moment centre number (h .session .presenting) ≡ 0). record { sound = header-sound time moment centre number (h .session .presenting) e; carried = tt })
-
-pub send-detail-keeps : (time operation : ℕ) (part : List ℕ) (h : Held) → Premise Direction.presenting h → Premise Direction.presenting (sendDetail time operation part h .left)
-unfolding sendDetail
-send-detail-keeps time operation part h g = send-keeps time _ _ _ h g (detail-allowed (h .running) (h .session .presenting) (g .carried .fits) operation (h .session .parties .partner) part)
-
-pub send-lot-total-keeps : (time : ℕ) (h : Held) → Premise Direction.presenting h → Premise Direction.presenting (sendLotTotal time h .left)
-unfolding sendLotTotal
-send-lot-total-keeps time h g = send-keeps time _ _ _ h g (lot-total-allowed (h .running) (h .session .presenting) (g .carried .fits))
-
-pub send-session-total-keeps : (time : ℕ) (h : Held) → Premise Direction.presenting h → Premise Direction.presenting (sendSessionTotal time h .left)
-unfolding sendSessionTotal
-send-session-total-keeps time h g = send-keeps time _ _ _ h g (λ (e : sessionTotalStop (h .session .presenting) ≡ 0). record { sound = tt; carried = tt })
+pub send-message-keeps : (time : ℕ) (x : Send) (h : Held) → Premise Direction.presenting h → Premise Direction.presenting (sendMessage time x h .left)
+unfolding sendMessage
+send-message-keeps time x h g = send-keeps time _ _ _ h g (send-allowed time x h (g .carried .fits))
 
 -- a reply, whatever code it brings
 pub reply-keeps : (time : ℕ) (bytes : List ℕ) (h : Held) → Premise Direction.presenting h → Premise Direction.presenting (takeReply time bytes h .left)
@@ -169,7 +157,7 @@ unfolding receivingAfter
 handled-keeps time bytes h g known next =
     let body = bodyOf bytes in
     let r = h .session .receiving in
-    let code = earnedCode time body h in
+    let code = earnedCode time body (h .session .parties) (h .running) r in
     let effect = receivedEffect (contentOf body) body (h .running) in
     let after = advanced effect (eqb code 0) (record { counters = r .counters; running = h .running }) (receiving-course h g) (λ (t : eqb code 0 ≡ true). received-allowed time body (h .session .parties) (h .running) r (g .carried .fits) (contentOf body) (eqb-true code 0 t)) in
     record {

@@ -28,16 +28,14 @@ use Rattle.message.proofs.Laws.Header.{in-range}
 use Rattle.message.proofs.Laws.Total.{lot-in-range, session-in-range}
 use Rattle.message.proofs.Laws.Line.{message-read}
 use Rattle.session.specs.declared.counters.OpenLot.{OpenLot}
-use Rattle.session.specs.declared.effect.Effect.{Effect}
 use Rattle.session.specs.declared.session.Session.{Session}
 use Rattle.session.specs.Limits.{mostLotDocuments}
-use Rattle.session.specs.Parties.{presentingRoute}
+use Rattle.session.specs.Parties.{presentingRoute, Direction}
 use Rattle.session.specs.declared.running.Running.{Running}
 use Rattle.session.specs.Running.{stated}
 use Rattle.session.specs.Outcome.{Held, Outcome}
-use Rattle.session.specs.Sending.{nextEnvelope, sendRefusal, posted, send, headerStop, detailStop, openNumber, headerBody, lotTotalBody, sessionTotalBody, sendHeader, sendDetail, sendLotTotal, sendSessionTotal}
-use Rattle.session.specs.Premise.{Fits, OpenSound, Sound}
-use Rattle.session.specs.Engine.{Call, meaning}
+use Rattle.session.specs.Sending.{nextEnvelope, sendRefusal, posted, send, headerStop, detailStop, openNumber, headerBody, lotTotalBody, sessionTotalBody, Send, sendStop, sentEffect, sentBody, sendMessage}
+use Rattle.session.specs.Premise.{Fits, OpenSound, Sound, Carried}
 use Rattle.session.specs.Written.{DetailWrittenThenRead, DetailReadThenWritten, AsMeant, WrittenAsMeant}
 use Rattle.session.proofs.Laws.Decided.{either, first-bytes}
 use Rattle.session.proofs.Laws.Refusals.{SendTold, send-told}
@@ -93,36 +91,28 @@ detail-read e operation part fits own =
 pub detail-again : DetailReadThenWritten
 detail-again e represented bytes read own = λ i. read-then-written Kind.Message bytes e (sym read) i ++ accepted-again (e .route .receiving) represented (bodyOf bytes) own i
 
+-- what a send means to say, where nothing stops it
+meant : (time : ℕ) (x : Send) (h : Held) → Sound (h .session) → Carried Direction.presenting (h .session) (h .running) → let bytes = wholeMessage (nextEnvelope (h .session)) (sentBody x h) in SendTold (sendStop x time h) bytes h → AsMeant x h bytes
+unfolding detailStop
+meant time (Send.header moment centre number) h sound carried told =
+    let s = h .session in
+    message-read (nextEnvelope s) (headerBody moment centre number) (next-fits s sound (told .more)) (header-takes s sound time moment centre number (told .unstopped))
+meant time (Send.detail operation part) h sound carried told =
+    let s = h .session in
+    detail-read (nextEnvelope s) operation part (next-fits s sound (told .more)) (none-both (presenterCode operation (s .parties .partner) part) _ (told .unstopped) .0)
+meant time Send.lotTotal h sound carried told =
+    let s = h .session in
+    message-read (nextEnvelope s) (lotTotalBody (s .presenting .counters) (h .running)) (next-fits s sound (told .more)) (lot-total-takes s sound (h .running) (carried .fits))
+meant time Send.sessionTotal h sound carried told =
+    let s = h .session in
+    message-read (nextEnvelope s) (sessionTotalBody (s .presenting .counters)) (next-fits s sound (told .more)) (session-total-takes s sound)
+
 -- what stands at the start of the line buffer after a send is what was posted
-module _ (call : Call) (time code : ℕ) (effect : Effect) (body : List ℕ) (h : Held) where
-  abbrev bytes : List ℕ
-  bytes = wholeMessage (nextEnvelope (h .session)) body
-
-  sent-so : (SendTold code bytes h → AsMeant call h bytes) → let o = send time code effect body h in o .number ≡ 0 → AsMeant call h (take (o .written) (o .left .line))
-  unfolding send
-  sent-so meant =
-      let refusal = sendRefusal time code (length bytes) (length (h .line)) (h .session) in
-      either (λ (o : Outcome). o .number ≡ 0 → AsMeant call h (take (o .written) (o .left .line))) refusal h (posted time effect body h)
-      (λ (k : ℕ) (n : suc k ≡ 0). absurd (omega arith))
-      (λ (e : refusal ≡ 0) (n : 0 ≡ 0). let told = send-told time code bytes h e in subst (AsMeant call h) (sym (first-bytes bytes (h .line) (told .room))) (meant told))
-
 pub written-as-meant : WrittenAsMeant
-unfolding meaning sendHeader sendDetail sendLotTotal sendSessionTotal detailStop
-written-as-meant (Call.header time moment centre number) h sound carried =
-    let s = h .session in
-    sent-so (Call.header time moment centre number) time _ _ _ h
-    (λ told. message-read (nextEnvelope s) (headerBody moment centre number) (next-fits s sound (told .more)) (header-takes s sound time moment centre number (told .unstopped)))
-written-as-meant (Call.detail time operation part) h sound carried =
-    let s = h .session in
-    sent-so (Call.detail time operation part) time _ _ _ h
-    (λ told. detail-read (nextEnvelope s) operation part (next-fits s sound (told .more)) (none-both (presenterCode operation (s .parties .partner) part) _ (told .unstopped) .0))
-written-as-meant (Call.lotTotal time) h sound carried =
-    let s = h .session in
-    sent-so (Call.lotTotal time) time _ _ _ h (λ told. message-read (nextEnvelope s) (lotTotalBody (s .presenting .counters) (h .running)) (next-fits s sound (told .more)) (lot-total-takes s sound (h .running) (carried .fits)))
-written-as-meant (Call.sessionTotal time) h sound carried =
-    let s = h .session in
-    sent-so (Call.sessionTotal time) time _ _ _ h (λ told. message-read (nextEnvelope s) (sessionTotalBody (s .presenting .counters)) (next-fits s sound (told .more)) (session-total-takes s sound))
-written-as-meant (Call.receive time message) h sound carried = λ n. tt
-written-as-meant (Call.reply time reply) h sound carried = λ n. tt
-written-as-meant (Call.clock time) h sound carried = λ n. tt
-written-as-meant Call.report h sound carried = λ n. tt
+unfolding sendMessage send
+written-as-meant time x h sound carried =
+    let bytes = wholeMessage (nextEnvelope (h .session)) (sentBody x h) in
+    let refusal = sendRefusal time (sendStop x time h) (length bytes) (length (h .line)) (h .session) in
+    either (λ (o : Outcome). o .number ≡ 0 → AsMeant x h (take (o .written) (o .left .line))) refusal h (posted time (sentEffect x h) (sentBody x h) h)
+    (λ (k : ℕ) (n : suc k ≡ 0). absurd (omega arith))
+    (λ (e : refusal ≡ 0) (n : 0 ≡ 0). let told = send-told time (sendStop x time h) bytes h e in subst (AsMeant x h) (sym (first-bytes bytes (h .line) (told .room))) (meant time x h sound carried told))
