@@ -8,9 +8,11 @@ use session::report::Positions;
 use session::report::Report;
 use session::report::Tally;
 use session::running::Running;
+use session::running::stated;
 use session::session::Session;
 ghost use mathlib.Core.Path.{_≡_};
 ghost use Rattle.amounts.specs.Inner.Fits.{DifferenceFits};
+ghost use Rattle.session.specs.Running.{stated};
 ghost use Rattle.session.specs.Report.{tally, awaited, positions, report};
 ghost use Rattle.session.specs.Premise.{Sound};
 
@@ -40,13 +42,15 @@ fn awaited(pending: Effect) -> Awaited
 
 // What was presented less what was received.
 fn positions(presented: Running, received: Running) -> Positions
-    requires { ⌜ DifferenceFits (presented .nominal .0) (received .nominal .0) ⌝ }
-    requires { ⌜ DifferenceFits (presented .commission .0) (received .commission .0) ⌝ }
-    ensures { λ r. ⌜ r ≡ positions presented received ⌝ }
+    requires { ⌜ DifferenceFits (stated presented .nominal .0) (stated received .nominal .0) ⌝ }
+    requires { ⌜ DifferenceFits (stated presented .commission .0) (stated received .commission .0) ⌝ }
+    ensures { λ r. ⌜ r ≡ positions (stated presented) (stated received) ⌝ }
 {
+    let ours = stated(presented);
+    let theirs = stated(received);
     Positions {
-        nominal: nominal_difference(presented.nominal, received.nominal),
-        commission: commission_difference(presented.commission, received.commission),
+        nominal: nominal_difference(ours.nominal, theirs.nominal),
+        commission: commission_difference(ours.commission, theirs.commission),
     }
 }
 

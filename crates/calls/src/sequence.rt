@@ -8,7 +8,7 @@ use session::running::Running;
 use session::running::documents_in;
 ghost use mathlib.Core.Path.{_≡_};
 ghost use Rattle.codes.specs.Code.{codeNumber};
-ghost use Rattle.session.specs.Sequence.{isOpen, isOpenLot, headerSequence, lotSequence, lotTotalSequence, sessionTotalSequence};
+ghost use Rattle.session.specs.Sequence.{isOpen, isOpenLot, betweenLots, headerSequence, lotSequence, lotTotalSequence, sessionTotalSequence};
 
 // Whether a lot is open.
 fn is_open(lot: OpenLot) -> bool
@@ -30,13 +30,20 @@ fn is_open_lot(number: u16, lot: OpenLot) -> bool
     }
 }
 
-pub fn header_sequence(ended: bool, lot: OpenLot) -> Code
-    ensures { λ c. ⌜ codeNumber c ≡ headerSequence ended lot ⌝ }
+// Not after the end, nor while a lot is open.
+fn between_lots(ended: bool, lot: OpenLot) -> Code
+    ensures { λ c. ⌜ codeNumber c ≡ betweenLots ended lot ⌝ }
 {
     or_else(
         when(Code::WrongSequence, ended),
         when(Code::WrongSequence, is_open(lot)),
     )
+}
+
+pub fn header_sequence(ended: bool, lot: OpenLot) -> Code
+    ensures { λ c. ⌜ codeNumber c ≡ headerSequence ended lot ⌝ }
+{
+    between_lots(ended, lot)
 }
 
 // Of a detail, or of a lot total that its presenter is about to write.
@@ -59,8 +66,5 @@ pub fn lot_total_sequence(ended: bool, number: u16, lot: OpenLot, running: Runni
 pub fn session_total_sequence(ended: bool, lot: OpenLot) -> Code
     ensures { λ c. ⌜ codeNumber c ≡ sessionTotalSequence ended lot ⌝ }
 {
-    or_else(
-        when(Code::WrongSequence, ended),
-        when(Code::WrongSequence, is_open(lot)),
-    )
+    between_lots(ended, lot)
 }

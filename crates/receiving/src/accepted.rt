@@ -1,8 +1,8 @@
 // The accepted lots, and whether a new one repeats one of them.
 use amounts::Totals;
 use session::counters::Lot;
+use session::counters::Lots;
 use session::effect::Effect;
-use session::limits::MOST_LOTS;
 use session::running::stated;
 ghost use mathlib.Core.Path.{_≡_};
 ghost use Prim.Native.Nat.{_≤_, _<_};
@@ -20,7 +20,7 @@ pub struct Used {
 }
 
 // Looks through the first `count` places, once for both.
-pub fn look_up(number: u16, totals: Totals, count: usize, lots: [Lot; MOST_LOTS]) -> Used
+pub fn look_up(number: u16, totals: Totals, count: usize, lots: Lots) -> Used
     requires { ⌜ count ≤ mostLots ⌝ }
     requires { ⌜ length lots ≡ mostLots ⌝ }
     ensures number { λ r. ⌜ r .number ≡ numberUsed number (take count lots) ⌝ }
@@ -43,7 +43,7 @@ pub fn look_up(number: u16, totals: Totals, count: usize, lots: [Lot; MOST_LOTS]
 }
 
 // The places with one lot more, where it is accepted.
-fn stored(lot: Lot, accepted: bool, count: usize, lots: [Lot; MOST_LOTS]) -> [Lot; MOST_LOTS]
+fn stored(lot: Lot, accepted: bool, count: usize, lots: Lots) -> Lots
     requires { ⌜ (accepted ≡ true → count < mostLots) ⌝ }
     ensures { λ r. ⌜ r ≡ kept (Effect.LotTotal lot) accepted count lots ⌝ }
 {
@@ -55,12 +55,7 @@ fn stored(lot: Lot, accepted: bool, count: usize, lots: [Lot; MOST_LOTS]) -> [Lo
 }
 
 // The places after a message, with the code that was replied.
-pub fn kept(
-    effect: Effect,
-    accepted: bool,
-    count: usize,
-    lots: [Lot; MOST_LOTS],
-) -> [Lot; MOST_LOTS]
+pub fn kept(effect: Effect, accepted: bool, count: usize, lots: Lots) -> Lots
     requires { ⌜ (accepted ≡ true → endsLot effect ≡ true → count < mostLots) ⌝ }
     ensures { λ r. ⌜ r ≡ kept effect accepted count lots ⌝ }
 {

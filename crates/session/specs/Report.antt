@@ -1,4 +1,5 @@
 -- 01, 'Course of a direction': the report, which is never refused and changes nothing.
+use Rattle.amounts.specs.declared.Totals.{Totals}
 use Rattle.amounts.specs.Difference.{difference}
 use Rattle.session.specs.declared.counters.Counters.{Counters}
 use Rattle.session.specs.declared.effect.Effect.{Effect}
@@ -8,7 +9,6 @@ use Rattle.session.specs.declared.report.Positions.{Positions}
 use Rattle.session.specs.declared.report.Report.{Report}
 use Rattle.session.specs.declared.session.Session.{Session}
 use Rattle.session.specs.Running.{stated}
-use Rattle.session.specs.declared.running.Running.{Running}
 
 -- the totals of a direction: its accepted lots
 abbrev pub tally : Counters → Tally
@@ -23,8 +23,8 @@ awaited (Effect.Header number) = Awaited.Neither
 awaited (Effect.Detail more) = Awaited.Neither
 
 -- presented less received
-abbrev pub positions : (presented received : Running) → Positions
-positions p r = record { nominal = difference (stated p .nominal .0) (stated r .nominal .0); commission = difference (stated p .commission .0) (stated r .commission .0) }
+abbrev pub positions : (presented received : Totals) → Positions
+positions p r = record { nominal = difference (p .nominal .0) (r .nominal .0); commission = difference (p .commission .0) (r .commission .0) }
 
 -- all of it
 unfoldable pub report : Session → Report
@@ -33,6 +33,6 @@ report s =
       presented = tally (s .presenting .counters);
       received = tally (s .receiving .counters);
       close = s .close;
-      positions = positions (s .presenting .counters .gathered) (s .receiving .counters .gathered);
+      positions = positions (stated (s .presenting .counters .gathered)) (stated (s .receiving .counters .gathered));
       awaited = awaited (s .presenting .pending);
     }

@@ -1,4 +1,5 @@
 // What is counted in a direction. Presenter and receiver keep the same counters.
+use crate::limits::MOST_LOTS;
 use crate::running::Running;
 
 // A lot that is open, by its order number.
@@ -12,6 +13,9 @@ pub struct Lot {
     pub number: u16,
     pub gathered: Running,
 }
+
+// The places of the lots that a receiver accepted.
+pub type Lots = [Lot; MOST_LOTS];
 
 // The open lot, how many lots were accepted, and what they gathered together.
 pub struct Counters {

@@ -1,6 +1,7 @@
 // A session of one centre: both of its directions, the last seen time and the close.
 use crate::counters::Counters;
 use crate::counters::Lot;
+use crate::counters::Lots;
 use crate::counters::OpenLot;
 use crate::effect::Effect;
 use crate::limits::MOST_LOTS;
@@ -40,7 +41,7 @@ pub struct Receiving {
     pub reply: Reply,
     pub counters: Counters,
     pub ended: bool,
-    pub lots: [Lot; MOST_LOTS],
+    pub lots: Lots,
 }
 
 // All that a centre keeps of an evening, but for the running totals of its open lots, which are lent with each call.
