@@ -1,2 +1,3 @@
 -- What the answers of the sends say.
 pub mod Said
+pub mod Inner

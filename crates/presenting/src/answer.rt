@@ -21,6 +21,7 @@ ghost use Rattle.session.specs.Outcome.{answerNumber, noRoom};
 ghost use Rattle.session.specs.Time.{timeRefusal};
 ghost use Rattle.session.specs.Sending.{isPending, sendRefusal};
 ghost use Rattle.presenting.specs.Said.{sendNumber, sendWritten};
+ghost use Rattle.presenting.specs.Inner.Begun.{unstopped};
 
 // A message of so many bytes stands in the line buffer; or the presenter's own code stopped it; or it was refused.
 pub enum SendAnswer {
@@ -65,6 +66,14 @@ pub fn send_written(a: SendAnswer) -> usize
         SendAnswer::Stopped(_) => 0,
         SendAnswer::Refused(_) => 0,
     }
+}
+
+// Whether nothing stopped it.
+pub fn is_begun(o: SendOutcome) -> bool
+    ensures { λ r. ⌜ r ≡ unstopped (o .answer) ⌝ }
+{
+    let answer = o.answer;
+    send_number(answer) == 0
 }
 
 // What refuses a send before its own code.

@@ -1,5 +1,10 @@
-// What every send does once nothing stops it: the next serial is used, its envelope stands in the line buffer, and the
-// message awaits its reply. The counters stay.
+// What every send begins with: whether anything stops it; and where nothing does, the next serial is used, its envelope
+// stands in the line buffer, and the message awaits its reply. The counters stay.
+use crate::answer::SendOutcome;
+use crate::answer::outcome;
+use crate::answer::send_answer;
+use crate::answer::send_number;
+use codes::code::Code;
 use message::envelope::Envelope;
 use message::envelope::Kind;
 use message::envelope::write_envelope;
@@ -15,7 +20,9 @@ ghost use lib.Seq.{sets};
 ghost use Rattle.message.specs.Limits.{envelopeBytes, largestSerial};
 ghost use Rattle.message.specs.Envelope.{writtenEnvelope};
 ghost use Rattle.session.specs.Parties.{presentingRoute};
+ghost use Rattle.codes.specs.Code.{codeNumber};
 ghost use Rattle.session.specs.Sending.{nextEnvelope, sent};
+ghost use Rattle.presenting.specs.Inner.Begun.{Begun};
 
 // The route of what the centre presents.
 pub fn presenting_route(p: Parties) -> Route
@@ -53,7 +60,7 @@ fn sent(session: Session, time: u32, effect: Effect) -> Session
 }
 
 // Writes the next envelope at the start of the line buffer, and gives the session after it.
-pub fn post(session: Session, time: u32, effect: Effect, line: &mut [u8]) -> Session
+fn post(session: Session, time: u32, effect: Effect, line: &mut [u8]) -> Session
     requires { ⌜ session .presenting .serial < largestSerial ⌝ }
     requires { ⌜ envelopeBytes ≤ length (now line) ⌝ }
     ensures session { λ r. ⌜ r ≡ sent time effect session ⌝ }
@@ -69,4 +76,24 @@ pub fn post(session: Session, time: u32, effect: Effect, line: &mut [u8]) -> Ses
         },
     );
     sent(session, time, effect)
+}
+
+// Begins a message of so many bytes, whose own code is this.
+pub fn begin(
+    session: Session,
+    time: u32,
+    code: Code,
+    bytes: usize,
+    effect: Effect,
+    line: &mut [u8],
+) -> SendOutcome
+    requires { ⌜ envelopeBytes ≤ bytes ⌝ }
+    ensures { λ r. ⌜ Begun time (codeNumber code) bytes effect session (now (line .entry)) (now (line .exit)) r ⌝ }
+{
+    let answer = send_answer(session, time, code, bytes, line.len());
+    if send_number(answer) == 0 {
+        let next = post(session, time, effect, line);
+        return outcome(answer, next);
+    }
+    outcome(answer, session)
 }

@@ -1,10 +1,8 @@
 // The four calls that send a message. Each stands whole at the start of the line buffer; nothing is counted before its
 // reply.
 use crate::answer::SendOutcome;
-use crate::answer::outcome;
-use crate::answer::send_answer;
-use crate::answer::send_number;
-use crate::post::post;
+use crate::answer::is_begun;
+use crate::post::begin;
 use crate::post::presenting_route;
 use crate::stops::detail_stop;
 use crate::stops::header_stop;
@@ -31,7 +29,7 @@ use session::session::Session;
 ghost use mathlib.Core.Path.{_≡_};
 ghost use Rattle.session.specs.declared.running.Running.{Running};
 ghost use Rattle.session.specs.Parties.{Direction};
-ghost use Rattle.session.specs.Sending.{openNumber, sendHeader, sendDetail, sendLotTotal, sendSessionTotal};
+ghost use Rattle.session.specs.Sending.{openNumber, Send, sendMessage};
 ghost use Rattle.session.specs.Premise.{Sound, Carried, Kept, KeptBeside};
 ghost use Rattle.session.specs.Outcome.{held};
 ghost use Rattle.presenting.specs.Said.{sendSaid};
@@ -46,21 +44,21 @@ pub fn send_header(
     line: &mut [u8],
 ) -> SendOutcome
     requires { ⌜ Sound session ⌝ }
-    ensures outcome { λ r. ⌜ ((t : Running) → sendSaid r t (now (line .exit)) ≡ sendHeader time moment centre number (held session t (now (line .entry)))) ⌝ }
+    ensures outcome { λ r. ⌜ ((t : Running) → sendSaid r t (now (line .exit)) ≡ sendMessage time (Send.header moment centre number) (held session t (now (line .entry)))) ⌝ }
     ensures premise { λ r. ⌜ Kept session (r .session) ⌝ }
 {
     let parties = session.parties;
     let presenting = session.presenting;
     let code = header_stop(time, moment, centre, number, presenting);
-    let answer = send_answer(
+    let begun = begin(
         session,
         time,
         code,
         ENVELOPE_BYTES + HEADER_BYTES,
-        line.len(),
+        Effect::Header(number),
+        line,
     );
-    if send_number(answer) == 0 {
-        let next = post(session, time, Effect::Header(number), line);
+    if is_begun(begun) {
         let header = Header {
             time: moment,
             centre: centre,
@@ -71,9 +69,9 @@ pub fn send_header(
             presenting_route(parties),
             header,
         );
-        return outcome(answer, next);
+        return begun;
     }
-    outcome(answer, session)
+    begun
 }
 
 // Sends the documents of a part. They are read once and then copied once.
@@ -87,7 +85,7 @@ pub fn send_detail(
 ) -> SendOutcome
     requires { ⌜ Sound session ⌝ }
     requires { ⌜ Carried Direction.presenting session running ⌝ }
-    ensures outcome { λ r. ⌜ sendSaid r running (now (line .exit)) ≡ sendDetail time operation (now (part .entry)) (held session running (now (line .entry))) ⌝ }
+    ensures outcome { λ r. ⌜ sendSaid r running (now (line .exit)) ≡ sendMessage time (Send.detail operation (now (part .entry))) (held session running (now (line .entry))) ⌝ }
     ensures premise { λ r. ⌜ KeptBeside Direction.presenting session (r .session) running ⌝ }
 {
     let presenting = session.presenting;
@@ -101,17 +99,16 @@ pub fn send_detail(
     let code = stop.code;
     let adds = stop.adds;
     let bytes = ENVELOPE_BYTES + written_bytes(part);
-    let answer = send_answer(session, time, code, bytes, line.len());
-    if send_number(answer) == 0 {
-        let next = post(session, time, Effect::Detail(adds), line);
+    let begun = begin(session, time, code, bytes, Effect::Detail(adds), line);
+    if is_begun(begun) {
         write_detail(
             &mut line[ENVELOPE_BYTES..],
             packed_byte(operation as u64),
             part,
         );
-        return outcome(answer, next);
+        return begun;
     }
-    outcome(answer, session)
+    begun
 }
 
 // The number of an open lot; 0 where there is none, and then no total is written.
@@ -128,7 +125,7 @@ fn open_number(lot: OpenLot) -> u16
 pub fn send_lot_total(session: Session, running: Running, time: u32, line: &mut [u8]) -> SendOutcome
     requires { ⌜ Sound session ⌝ }
     requires { ⌜ Carried Direction.presenting session running ⌝ }
-    ensures outcome { λ r. ⌜ sendSaid r running (now (line .exit)) ≡ sendLotTotal time (held session running (now (line .entry))) ⌝ }
+    ensures outcome { λ r. ⌜ sendSaid r running (now (line .exit)) ≡ sendMessage time Send.lotTotal (held session running (now (line .entry))) ⌝ }
     ensures premise { λ r. ⌜ KeptBeside Direction.presenting session (r .session) running ⌝ }
 {
     let presenting = session.presenting;
@@ -136,33 +133,33 @@ pub fn send_lot_total(session: Session, running: Running, time: u32, line: &mut 
     let open = counters.current;
     let number = open_number(open);
     let code = lot_sequence(presenting.ended, open);
-    let answer = send_answer(
+    let lot = Lot {
+        number: number,
+        gathered: running,
+    };
+    let begun = begin(
         session,
         time,
         code,
         ENVELOPE_BYTES + LOT_TOTAL_BYTES,
-        line.len(),
+        Effect::LotTotal(lot),
+        line,
     );
-    if send_number(answer) == 0 {
-        let lot = Lot {
-            number: number,
-            gathered: running,
-        };
-        let next = post(session, time, Effect::LotTotal(lot), line);
+    if is_begun(begun) {
         let total = Total {
             number: number,
             stated: stated(running),
         };
         write_lot_total(&mut line[ENVELOPE_BYTES..], total);
-        return outcome(answer, next);
+        return begun;
     }
-    outcome(answer, session)
+    begun
 }
 
 // Sends the session total: what the accepted lots have gathered. No running totals are asked for.
 pub fn send_session_total(session: Session, time: u32, line: &mut [u8]) -> SendOutcome
     requires { ⌜ Sound session ⌝ }
-    ensures outcome { λ r. ⌜ ((t : Running) → sendSaid r t (now (line .exit)) ≡ sendSessionTotal time (held session t (now (line .entry)))) ⌝ }
+    ensures outcome { λ r. ⌜ ((t : Running) → sendSaid r t (now (line .exit)) ≡ sendMessage time Send.sessionTotal (held session t (now (line .entry)))) ⌝ }
     ensures premise { λ r. ⌜ Kept session (r .session) ⌝ }
 {
     let presenting = session.presenting;
@@ -170,16 +167,21 @@ pub fn send_session_total(session: Session, time: u32, line: &mut [u8]) -> SendO
     let open = counters.current;
     let gathered = counters.gathered;
     let code = session_total_sequence(presenting.ended, open);
-    let bytes = ENVELOPE_BYTES + SESSION_TOTAL_BYTES;
-    let answer = send_answer(session, time, code, bytes, line.len());
-    if send_number(answer) == 0 {
-        let next = post(session, time, Effect::SessionTotal, line);
+    let begun = begin(
+        session,
+        time,
+        code,
+        ENVELOPE_BYTES + SESSION_TOTAL_BYTES,
+        Effect::SessionTotal,
+        line,
+    );
+    if is_begun(begun) {
         let total = Total {
             number: counters.lots as u16,
             stated: stated(gathered),
         };
         write_session_total(&mut line[ENVELOPE_BYTES..], total);
-        return outcome(answer, next);
+        return begun;
     }
-    outcome(answer, session)
+    begun
 }

@@ -6,9 +6,11 @@ use codes::chain::when;
 use codes::code::Code;
 use detail::reading::read_part;
 use message::header::header_sendable;
+use packed::writing::packed_byte;
 use session::hours::presenter_late;
 use session::limits::lots_used;
 use session::running::Running;
+use session::running::adding;
 use session::session::Presenting;
 ghost use mathlib.Core.Path.{_≡_};
 ghost use Rattle.codes.specs.Code.{codeNumber};
@@ -53,7 +55,8 @@ pub fn detail_stop(
     let lot = counters.current;
     let read = read_part(operation, part, partner);
     let code = read.code;
-    let adds = read.totals;
+    let totals = read.totals;
+    let adds = adding(packed_byte(operation as u64), totals);
     PartStop {
         code: detail_code(code, p.ended, lot, running, adds),
         adds: adds,

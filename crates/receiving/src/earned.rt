@@ -1,9 +1,11 @@
 // The code that each message earns, in the paper's order, and what the message does once its code is known.
 use crate::accepted::look_up;
+use amounts::Totals;
 use calls::details::detail_code;
 use calls::sequence::header_sequence;
 use calls::sequence::lot_total_sequence;
 use calls::sequence::session_total_sequence;
+use codes::body::operation_of;
 use codes::chain::or_else;
 use codes::chain::when;
 use codes::code::Code;
@@ -21,7 +23,7 @@ use session::hours::receiver_late;
 use session::limits::lots_used;
 use session::parties::Parties;
 use session::running::Running;
-use session::running::empty;
+use session::running::adding;
 use session::running::stated;
 use session::session::Receiving;
 ghost use mathlib.Core.Path.{_≡_};
@@ -64,7 +66,7 @@ fn of_header(time: u32, body: &[u8], p: Parties, running: Running, r: Receiving)
                         or_else(
                             when(
                                 Code::Duplicate,
-                                look_up(h.number, empty(), counters.lots, lots).number,
+                                look_up(h.number, Totals::zeros(), counters.lots, lots).number,
                             ),
                             when(Code::TooManyLots, lots_used(counters.lots)),
                         ),
@@ -90,7 +92,8 @@ fn of_detail(time: u32, body: &[u8], p: Parties, running: Running, r: Receiving)
     let lot = counters.current;
     let read = read_detail(body, p.own, &represented[..p.count]);
     let code = read.code;
-    let adds = read.totals;
+    let totals = read.totals;
+    let adds = adding(operation_of(body), totals);
     Found {
         code: detail_code(code, r.ended, lot, running, adds),
         effect: Effect::Detail(adds),

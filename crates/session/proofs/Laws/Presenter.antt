@@ -111,7 +111,7 @@ module _ (x : End) (e : Engine) (ready : Ready e) (different : e .session .parti
       waiting = record { entry = sentEntry m; message = bytes }
 
       -- the message is on the line, and waits
-      sent-joined : SendTold code bytes h → SentSo h m → Joined route (presentingEnd (sent time effect (e .session) .presenting) pt (waitingFor (sentEntry m) bytes bp)) r (event ∷ trace)
+      sent-joined : SendTold code (length bytes) h → SentSo h m → Joined route (presentingEnd (sent time effect (e .session) .presenting) pt (waitingFor (sentEntry m) bytes bp)) r (event ∷ trace)
       sent-joined told so =
           record {
             presenter = record { course = j .presenter .course; pending = so .awaits; once = j .presenter .once };
@@ -166,7 +166,7 @@ module _ (x : End) (e : Engine) (ready : Ready e) (different : e .session .parti
           either (λ (o : Outcome). After (Call.send time m) (o .left .running) o) (sendRefusal time code (length bytes) (length (h .line)) (h .session)) h (posted time effect body h)
           (λ (k : ℕ). refused-after (Call.send time m) k)
           (λ (z : sendRefusal time code (length bytes) (length (h .line)) (h .session) ≡ 0).
-          let told = send-told time code bytes h z in
+          let told = send-told time code (length bytes) h z in
           subst (λ (w : List ℕ). Joined route (presentingEnd (sent time effect (e .session) .presenting) pt (waitingFor (sentEntry m) w bp)) r (eventOf x (Call.send time m) 0 w ∷ trace)) (sym (first-bytes bytes line (told .room))) (sent-joined told (fits (told .unstopped))))
 
     -- a reply enters what waits, with the code that the receiver kept

@@ -98,7 +98,7 @@ module _ (x : End) (e : Engine) (ready : Ready e) (different : e .session .parti
         either (After (Call.send time m) rt) (sendRefusal time (sendStop m time h) (length bytes) (length (h .line)) (h .session)) h _
         (λ (k : ℕ). refused-after (Call.send time m) k)
         (λ (z : sendRefusal time (sendStop m time h) (length bytes) (length (h .line)) (h .session) ≡ 0).
-        let told = send-told time (sendStop m time h) bytes h z in
+        let told = send-told time (sendStop m time h) (length bytes) h z in
         passed-by route p here trace j _ (λ (n : 0 ≡ 0). subst (Foreign route) (sym (first-bytes bytes line (told .room))) (message-foreign (e .session) (ready .sound) different (sentBody m h) (told .more))))
 
     reply-after : (time : ℕ) (bytes line : List ℕ) → After (Call.reply time bytes) rt (takeReply time bytes (lent Direction.presenting line e))

@@ -23,13 +23,13 @@ use Rattle.session.specs.Sending.{isPending, sendRefusal}
 use Rattle.session.specs.Receiving.{isLast, isNext, isExpected, receiveRefusal}
 use Rattle.session.specs.Reply.{awaitedOperation, isAwaited, replyRefusal}
 
-pub record SendTold (code : ℕ) (bytes : List ℕ) (h : Held) : Type 0 where
+pub record SendTold (code bytes : ℕ) (h : Held) : Type 0 where
   pub idle : isPending (h .session .presenting .pending) ≡ false
   pub more : h .session .presenting .serial < largestSerial
   pub unstopped : code ≡ 0
-  pub room : length bytes ≤ length (h .line)
+  pub room : bytes ≤ length (h .line)
 
-pub send-told : (time code : ℕ) (bytes : List ℕ) (h : Held) → sendRefusal time code (length bytes) (length (h .line)) (h .session) ≡ 0 → SendTold code bytes h
+pub send-told : (time code bytes : ℕ) (h : Held) → sendRefusal time code bytes (length (h .line)) (h .session) ≡ 0 → SendTold code bytes h
 unfolding sendRefusal
 send-told time code bytes h e =
     let p = h .session .presenting in
@@ -37,7 +37,7 @@ send-told time code bytes h e =
     let idle = passed 34 (isPending (p .pending)) _ (lit< tt) (clock .1) in
     let used = passed 36 (leb largestSerial (p .serial)) _ (lit< tt) (idle .1) in
     let own = none-both code _ (used .1) in
-    record { idle = idle .0; more = leb-false largestSerial (p .serial) (used .0); unstopped = own .0; room = ltb-false (length (h .line)) (length bytes) (none-test 23 (noRoom (length bytes) (length (h .line))) (lit< tt) (own .1)) }
+    record { idle = idle .0; more = leb-false largestSerial (p .serial) (used .0); unstopped = own .0; room = ltb-false (length (h .line)) bytes (none-test 23 (noRoom bytes (length (h .line))) (lit< tt) (own .1)) }
 
 -- a message that is expected and is not the next one is the last again
 pub last-told : (bytes : List ℕ) (last : ℕ) → isNext bytes last ≡ false → isExpected bytes last ≡ true → serialOf bytes ≡ last

@@ -103,14 +103,14 @@ module _ (time code : ℕ) (effect : Effect) (body : List ℕ) (h : Held) where
   send-sound g a =
       either (λ (o : Outcome). Sound (o .left .session)) (sendRefusal time code (length bytes) (length (h .line)) (h .session)) h (posted time effect body h)
       (λ (k : ℕ). g)
-      (λ (e : sendRefusal time code (length bytes) (length (h .line)) (h .session) ≡ 0). let known = send-told time code bytes h e in sent-sound time effect (h .session) g (known .more) (a (known .unstopped)))
+      (λ (e : sendRefusal time code (length bytes) (length (h .line)) (h .session) ≡ 0). let known = send-told time code (length bytes) h e in sent-sound time effect (h .session) g (known .more) (a (known .unstopped)))
 
   pub send-carried : (t : Running) → Carried Direction.presenting (h .session) t → (code ≡ 0 → PendingCarried effect t) → Carried Direction.presenting (send time code effect body h .left .session) t
   unfolding send
   send-carried t g a =
       either (λ (o : Outcome). Carried Direction.presenting (o .left .session) t) (sendRefusal time code (length bytes) (length (h .line)) (h .session)) h (posted time effect body h)
       (λ (k : ℕ). g)
-      (λ (e : sendRefusal time code (length bytes) (length (h .line)) (h .session) ≡ 0). sent-carried time effect (h .session) t g (a (send-told time code bytes h e .unstopped)))
+      (λ (e : sendRefusal time code (length bytes) (length (h .line)) (h .session) ≡ 0). sent-carried time effect (h .session) t g (a (send-told time code (length bytes) h e .unstopped)))
 
   -- the running totals stay
   send-running : send time code effect body h .left .running ≡ h .running

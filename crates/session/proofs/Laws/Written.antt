@@ -92,7 +92,7 @@ pub detail-again : DetailReadThenWritten
 detail-again e represented bytes read own = λ i. read-then-written Kind.Message bytes e (sym read) i ++ accepted-again (e .route .receiving) represented (bodyOf bytes) own i
 
 -- what a send means to say, where nothing stops it
-meant : (time : ℕ) (x : Send) (h : Held) → Sound (h .session) → Carried Direction.presenting (h .session) (h .running) → let bytes = wholeMessage (nextEnvelope (h .session)) (sentBody x h) in SendTold (sendStop x time h) bytes h → AsMeant x h bytes
+meant : (time : ℕ) (x : Send) (h : Held) → Sound (h .session) → Carried Direction.presenting (h .session) (h .running) → let bytes = wholeMessage (nextEnvelope (h .session)) (sentBody x h) in SendTold (sendStop x time h) (length bytes) h → AsMeant x h bytes
 unfolding detailStop
 meant time (Send.header moment centre number) h sound carried told =
     let s = h .session in
@@ -115,4 +115,4 @@ written-as-meant time x h sound carried =
     let refusal = sendRefusal time (sendStop x time h) (length bytes) (length (h .line)) (h .session) in
     either (λ (o : Outcome). o .number ≡ 0 → AsMeant x h (take (o .written) (o .left .line))) refusal h (posted time (sentEffect x h) (sentBody x h) h)
     (λ (k : ℕ) (n : suc k ≡ 0). absurd (omega arith))
-    (λ (e : refusal ≡ 0) (n : 0 ≡ 0). let told = send-told time (sendStop x time h) bytes h e in subst (AsMeant x h) (sym (first-bytes bytes (h .line) (told .room))) (meant time x h sound carried told))
+    (λ (e : refusal ≡ 0) (n : 0 ≡ 0). let told = send-told time (sendStop x time h) (length bytes) h e in subst (AsMeant x h) (sym (first-bytes bytes (h .line) (told .room))) (meant time x h sound carried told))

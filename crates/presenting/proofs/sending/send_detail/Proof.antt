@@ -1,11 +1,12 @@
--- `send_detail`: as `send_header`, with the documents of a part in groups of four; how long they are is known where no code stops them.
+-- `send_detail`: as `send_detail`, with the count of accepted lots and what they gathered.
 use mathlib.Core.Path.{_≡_, ap, sym, _∙_}
+use mathlib.Core.Bool.{true}
 use mathlib.Core.List.{List}
-use Prim.Native.Nat.{ℕ, _+_, _-_, _≤_}
+use Prim.Native.Nat.{ℕ, _+_, _-_}
 use native.Mathlib.Omega.{arith}
 use lib.ListN.{length}
 use lib.Seq.{sets}
-use borrow.Rule.Slice.PartMut.{midOf, putMid}
+use borrow.Rule.Slice.PartMut.{midOf}
 use Rattle.packed.specs.Writing.{packedByte}
 use Rattle.codes.proofs.Laws.Chain.{none-both}
 use Rattle.detail.specs.Codes.{presenterCode}
@@ -15,17 +16,10 @@ use Rattle.message.specs.declared.envelope.Kind.{Kind}
 use Rattle.message.specs.Limits.{envelopeBytes}
 use Rattle.message.proofs.Laws.Envelope.{whole-length}
 use Rattle.session.specs.declared.effect.Effect.{Effect}
-use Rattle.session.specs.declared.running.Running.{Running}
-use Rattle.session.specs.Parties.{Direction}
 use Rattle.session.specs.Outcome.{held}
-use Rattle.session.specs.Sending.{partAdds, nextEnvelope, detailStop, sent, sendDetail}
-use Rattle.session.specs.Premise.{KeptBeside}
-use Rattle.session.specs.Engine.{Call, meaning}
-use Rattle.session.proofs.Laws.EveryCall.{kept-beside}
-use Rattle.calls.proofs.Laws.Said.{so-kept-beside}
-use Rattle.presenting.specs.declared.answer.SendOutcome.{SendOutcome}
-use Rattle.presenting.specs.Said.{sendNumber, sendSaid}
-use Rattle.presenting.proofs.Laws.Send.{Sending, Answered, meant, answered, serial-left, unstopped, room, rest-room, posted-so, unposted}
+use Rattle.session.specs.Sending.{nextEnvelope, detailStop, Send}
+use Rattle.presenting.specs.Inner.Begun.{unstopped}
+use Rattle.presenting.proofs.Laws.Send.{Sending, bodyIn, Beginning, unposted, tail, rest-room, posted-so, kept-said}
 use borrow.Author.Needs.{needs}
 use Rattle.presenting.proofs.sending.send_detail.Statement.{statement}
 use Rattle.presenting.proofs.sending.send_detail.Tie as tie
@@ -39,51 +33,47 @@ written-bytes-requires c κs = search needs
 add-bytes : tie.Need-add-bytes
 add-bytes c = let h = c .written-bytes .ensures .1 in search needs
 
-send-answer-requires : tie.Need-send-answer-requires
-send-answer-requires c κs = search needs
+begin-requires : tie.Need-begin-requires
+begin-requires c κs = search needs
 
-send-number-requires : tie.Need-send-number-requires
-send-number-requires c κs = search needs
+is-begun-requires : tie.Need-is-begun-requires
+is-begun-requires c κs = search needs
 
-abbrev start : tie.After-send-number → tie.Start
-start k = k .before .before .before .before .before .before .before .before
+abbrev start : tie.After-is-begun → tie.Start
+start k = k .before .before .before .before .before .before .before .before .before .before .before
 
--- the answer is there
-abbrev sending : tie.After-send-number → Sending
-sending k =
-    let a = start k .args in
-    record {
-      time = a .time;
-      code = detailStop (a .operation) (a .session .parties .partner) (a .part .now) (a .running) (a .session .presenting);
-      effect = Effect.Detail (partAdds (a .operation) (a .part .now));
-      body = writtenDetail (packedByte (a .operation)) (a .part .now);
-      session = a .session;
-      line = a .line .now;
-      answer = k .before .send-answer .result;
-    }
+-- what the line buffer holds once the send has begun
+abbrev first : tie.After-is-begun → List ℕ
+first k = k .before .before .before .begin .last .1 .1 .1 .1 .1 .0
 
-known : (k : tie.After-send-number) → Answered (sending k)
+abbrev sending : tie.After-is-begun → Sending
+sending k = let a = start k .args in record { time = a .time; message = Send.detail (a .operation) (a .part .now); lent = held (a .session) (a .running) (a .line .now) }
+
+known : (k : tie.After-is-begun) → Beginning (sending k) (first k) (k .before .before .before .begin .result)
 unfolding detailStop
 known k =
     let a = start k .args in
-    let found = k .before .send-answer .ensures in
-    let size = k .before .before .written-bytes in
-    answered (sending k) (envelopeBytes + size .result) _ (found .0) (found .1) (k .before .before .before .before .detail-stop .ensures .0)
-    (λ (e : sending k .code ≡ 0).
-    let may = sendable-part (a .operation) (a .part .now) (accepted-part (a .operation) (a .session .parties .partner) (a .part .now) (none-both (presenterCode (a .operation) (a .session .parties .partner) (a .part .now)) _ e .0) .0) in
-    sym (whole-length Kind.Message (nextEnvelope (a .session)) (sending k .body) ∙ ap (λ (n : ℕ). envelopeBytes + n) (sym (size .ensures .0 (omega (arith, may .whole, may .most)) (packedByte (a .operation))))))
+    let size = k .before .before .before .before .before .written-bytes in
+    let stop = k .before .before .before .before .before .before .before .detail-stop in
+    let partner = a .session .parties .partner in
+    record {
+      code = _;
+      bytes = envelopeBytes + size .result;
+      effect = Effect.Detail (stop .result .adds);
+      begun = k .before .before .before .begin .ensures;
+      same = stop .ensures .0;
+      size =
+          λ e.
+          let may = sendable-part (a .operation) (a .part .now) (accepted-part (a .operation) partner (a .part .now) (none-both (presenterCode (a .operation) partner (a .part .now)) _ e .0) .0) in
+          sym (whole-length Kind.Message (nextEnvelope (a .session)) (bodyIn (sending k)) ∙ ap (λ (n : ℕ). envelopeBytes + n) (sym (size .ensures .0 (omega (arith, may .whole, may .most)) (packedByte (a .operation)))));
+      awaits = λ e. ap Effect.Detail (stop .ensures .1 (stop .ensures .0 ∙ e));
+    }
 
-none : (t : tie.Then1) → sendNumber (sending (t .before) .answer) ≡ 0
-none t = sym (t .before .send-number .ensures) ∙ t .if1 .taken
-
-fits : (t : tie.Then1) → envelopeBytes + length (sending (t .before) .body) ≤ length (sending (t .before) .line)
-fits t = room (sending (t .before)) (known (t .before)) (none t)
-
-post-requires : tie.Need-post-requires
-post-requires c κs = let t = c .before in (serial-left (sending (t .before)) (known (t .before)) (none t), omega (arith, fits t))
+some : (t : tie.Then1) → unstopped (t .before .before .before .before .begin .result .answer) ≡ true
+some t = sym (t .before .is-begun .ensures) ∙ t .if1 .taken
 
 sub-write-detail : tie.Need-sub-write-detail
-sub-write-detail c = let p = c .before .before in omega (arith, fits (p .before .before), p .post .kept .1 .1 .1 .0)
+sub-write-detail c = tail (sending (c .before)) _ _ (known (c .before)) (some c)
 
 part-write-detail-start : tie.Need-part-write-detail-start
 part-write-detail-start c = let h = sub-write-detail c in search needs
@@ -96,48 +86,28 @@ packed-byte-requires c κs = search needs
 
 write-detail-requires : tie.Need-write-detail-requires
 write-detail-requires c κs =
-    let p = c .before .before .before .before in
-    let t = p .before .before in
+    let t = c .before .before in
     let k = t .before in
-    let same = ap (λ (o : ℕ). length (writtenDetail o (start k .args .part .now))) (c .packed-byte .ensures) in
-    omega (arith, rest-room (sending k) (known k) (none t) (p .post .last .1 .1 .1 .0) (p .post .kept .1 .1 .1 .0), same)
-
--- what is said as meant keeps the premise
-with-premise : (k : tie.After-send-number) (o : SendOutcome) (after : List ℕ) → let a = start k .args in sendSaid o (a .running) after ≡ meant (sending k) (a .running) → (sendSaid o (a .running) after ≡ sendDetail (a .time) (a .operation) (a .part .now) (held (a .session) (a .running) (a .line .now))) × KeptBeside Direction.presenting (a .session) (o .session) (a .running)
-unfolding sendDetail meaning
-with-premise k o after whole =
-    let a = start k .args in
-    let pre = start k .pre in
-    (whole, so-kept-beside (a .session) _ _ whole Direction.presenting (kept-beside (Call.detail (a .time) (a .operation) (a .part .now)) (held (a .session) (a .running) (a .line .now)) (record { sound = pre .0; carried = pre .1 })))
-
-outcome-requires : tie.Need-outcome-requires
-outcome-requires c κs = search needs
+    omega (arith, rest-room (sending k) _ _ (known k) (some t), ap (λ (o : ℕ). length (writtenDetail o (start k .args .part .now))) (c .packed-byte .ensures))
 
 same-length : tie.Need-same-length
 same-length c = search needs
 
 returns : tie.Need-returns
 returns c =
-    let w = c .before .before .before in
-    let p = w .before .before .before .before .before in
-    let t = p .before .before in
+    let t = c .before .before .before .before .before in
     let k = t .before in
-    let a = start k .args in
-    let first = p .post .last .1 .1 .1 .0 in
-    let stop = k .before .before .before .before .detail-stop .ensures in
-    let next = p .post .ensures .0 ∙ ap (λ (x : Running). sent (a .time) (Effect.Detail x) (a .session)) (stop .1 (stop .0 ∙ unstopped (sending k) (known k) (none t))) in
-    let body = w .write-detail .ensures .1 ∙ ap (λ (o : ℕ). sets (midOf envelopeBytes (length first - envelopeBytes) first) 0 (writtenDetail o (a .part .now))) (w .before .packed-byte .ensures) in
-    with-premise k (c .outcome .result) (putMid envelopeBytes (length first - envelopeBytes) first (w .write-detail .last .0))
-    (posted-so (sending k) (known k) (none t) first (p .post .result) (w .write-detail .last .0) next (p .post .ensures .1) body (a .running) (c .outcome .result) (c .outcome .ensures))
+    let w = c .before .before .write-detail in
+    let body = w .ensures .1 ∙ ap (λ (o : ℕ). sets (midOf envelopeBytes (length (first k) - envelopeBytes) (first k)) 0 (writtenDetail o (start k .args .part .now))) (c .before .before .before .packed-byte .ensures) in
+    kept-said (sending k) _ _ (start k .pre .0) (start k .pre .1) (posted-so (sending k) _ _ (known k) (some t) (w .last .0) body)
 
-outcome-requires-2 : tie.Need-outcome-requires-2
-outcome-requires-2 c κs = search needs
+same-length-2 : tie.Need-same-length-2
+same-length-2 c = search needs
 
 returns-2 : tie.Need-returns-2
 returns-2 c =
-    let k = c .before .before in
-    let some : sendNumber (sending k .answer) ≡ 0 → ⊥ = λ (e : sendNumber (sending k .answer) ≡ 0). c .before .if1 .left (k .send-number .ensures ∙ e) in
-    with-premise k (c .outcome2 .result) (sending k .line) (unposted (sending k) (known k) some (start k .args .running) (c .outcome2 .result) (c .outcome2 .ensures))
+    let k = c .before in
+    kept-said (sending k) _ _ (start k .pre .0) (start k .pre .1) (unposted (sending k) _ _ (known k) (sym (k .is-begun .ensures) ∙ c .if1 .left))
 
 pub send-detail-spec : {M : Type 1} → statement M
 send-detail-spec =
@@ -146,16 +116,14 @@ send-detail-spec =
     detail-stop-requires
     written-bytes-requires
     add-bytes
-    send-answer-requires
-    send-number-requires
-    post-requires
+    begin-requires
+    is-begun-requires
     sub-write-detail
     part-write-detail-start
     part-write-detail-end
     packed-byte-requires
     write-detail-requires
-    outcome-requires
     same-length
     returns
-    outcome-requires-2
+    same-length-2
     returns-2)

@@ -1,27 +1,25 @@
--- `send_header`: the answer is there before anything is written; then the envelope, and the body into the tail.
-use mathlib.Core.Path.{_≡_, ap, sym, _∙_}
+-- `send_header`: once the send has begun, the body goes into the tail of the line buffer.
+use mathlib.Core.Path.{_≡_, refl, ap, sym, _∙_}
+use mathlib.Core.Bool.{true}
 use mathlib.Core.List.{List}
-use Prim.Native.Nat.{ℕ, _+_, _-_, _≤_}
+use Prim.Native.Nat.{ℕ, _+_, _-_}
 use native.Mathlib.Omega.{arith}
 use lib.ListN.{length}
 use lib.Seq.{sets}
-use borrow.Rule.Slice.PartMut.{midOf, putMid}
+use borrow.Rule.Slice.PartMut.{midOf}
 use Rattle.message.specs.declared.route.Route.{Route}
-use Rattle.message.specs.Limits.{headerBytes, envelopeBytes}
+use Rattle.message.specs.Limits.{envelopeBytes, headerBytes}
 use Rattle.message.specs.Line.{Body, bodyBytes}
 use Rattle.message.proofs.Laws.Line.{body-length}
 use Rattle.session.specs.declared.effect.Effect.{Effect}
-use Rattle.session.specs.Parties.{presentingRoute}
 use Rattle.session.specs.declared.running.Running.{Running}
+use Rattle.session.specs.Parties.{presentingRoute}
 use Rattle.session.specs.Running.{empty}
 use Rattle.session.specs.Outcome.{held}
-use Rattle.session.specs.Sending.{headerStop, sendHeader}
-use Rattle.session.specs.Premise.{Kept}
-use Rattle.session.proofs.Laws.EveryCall.{header-kept}
-use Rattle.calls.proofs.Laws.Said.{so-kept}
-use Rattle.presenting.specs.declared.answer.SendOutcome.{SendOutcome}
-use Rattle.presenting.specs.Said.{sendNumber, sendSaid}
-use Rattle.presenting.proofs.Laws.Send.{Sending, Answered, meant, answered, fixed-size, serial-left, room, rest-room, posted-so, unposted}
+use Rattle.session.specs.Sending.{headerBody, Send}
+use Rattle.session.proofs.Laws.Allowed.{header-sound}
+use Rattle.presenting.specs.Inner.Begun.{unstopped}
+use Rattle.presenting.proofs.Laws.Send.{Sending, Beginning, fixed-size, unposted, tail, rest-room, posted-so, kept-unlent}
 use borrow.Author.Needs.{needs}
 use Rattle.presenting.proofs.sending.send_header.Statement.{statement}
 use Rattle.presenting.proofs.sending.send_header.Tie as tie
@@ -29,51 +27,45 @@ use Rattle.presenting.proofs.sending.send_header.Tie as tie
 header-stop-requires : tie.Need-header-stop-requires
 header-stop-requires c κs = search needs
 
-add-send-answer : tie.Need-add-send-answer
-add-send-answer c = search needs
+add-begin : tie.Need-add-begin
+add-begin c = search needs
 
-send-answer-requires : tie.Need-send-answer-requires
-send-answer-requires c κs = search needs
+begin-requires : tie.Need-begin-requires
+begin-requires c κs = search needs
 
-send-number-requires : tie.Need-send-number-requires
-send-number-requires c κs = search needs
+is-begun-requires : tie.Need-is-begun-requires
+is-begun-requires c κs = search needs
 
-abbrev start : tie.After-send-number → tie.Start
-start k = k .before .before .before .before .before .before
+abbrev start : tie.After-is-begun → tie.Start
+start k = k .before .before .before .before .before .before .before .before .before
 
-abbrev content : tie.Start → Body
-content s = let a = s .args in Body.opening (record { time = a .moment; centre = a .centre; number = a .number })
+abbrev content : tie.After-is-begun → Body
+content k = let a = start k .args in headerBody (a .moment) (a .centre) (a .number)
 
--- the answer is there
-abbrev sending : tie.After-send-number → Sending
-sending k =
-    let a = start k .args in
+-- what the line buffer holds once the send has begun
+abbrev first : tie.After-is-begun → List ℕ
+first k = k .before .before .before .begin .last .1 .1 .1 .1 .1 .0
+
+abbrev sending : tie.After-is-begun → Running → Sending
+sending k u = let a = start k .args in record { time = a .time; message = Send.header (a .moment) (a .centre) (a .number); lent = held (a .session) u (a .line .now) }
+
+known : (k : tie.After-is-begun) (u : Running) → Beginning (sending k u) (first k) (k .before .before .before .begin .result)
+known k u =
     record {
-      time = a .time;
-      code = headerStop (a .time) (a .moment) (a .centre) (a .number) (a .session .presenting);
-      effect = Effect.Header (a .number);
-      body = bodyBytes (presentingRoute (a .session .parties)) (content (start k));
-      session = a .session;
-      line = a .line .now;
-      answer = k .before .send-answer .result;
+      code = _;
+      bytes = envelopeBytes + headerBytes;
+      effect = Effect.Header (start k .args .number);
+      begun = k .before .before .before .begin .ensures;
+      same = k .before .before .before .before .before .header-stop .ensures;
+      size = λ e. fixed-size (start k .args .session) (content k);
+      awaits = λ e. refl;
     }
 
-known : (k : tie.After-send-number) → Answered (sending k)
-known k =
-    let found = k .before .send-answer .ensures in
-    answered (sending k) (envelopeBytes + headerBytes) _ (found .0) (found .1) (k .before .before .header-stop .ensures) (λ (e : sending k .code ≡ 0). fixed-size (sending k .session) (content (start k)))
-
-none : (t : tie.Then1) → sendNumber (sending (t .before) .answer) ≡ 0
-none t = sym (t .before .send-number .ensures) ∙ t .if1 .taken
-
-fits : (t : tie.Then1) → envelopeBytes + length (sending (t .before) .body) ≤ length (sending (t .before) .line)
-fits t = room (sending (t .before)) (known (t .before)) (none t)
-
-post-requires : tie.Need-post-requires
-post-requires c κs = let t = c .before in (serial-left (sending (t .before)) (known (t .before)) (none t), omega (arith, fits t))
+some : (t : tie.Then1) → unstopped (t .before .before .before .before .begin .result .answer) ≡ true
+some t = sym (t .before .is-begun .ensures) ∙ t .if1 .taken
 
 sub-write-header : tie.Need-sub-write-header
-sub-write-header c = let p = c .before .before in omega (arith, fits (p .before .before), p .post .kept .1 .1 .1 .0)
+sub-write-header c = tail (sending (c .before) empty) _ _ (known (c .before) empty) (some c)
 
 part-write-header-start : tie.Need-part-write-header-start
 part-write-header-start c = let h = sub-write-header c in search needs
@@ -86,20 +78,9 @@ presenting-route-requires c κs = search needs
 
 write-header-requires : tie.Need-write-header-requires
 write-header-requires c κs =
-    let p = c .before .before .before .before in
-    let t = p .before .before in
+    let t = c .before .before in
     let k = t .before in
-    omega (arith, rest-room (sending k) (known k) (none t) (p .post .last .1 .1 .1 .0) (p .post .kept .1 .1 .1 .0), body-length (presentingRoute (sending k .session .parties)) (content (start k)))
-
--- what is said as meant keeps the premise
-with-premise : (k : tie.After-send-number) (o : SendOutcome) (after : List ℕ) → ((u : Running) → sendSaid o u after ≡ meant (sending k) u) → let a = start k .args in ((u : Running) → sendSaid o u after ≡ sendHeader (a .time) (a .moment) (a .centre) (a .number) (held (a .session) u (a .line .now))) × Kept (a .session) (o .session)
-unfolding sendHeader
-with-premise k o after whole =
-    let a = start k .args in
-    (whole, so-kept (a .session) _ _ (whole empty) (header-kept (a .time) (a .moment) (a .centre) (a .number) (held (a .session) empty (a .line .now)) (start k .pre)))
-
-outcome-requires : tie.Need-outcome-requires
-outcome-requires c κs = search needs
+    omega (arith, rest-room (sending k empty) _ _ (known k empty) (some t), body-length (presentingRoute (start k .args .session .parties)) (content k))
 
 same-length : tie.Need-same-length
 same-length c = search needs
@@ -107,40 +88,38 @@ same-length c = search needs
 returns : tie.Need-returns
 unfolding bodyBytes
 returns c =
-    let w = c .before .before .before in
-    let p = w .before .before .before .before .before in
-    let t = p .before .before in
+    let t = c .before .before .before .before .before in
     let k = t .before in
-    let first = p .post .last .1 .1 .1 .0 in
-    let body = w .write-header .ensures ∙ ap (λ (r : Route). sets (midOf envelopeBytes (length first - envelopeBytes) first) 0 (bodyBytes r (content (start k)))) (w .before .presenting-route .ensures) in
-    with-premise k (c .outcome .result) (putMid envelopeBytes (length first - envelopeBytes) first (w .write-header .last .0))
-    (λ (u : Running). posted-so (sending k) (known k) (none t) first (p .post .result) (w .write-header .last .0) (p .post .ensures .0) (p .post .ensures .1) body u (c .outcome .result) (c .outcome .ensures))
+    let a = start k .args in
+    let w = c .before .before .write-header in
+    let body = w .ensures ∙ ap (λ (r : Route). sets (midOf envelopeBytes (length (first k) - envelopeBytes) (first k)) 0 (bodyBytes r (content k))) (c .before .before .before .presenting-route .ensures) in
+    kept-unlent (sending k) _ _ (header-sound (a .time) (a .moment) (a .centre) (a .number) (a .session .presenting)) (λ (t : Running). tt) (start k .pre)
+    (λ (u : Running). posted-so (sending k u) _ _ (known k u) (some t) (w .last .0) body)
 
-outcome-requires-2 : tie.Need-outcome-requires-2
-outcome-requires-2 c κs = search needs
+same-length-2 : tie.Need-same-length-2
+same-length-2 c = search needs
 
 returns-2 : tie.Need-returns-2
 returns-2 c =
-    let k = c .before .before in
-    let some : sendNumber (sending k .answer) ≡ 0 → ⊥ = λ (e : sendNumber (sending k .answer) ≡ 0). c .before .if1 .left (k .send-number .ensures ∙ e) in
-    with-premise k (c .outcome2 .result) (sending k .line) (λ (u : Running). unposted (sending k) (known k) some u (c .outcome2 .result) (c .outcome2 .ensures))
+    let k = c .before in
+    let a = start k .args in
+    kept-unlent (sending k) _ _ (header-sound (a .time) (a .moment) (a .centre) (a .number) (a .session .presenting)) (λ (t : Running). tt) (start k .pre)
+    (λ (u : Running). unposted (sending k u) _ _ (known k u) (sym (k .is-begun .ensures) ∙ c .if1 .left))
 
 pub send-header-spec : {M : Type 1} → statement M
 send-header-spec =
     tie.close
     (tie.spec
     header-stop-requires
-    add-send-answer
-    send-answer-requires
-    send-number-requires
-    post-requires
+    add-begin
+    begin-requires
+    is-begun-requires
     sub-write-header
     part-write-header-start
     part-write-header-end
     presenting-route-requires
     write-header-requires
-    outcome-requires
     same-length
     returns
-    outcome-requires-2
+    same-length-2
     returns-2)

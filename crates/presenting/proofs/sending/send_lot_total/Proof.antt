@@ -1,26 +1,21 @@
--- `send_lot_total`: as `send_header`, with the open lot's number and what it gathered.
-use mathlib.Core.Path.{_≡_, ap, sym, _∙_}
+-- `send_lot_total`: as `send_lot_total`, with the count of accepted lots and what they gathered.
+use mathlib.Core.Path.{_≡_, sym, _∙_}
+use mathlib.Core.Bool.{true}
 use mathlib.Core.List.{List}
-use Prim.Native.Nat.{ℕ, _+_, _-_, _≤_}
+use Prim.Native.Nat.{ℕ, _+_, _-_}
 use native.Mathlib.Omega.{arith}
 use lib.ListN.{length}
 use lib.Seq.{sets}
-use borrow.Rule.Slice.PartMut.{midOf, putMid}
-use Rattle.message.specs.Limits.{lotTotalBytes, envelopeBytes}
+use borrow.Rule.Slice.PartMut.{midOf}
+use Rattle.message.specs.Limits.{envelopeBytes, lotTotalBytes}
 use Rattle.message.specs.Line.{Body, bodyBytes}
 use Rattle.message.proofs.Laws.Line.{body-length}
 use Rattle.session.specs.declared.effect.Effect.{Effect}
-use Rattle.session.specs.Parties.{presentingRoute, Direction}
-use Rattle.session.specs.Running.{stated}
+use Rattle.session.specs.Parties.{presentingRoute}
 use Rattle.session.specs.Outcome.{held}
-use Rattle.session.specs.Sending.{openNumber, endingLot, lotTotalStop, sent, sendLotTotal}
-use Rattle.session.specs.Premise.{KeptBeside}
-use Rattle.session.specs.Engine.{Call, meaning}
-use Rattle.session.proofs.Laws.EveryCall.{kept-beside}
-use Rattle.calls.proofs.Laws.Said.{so-kept-beside}
-use Rattle.presenting.specs.declared.answer.SendOutcome.{SendOutcome}
-use Rattle.presenting.specs.Said.{sendNumber, sendSaid}
-use Rattle.presenting.proofs.Laws.Send.{Sending, Answered, meant, answered, fixed-size, serial-left, room, rest-room, posted-so, unposted}
+use Rattle.session.specs.Sending.{lotTotalStop, lotTotalBody, Send}
+use Rattle.presenting.specs.Inner.Begun.{unstopped}
+use Rattle.presenting.proofs.Laws.Send.{Sending, Beginning, fixed-size, unposted, tail, rest-room, posted-so, kept-said}
 use borrow.Author.Needs.{needs}
 use Rattle.presenting.proofs.sending.send_lot_total.Statement.{statement}
 use Rattle.presenting.proofs.sending.send_lot_total.Tie as tie
@@ -31,55 +26,51 @@ open-number-requires c κs = search needs
 lot-sequence-requires : tie.Need-lot-sequence-requires
 lot-sequence-requires c κs = search needs
 
-add-send-answer : tie.Need-add-send-answer
-add-send-answer c = search needs
+add-begin : tie.Need-add-begin
+add-begin c = search needs
 
-send-answer-requires : tie.Need-send-answer-requires
-send-answer-requires c κs = search needs
+begin-requires : tie.Need-begin-requires
+begin-requires c κs = search needs
 
-send-number-requires : tie.Need-send-number-requires
-send-number-requires c κs = search needs
+is-begun-requires : tie.Need-is-begun-requires
+is-begun-requires c κs = search needs
 
-abbrev start : tie.After-send-number → tie.Start
-start k = k .before .before .before .before .before .before .before
+abbrev start : tie.After-is-begun → tie.Start
+start k = k .before .before .before .before .before .before .before .before .before .before
 
-abbrev content : tie.Start → Body
-content s = let a = s .args in Body.lotEnding (record { number = openNumber (a .session .presenting .counters .current); stated = stated (a .running) })
+abbrev content : tie.After-is-begun → Body
+content k = let a = start k .args in lotTotalBody (a .session .presenting .counters) (a .running)
 
--- the answer is there
-abbrev sending : tie.After-send-number → Sending
-sending k =
-    let a = start k .args in
-    record {
-      time = a .time;
-      code = lotTotalStop (a .session .presenting);
-      effect = Effect.LotTotal (endingLot (a .session .presenting .counters) (a .running));
-      body = bodyBytes (presentingRoute (a .session .parties)) (content (start k));
-      session = a .session;
-      line = a .line .now;
-      answer = k .before .send-answer .result;
-    }
+-- what the line buffer holds once the send has begun
+abbrev first : tie.After-is-begun → List ℕ
+first k = k .before .before .before .begin .last .1 .1 .1 .1 .1 .0
 
-known : (k : tie.After-send-number) → Answered (sending k)
+abbrev sending : tie.After-is-begun → Sending
+sending k = let a = start k .args in record { time = a .time; message = Send.lotTotal; lent = held (a .session) (a .running) (a .line .now) }
+
+known : (k : tie.After-is-begun) → Beginning (sending k) (first k) (k .before .before .before .begin .result)
 unfolding lotTotalStop
 known k =
-    let found = k .before .send-answer .ensures in
-    answered (sending k) (envelopeBytes + lotTotalBytes) _ (found .0) (found .1) (k .before .before .lot-sequence .ensures) (λ (e : sending k .code ≡ 0). fixed-size (sending k .session) (content (start k)))
+    let a = start k .args in
+    let number = k .before .before .before .before .before .before .open-number in
+    record {
+      code = _;
+      bytes = envelopeBytes + lotTotalBytes;
+      effect = Effect.LotTotal (record { number = number .result; gathered = a .running });
+      begun = k .before .before .before .begin .ensures;
+      same = k .before .before .before .before .before .lot-sequence .ensures;
+      size = λ e. fixed-size (start k .args .session) (content k);
+      awaits = λ e. λ i. Effect.LotTotal (record { number = number .ensures i; gathered = a .running });
+    }
 
-none : (t : tie.Then1) → sendNumber (sending (t .before) .answer) ≡ 0
-none t = sym (t .before .send-number .ensures) ∙ t .if1 .taken
-
-fits : (t : tie.Then1) → envelopeBytes + length (sending (t .before) .body) ≤ length (sending (t .before) .line)
-fits t = room (sending (t .before)) (known (t .before)) (none t)
-
-post-requires : tie.Need-post-requires
-post-requires c κs = let t = c .before in (serial-left (sending (t .before)) (known (t .before)) (none t), omega (arith, fits t))
+some : (t : tie.Then1) → unstopped (t .before .before .before .before .begin .result .answer) ≡ true
+some t = sym (t .before .is-begun .ensures) ∙ t .if1 .taken
 
 stated-requires : tie.Need-stated-requires
 stated-requires c κs = search needs
 
 sub-write-lot-total : tie.Need-sub-write-lot-total
-sub-write-lot-total c = let p = c .before .before .before in omega (arith, fits (p .before .before), p .post .kept .1 .1 .1 .0)
+sub-write-lot-total c = let t = c .before in tail (sending (t .before)) _ _ (known (t .before)) (some t)
 
 part-write-lot-total-start : tie.Need-part-write-lot-total-start
 part-write-lot-total-start c = let h = sub-write-lot-total c in search needs
@@ -89,21 +80,9 @@ part-write-lot-total-end c = search needs
 
 write-lot-total-requires : tie.Need-write-lot-total-requires
 write-lot-total-requires c κs =
-    let p = c .before .before .before .before in
-    let t = p .before .before in
+    let t = c .before .before in
     let k = t .before in
-    omega (arith, rest-room (sending k) (known k) (none t) (p .post .last .1 .1 .1 .0) (p .post .kept .1 .1 .1 .0), body-length (presentingRoute (sending k .session .parties)) (content (start k)))
-
--- what is said as meant keeps the premise
-with-premise : (k : tie.After-send-number) (o : SendOutcome) (after : List ℕ) → let a = start k .args in sendSaid o (a .running) after ≡ meant (sending k) (a .running) → (sendSaid o (a .running) after ≡ sendLotTotal (a .time) (held (a .session) (a .running) (a .line .now))) × KeptBeside Direction.presenting (a .session) (o .session) (a .running)
-unfolding sendLotTotal meaning
-with-premise k o after whole =
-    let a = start k .args in
-    let pre = start k .pre in
-    (whole, so-kept-beside (a .session) _ _ whole Direction.presenting (kept-beside (Call.lotTotal (a .time)) (held (a .session) (a .running) (a .line .now)) (record { sound = pre .0; carried = pre .1 })))
-
-outcome-requires : tie.Need-outcome-requires
-outcome-requires c κs = search needs
+    omega (arith, rest-room (sending k) _ _ (known k) (some t), body-length (presentingRoute (start k .args .session .parties)) (content k))
 
 same-length : tie.Need-same-length
 same-length c = search needs
@@ -111,26 +90,20 @@ same-length c = search needs
 returns : tie.Need-returns
 unfolding bodyBytes
 returns c =
-    let w = c .before .before .before in
-    let p = w .before .before .before .before .before in
-    let t = p .before .before in
+    let t = c .before .before .before .before .before in
     let k = t .before in
-    let a = start k .args in
-    let first = p .post .last .1 .1 .1 .0 in
-    let number = k .before .before .before .open-number .ensures in
-    let next = p .post .ensures .0 ∙ ap (λ (n : ℕ). sent (a .time) (Effect.LotTotal (record { number = n; gathered = a .running })) (a .session)) number in
-    let body = w .write-lot-total .ensures ∙ λ i. sets (midOf envelopeBytes (length first - envelopeBytes) first) 0 (bodyBytes (presentingRoute (a .session .parties)) (Body.lotEnding (record { number = number i; stated = w .before .before .stated .ensures i }))) in
-    with-premise k (c .outcome .result) (putMid envelopeBytes (length first - envelopeBytes) first (w .write-lot-total .last .0))
-    (posted-so (sending k) (known k) (none t) first (p .post .result) (w .write-lot-total .last .0) next (p .post .ensures .1) body (a .running) (c .outcome .result) (c .outcome .ensures))
+    let number = k .before .before .before .before .before .before .open-number .ensures in
+    let w = c .before .before .write-lot-total in
+    let body = w .ensures ∙ λ i. sets (midOf envelopeBytes (length (first k) - envelopeBytes) (first k)) 0 (bodyBytes (presentingRoute (start k .args .session .parties)) (Body.lotEnding (record { number = number i; stated = c .before .before .before .before .stated .ensures i }))) in
+    kept-said (sending k) _ _ (start k .pre .0) (start k .pre .1) (posted-so (sending k) _ _ (known k) (some t) (w .last .0) body)
 
-outcome-requires-2 : tie.Need-outcome-requires-2
-outcome-requires-2 c κs = search needs
+same-length-2 : tie.Need-same-length-2
+same-length-2 c = search needs
 
 returns-2 : tie.Need-returns-2
 returns-2 c =
-    let k = c .before .before in
-    let some : sendNumber (sending k .answer) ≡ 0 → ⊥ = λ (e : sendNumber (sending k .answer) ≡ 0). c .before .if1 .left (k .send-number .ensures ∙ e) in
-    with-premise k (c .outcome2 .result) (sending k .line) (unposted (sending k) (known k) some (start k .args .running) (c .outcome2 .result) (c .outcome2 .ensures))
+    let k = c .before in
+    kept-said (sending k) _ _ (start k .pre .0) (start k .pre .1) (unposted (sending k) _ _ (known k) (sym (k .is-begun .ensures) ∙ c .if1 .left))
 
 pub send-lot-total-spec : {M : Type 1} → statement M
 send-lot-total-spec =
@@ -138,17 +111,15 @@ send-lot-total-spec =
     (tie.spec
     open-number-requires
     lot-sequence-requires
-    add-send-answer
-    send-answer-requires
-    send-number-requires
-    post-requires
+    add-begin
+    begin-requires
+    is-begun-requires
     stated-requires
     sub-write-lot-total
     part-write-lot-total-start
     part-write-lot-total-end
     write-lot-total-requires
-    outcome-requires
     same-length
     returns
-    outcome-requires-2
+    same-length-2
     returns-2)

@@ -1,27 +1,24 @@
--- `send_session_total`: as `send_header`, with the count of accepted lots and what they gathered.
-use mathlib.Core.Path.{_≡_, ap, sym, _∙_}
+-- `send_session_total`: as `send_session_total`, with the count of accepted lots and what they gathered.
+use mathlib.Core.Path.{_≡_, refl, ap, sym, _∙_}
+use mathlib.Core.Bool.{true}
 use mathlib.Core.List.{List}
-use Prim.Native.Nat.{ℕ, _+_, _-_, _≤_}
+use Prim.Native.Nat.{ℕ, _+_, _-_}
 use native.Mathlib.Omega.{arith}
 use lib.ListN.{length}
 use lib.Seq.{sets}
-use borrow.Rule.Slice.PartMut.{midOf, putMid}
-use Rattle.message.specs.Limits.{sessionTotalBytes, envelopeBytes}
+use borrow.Rule.Slice.PartMut.{midOf}
+use Rattle.amounts.specs.declared.Totals.{Totals}
+use Rattle.message.specs.Limits.{envelopeBytes, sessionTotalBytes}
 use Rattle.message.specs.Line.{Body, bodyBytes}
 use Rattle.message.proofs.Laws.Line.{body-length}
-use Rattle.amounts.specs.declared.Totals.{Totals}
 use Rattle.session.specs.declared.effect.Effect.{Effect}
-use Rattle.session.specs.Parties.{presentingRoute}
 use Rattle.session.specs.declared.running.Running.{Running}
-use Rattle.session.specs.Running.{empty, stated}
+use Rattle.session.specs.Parties.{presentingRoute}
+use Rattle.session.specs.Running.{empty}
 use Rattle.session.specs.Outcome.{held}
-use Rattle.session.specs.Sending.{sessionTotalStop, sendSessionTotal}
-use Rattle.session.specs.Premise.{Kept}
-use Rattle.session.proofs.Laws.EveryCall.{session-total-kept}
-use Rattle.calls.proofs.Laws.Said.{so-kept}
-use Rattle.presenting.specs.declared.answer.SendOutcome.{SendOutcome}
-use Rattle.presenting.specs.Said.{sendNumber, sendSaid}
-use Rattle.presenting.proofs.Laws.Send.{Sending, Answered, meant, answered, fixed-size, serial-left, room, rest-room, posted-so, unposted}
+use Rattle.session.specs.Sending.{sessionTotalStop, sessionTotalBody, Send}
+use Rattle.presenting.specs.Inner.Begun.{unstopped}
+use Rattle.presenting.proofs.Laws.Send.{Sending, Beginning, fixed-size, unposted, tail, rest-room, posted-so, kept-unlent}
 use borrow.Author.Needs.{needs}
 use Rattle.presenting.proofs.sending.send_session_total.Statement.{statement}
 use Rattle.presenting.proofs.sending.send_session_total.Tie as tie
@@ -29,58 +26,52 @@ use Rattle.presenting.proofs.sending.send_session_total.Tie as tie
 session-total-sequence-requires : tie.Need-session-total-sequence-requires
 session-total-sequence-requires c κs = search needs
 
-add-bytes : tie.Need-add-bytes
-add-bytes c = search needs
+add-begin : tie.Need-add-begin
+add-begin c = search needs
 
-send-answer-requires : tie.Need-send-answer-requires
-send-answer-requires c κs = search needs
+begin-requires : tie.Need-begin-requires
+begin-requires c κs = search needs
 
-send-number-requires : tie.Need-send-number-requires
-send-number-requires c κs = search needs
+is-begun-requires : tie.Need-is-begun-requires
+is-begun-requires c κs = search needs
 
-abbrev start : tie.After-send-number → tie.Start
-start k = k .before .before .before .before .before .before .before
+abbrev start : tie.After-is-begun → tie.Start
+start k = k .before .before .before .before .before .before .before .before .before .before
 
-abbrev content : tie.Start → Body
-content s = let a = s .args in Body.sessionEnding (record { number = a .session .presenting .counters .lots; stated = stated (a .session .presenting .counters .gathered) })
+abbrev content : tie.After-is-begun → Body
+content k = sessionTotalBody (start k .args .session .presenting .counters)
 
--- the answer is there
-abbrev sending : tie.After-send-number → Sending
-sending k =
-    let a = start k .args in
+-- what the line buffer holds once the send has begun
+abbrev first : tie.After-is-begun → List ℕ
+first k = k .before .before .before .begin .last .1 .1 .1 .1 .1 .0
+
+abbrev sending : tie.After-is-begun → Running → Sending
+sending k u = let a = start k .args in record { time = a .time; message = Send.sessionTotal; lent = held (a .session) u (a .line .now) }
+
+known : (k : tie.After-is-begun) (u : Running) → Beginning (sending k u) (first k) (k .before .before .before .begin .result)
+unfolding sessionTotalStop
+known k u =
     record {
-      time = a .time;
-      code = sessionTotalStop (a .session .presenting);
+      code = _;
+      bytes = envelopeBytes + sessionTotalBytes;
       effect = Effect.SessionTotal;
-      body = bodyBytes (presentingRoute (a .session .parties)) (content (start k));
-      session = a .session;
-      line = a .line .now;
-      answer = k .before .send-answer .result;
+      begun = k .before .before .before .begin .ensures;
+      same = k .before .before .before .before .before .session-total-sequence .ensures;
+      size = λ e. fixed-size (start k .args .session) (content k);
+      awaits = λ e. refl;
     }
 
-known : (k : tie.After-send-number) → Answered (sending k)
-unfolding sessionTotalStop
-known k =
-    let found = k .before .send-answer .ensures in
-    answered (sending k) (envelopeBytes + sessionTotalBytes) _ (found .0) (found .1) (k .before .before .session-total-sequence .ensures) (λ (e : sending k .code ≡ 0). fixed-size (sending k .session) (content (start k)))
+some : (t : tie.Then1) → unstopped (t .before .before .before .before .begin .result .answer) ≡ true
+some t = sym (t .before .is-begun .ensures) ∙ t .if1 .taken
 
-none : (t : tie.Then1) → sendNumber (sending (t .before) .answer) ≡ 0
-none t = sym (t .before .send-number .ensures) ∙ t .if1 .taken
-
-fits : (t : tie.Then1) → envelopeBytes + length (sending (t .before) .body) ≤ length (sending (t .before) .line)
-fits t = room (sending (t .before)) (known (t .before)) (none t)
-
-post-requires : tie.Need-post-requires
-post-requires c κs = let t = c .before in (serial-left (sending (t .before)) (known (t .before)) (none t), omega (arith, fits t))
-
-cast-t19 : tie.Need-cast-t19
-cast-t19 c = let t = c .before .before .before .before .before in omega (arith, start (t .before) .pre .presenting .lots)
+cast-t16 : tie.Need-cast-t16
+cast-t16 c = omega (arith, start (c .before .before) .pre .presenting .lots)
 
 stated-requires : tie.Need-stated-requires
 stated-requires c κs = search needs
 
 sub-write-session-total : tie.Need-sub-write-session-total
-sub-write-session-total c = let p = c .before .before .before .before in omega (arith, fits (p .before .before), p .post .kept .1 .1 .1 .0)
+sub-write-session-total c = let t = c .before .before in tail (sending (t .before) empty) _ _ (known (t .before) empty) (some t)
 
 part-write-session-total-start : tie.Need-part-write-session-total-start
 part-write-session-total-start c = let h = sub-write-session-total c in search needs
@@ -90,20 +81,9 @@ part-write-session-total-end c = search needs
 
 write-session-total-requires : tie.Need-write-session-total-requires
 write-session-total-requires c κs =
-    let p = c .before .before .before .before .before in
-    let t = p .before .before in
+    let t = c .before .before .before in
     let k = t .before in
-    omega (arith, rest-room (sending k) (known k) (none t) (p .post .last .1 .1 .1 .0) (p .post .kept .1 .1 .1 .0), body-length (presentingRoute (sending k .session .parties)) (content (start k)))
-
--- what is said as meant keeps the premise
-with-premise : (k : tie.After-send-number) (o : SendOutcome) (after : List ℕ) → ((u : Running) → sendSaid o u after ≡ meant (sending k) u) → let a = start k .args in ((u : Running) → sendSaid o u after ≡ sendSessionTotal (a .time) (held (a .session) u (a .line .now))) × Kept (a .session) (o .session)
-unfolding sendSessionTotal
-with-premise k o after whole =
-    let a = start k .args in
-    (whole, so-kept (a .session) _ _ (whole empty) (session-total-kept (a .time) (held (a .session) empty (a .line .now)) (start k .pre)))
-
-outcome-requires : tie.Need-outcome-requires
-outcome-requires c κs = search needs
+    omega (arith, rest-room (sending k empty) _ _ (known k empty) (some t), body-length (presentingRoute (start k .args .session .parties)) (content k))
 
 same-length : tie.Need-same-length
 same-length c = search needs
@@ -111,42 +91,38 @@ same-length c = search needs
 returns : tie.Need-returns
 unfolding bodyBytes
 returns c =
-    let w = c .before .before .before in
-    let p = w .before .before .before .before .before .before in
-    let t = p .before .before in
+    let t = c .before .before .before .before .before .before in
     let k = t .before in
-    let a = start k .args in
-    let first = p .post .last .1 .1 .1 .0 in
-    let body = w .write-session-total .ensures ∙ ap (λ (x : Totals). sets (midOf envelopeBytes (length first - envelopeBytes) first) 0 (bodyBytes (presentingRoute (a .session .parties)) (Body.sessionEnding (record { number = a .session .presenting .counters .lots; stated = x })))) (w .before .before .stated .ensures) in
-    with-premise k (c .outcome .result) (putMid envelopeBytes (length first - envelopeBytes) first (w .write-session-total .last .0))
-    (λ (u : Running). posted-so (sending k) (known k) (none t) first (p .post .result) (w .write-session-total .last .0) (p .post .ensures .0) (p .post .ensures .1) body u (c .outcome .result) (c .outcome .ensures))
+    let counters = start k .args .session .presenting .counters in
+    let w = c .before .before .write-session-total in
+    let body = w .ensures ∙ ap (λ (x : Totals). sets (midOf envelopeBytes (length (first k) - envelopeBytes) (first k)) 0 (bodyBytes (presentingRoute (start k .args .session .parties)) (Body.sessionEnding (record { number = counters .lots; stated = x })))) (c .before .before .before .before .stated .ensures) in
+    kept-unlent (sending k) _ _ (λ e. tt) (λ (t : Running). tt) (start k .pre)
+    (λ (u : Running). posted-so (sending k u) _ _ (known k u) (some t) (w .last .0) body)
 
-outcome-requires-2 : tie.Need-outcome-requires-2
-outcome-requires-2 c κs = search needs
+same-length-2 : tie.Need-same-length-2
+same-length-2 c = search needs
 
 returns-2 : tie.Need-returns-2
 returns-2 c =
-    let k = c .before .before in
-    let some : sendNumber (sending k .answer) ≡ 0 → ⊥ = λ (e : sendNumber (sending k .answer) ≡ 0). c .before .if1 .left (k .send-number .ensures ∙ e) in
-    with-premise k (c .outcome2 .result) (sending k .line) (λ (u : Running). unposted (sending k) (known k) some u (c .outcome2 .result) (c .outcome2 .ensures))
+    let k = c .before in
+    kept-unlent (sending k) _ _ (λ e. tt) (λ (t : Running). tt) (start k .pre)
+    (λ (u : Running). unposted (sending k u) _ _ (known k u) (sym (k .is-begun .ensures) ∙ c .if1 .left))
 
 pub send-session-total-spec : {M : Type 1} → statement M
 send-session-total-spec =
     tie.close
     (tie.spec
     session-total-sequence-requires
-    add-bytes
-    send-answer-requires
-    send-number-requires
-    post-requires
-    cast-t19
+    add-begin
+    begin-requires
+    is-begun-requires
+    cast-t16
     stated-requires
     sub-write-session-total
     part-write-session-total-start
     part-write-session-total-end
     write-session-total-requires
-    outcome-requires
     same-length
     returns
-    outcome-requires-2
+    same-length-2
     returns-2)
