@@ -1,2 +1,3 @@
 -- What functions below the calls are held to: no sentence of 01, and used by no definition outside such folders.
+pub mod Order
 pub mod Begun

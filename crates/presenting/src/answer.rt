@@ -13,14 +13,13 @@ use session::session::Answer;
 use session::session::Session;
 ghost use mathlib.Core.Path.{_≡_};
 ghost use mathlib.Core.Bool.{cond};
-ghost use lib.Dec.{eqb, leb};
-ghost use Rattle.codes.specs.Chain.{_when_, _orelse_};
+ghost use lib.Dec.{eqb};
+ghost use Rattle.codes.specs.Chain.{_when_};
 ghost use Rattle.codes.specs.Code.{codeNumber};
-ghost use Rattle.message.specs.Limits.{largestSerial};
-ghost use Rattle.session.specs.Outcome.{answerNumber, noRoom};
-ghost use Rattle.session.specs.Time.{timeRefusal};
-ghost use Rattle.session.specs.Sending.{isPending, sendRefusal};
+ghost use Rattle.session.specs.Outcome.{answerNumber};
+ghost use Rattle.session.specs.Sending.{sendRefusal};
 ghost use Rattle.presenting.specs.Said.{sendNumber, sendWritten};
+ghost use Rattle.presenting.specs.Inner.Order.{beforeCode, fromCode};
 ghost use Rattle.presenting.specs.Inner.Begun.{unstopped};
 
 // A message of so many bytes stands in the line buffer; or the presenter's own code stopped it; or it was refused.
@@ -78,7 +77,7 @@ pub fn is_begun(o: SendOutcome) -> bool
 
 // What refuses a send before its own code.
 fn ready(session: Session, time: u32) -> Answer
-    ensures { λ a. ⌜ answerNumber a ≡ (timeRefusal time (session .seen) (session .close) orelse 34 when isPending (session .presenting .pending) orelse 36 when leb largestSerial (session .presenting .serial)) ⌝ }
+    ensures { λ a. ⌜ answerNumber a ≡ beforeCode time session ⌝ }
 {
     let close = session.close;
     let presenting = session.presenting;
@@ -94,7 +93,7 @@ fn ready(session: Session, time: u32) -> Answer
 
 // The answer of a send that nothing but its code or the room may stop.
 fn unrefused(code: Code, bytes: usize, room: usize) -> SendAnswer
-    ensures number { λ r. ⌜ sendNumber r ≡ (codeNumber code orelse 23 when noRoom bytes room) ⌝ }
+    ensures number { λ r. ⌜ sendNumber r ≡ fromCode (codeNumber code) bytes room ⌝ }
     ensures written { λ r. ⌜ sendWritten r ≡ cond (eqb (sendNumber r) 0) bytes 0 ⌝ }
 {
     if is_accepted(code) {

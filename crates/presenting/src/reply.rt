@@ -33,15 +33,15 @@ ghost use Prim.Native.Nat.{ℕ};
 ghost use lib.Dec.{eqb};
 ghost use Rattle.packed.specs.Part.{byteAt};
 ghost use Rattle.packed.specs.Number.{byteValue};
-ghost use Rattle.codes.specs.Chain.{_when_, _orelse_};
-ghost use Rattle.codes.specs.Body.{operationOf};
-ghost use Rattle.message.specs.Reply.{operationByte, replyGood};
+ghost use Rattle.codes.specs.Chain.{_when_};
+ghost use Rattle.message.specs.Reply.{operationByte};
 ghost use Rattle.session.specs.Parties.{Direction};
 ghost use Rattle.session.specs.Outcome.{silent, held};
 ghost use Rattle.session.specs.Reply.{isAwaited, isAccepted, replyOrder, replied, takeReply};
 ghost use Rattle.session.specs.Premise.{Sound, Carried, KeptBeside};
 ghost use Rattle.calls.specs.Inner.Arrival.{Told};
 ghost use Rattle.calls.specs.Said.{calledSaid};
+ghost use Rattle.presenting.specs.Inner.Order.{ofBody};
 
 // What a reply call gives, and the running totals that it leaves.
 pub struct ReplyOutcome {
@@ -76,7 +76,7 @@ fn is_awaited(serial: u32, operation: ReplyOperation, p: Presenting) -> bool
 
 // The body of a reply with this serial.
 fn read_body(body: &[u8], serial: u32, p: Presenting) -> Arrival
-    ensures { λ r. ⌜ Told (22 when not (replyGood (now (body .entry))) orelse 35 when not (isAwaited serial (operationOf (now (body .entry))) p)) (eqb (byteValue (byteAt 4 (now (body .entry)))) 0) (r .answer) (r .accepted) ⌝ }
+    ensures { λ r. ⌜ Told (ofBody (now (body .entry)) serial p) (eqb (byteValue (byteAt 4 (now (body .entry)))) 0) (r .answer) (r .accepted) ⌝ }
 {
     match read_reply(body) {
         ReadReply::Read(reply) => {

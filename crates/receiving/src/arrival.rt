@@ -10,15 +10,13 @@ use message::envelope::read_envelope;
 use message::route::Route;
 use message::route::same_route;
 use session::session::Answer;
-ghost use mathlib.Core.Bool.{not, _||_};
 ghost use Prim.Native.Nat.{suc, _≤_};
 ghost use lib.Dec.{eqb};
-ghost use Rattle.codes.specs.Chain.{_when_, _orelse_};
-ghost use Rattle.message.specs.Limits.{replyRoom, largestSerial};
-ghost use Rattle.message.specs.Route.{sameRoute};
-ghost use Rattle.session.specs.Outcome.{noRoom};
+ghost use Rattle.codes.specs.Chain.{_when_};
+ghost use Rattle.message.specs.Limits.{largestSerial};
 ghost use Rattle.session.specs.Receiving.{isNext, receivingOrder};
 ghost use Rattle.calls.specs.Inner.Arrival.{Told};
+ghost use Rattle.receiving.specs.Inner.Order.{ofEnvelope};
 
 // The refusal, and whether the message is a new one or the last again.
 pub struct Arrival {
@@ -29,7 +27,7 @@ pub struct Arrival {
 // By its envelope: the way it goes, its serial, and the room for a reply.
 fn by_envelope(e: Envelope, route: Route, last: u32, room: usize) -> Arrival
     requires { ⌜ last ≤ largestSerial ⌝ }
-    ensures { λ r. ⌜ Told (33 when not (sameRoute (e .route) route) orelse 35 when not (eqb (e .serial) last || eqb (e .serial) (suc last)) orelse 23 when noRoom replyRoom room) (eqb (e .serial) (suc last)) (r .answer) (r .next) ⌝ }
+    ensures { λ r. ⌜ Told (ofEnvelope e last room route) (eqb (e .serial) (suc last)) (r .answer) (r .next) ⌝ }
 {
     let way = e.route;
     let next = e.serial == last + 1;

@@ -37,13 +37,11 @@ use Rattle.session.proofs.Laws.EveryCall.{kept-beside, sends-kept}
 use Rattle.calls.proofs.Laws.Said.{said-done, said-refused, so-kept, so-kept-beside}
 use Rattle.presenting.specs.declared.answer.SendOutcome.{SendOutcome}
 use Rattle.presenting.specs.Said.{sendNumber, sendSaid}
+use Rattle.presenting.specs.Inner.Order.{beforeCode, fromCode}
 use Rattle.presenting.specs.Inner.Begun.{unstopped, Begun}
 
--- the chain of a send, in the two parts that the code takes
-abbrev early : (time : ℕ) → Session → ℕ
-early time s = timeRefusal time (s .seen) (s .close) orelse 34 when isPending (s .presenting .pending) orelse 36 when leb largestSerial (s .presenting .serial)
-
-pub refusal-split : (time code bytes room : ℕ) (s : Session) → (early time s orelse code orelse 23 when noRoom bytes room) ≡ sendRefusal time code bytes room s
+-- the chain of a send is the two parts that the code takes
+pub refusal-split : (time code bytes room : ℕ) (s : Session) → (beforeCode time s orelse fromCode code bytes room) ≡ sendRefusal time code bytes room s
 unfolding sendRefusal
 refusal-split time code bytes room s =
     let rest = code orelse 23 when noRoom bytes room in
@@ -56,7 +54,7 @@ refusal-split time code bytes room s =
 refusal-same : (time code a b room : ℕ) (s : Session) → (code ≡ 0 → a ≡ b) → sendRefusal time code a room s ≡ sendRefusal time code b room s
 refusal-same time code a b room s h =
     sym (refusal-split time code a room s)
-    ∙ ap (λ (n : ℕ). early time s orelse n) (rest-same code (23 when noRoom a room) (23 when noRoom b room) (λ (e : code ≡ 0). ap (λ (n : ℕ). 23 when noRoom n room) (h e)))
+    ∙ ap (λ (n : ℕ). beforeCode time s orelse n) (rest-same code (23 when noRoom a room) (23 when noRoom b room) (λ (e : code ≡ 0). ap (λ (n : ℕ). 23 when noRoom n room) (h e)))
     ∙ refusal-split time code b room s
 
 -- a send: what it is given, and what it is lent

@@ -3,12 +3,13 @@ use mathlib.Core.Path.{ap, sym, _∙_}
 use mathlib.Core.Bool.{Bool, cond}
 use native.Mathlib.Omega.{arith}
 use borrow.Author.Tests.{ne-eqb}
-use Rattle.codes.specs.Chain.{_when_, _orelse_}
+use Rattle.codes.specs.Chain.{_orelse_}
 use Rattle.codes.specs.Refusal.{refusalNumber}
 use Rattle.codes.specs.Code.{codeNumber}
 use Rattle.codes.proofs.Laws.Chain.{ends, goes-on}
 use Rattle.codes.proofs.Laws.Refusal.{never-none}
-use Rattle.session.specs.Outcome.{answerNumber, noRoom}
+use Rattle.session.specs.Outcome.{answerNumber}
+use Rattle.presenting.specs.Inner.Order.{fromCode}
 use Rattle.presenting.proofs.Laws.Send.{refusal-split}
 use borrow.Author.Needs.{needs}
 use Rattle.presenting.proofs.answer.send_answer.Statement.{statement}
@@ -31,7 +32,7 @@ returns c =
     let t = c .before .before .before in
     let a = t .before .args in
     let none = sym (t .ready .ensures) ∙ ap answerNumber (c .before .enum-told .given .1) in
-    (c .unrefused .ensures .0 ∙ sym (goes-on _ (codeNumber (a .code) orelse 23 when noRoom (a .bytes) (a .room)) none) ∙ refusal-split (a .time) (codeNumber (a .code)) (a .bytes) (a .room) (a .session), c .unrefused .ensures .1)
+    (c .unrefused .ensures .0 ∙ sym (goes-on _ (fromCode (codeNumber (a .code)) (a .bytes) (a .room)) none) ∙ refusal-split (a .time) (codeNumber (a .code)) (a .bytes) (a .room) (a .session), c .unrefused .ensures .1)
 
 returns-2 : tie.Need-returns-2
 returns-2 c =
@@ -39,7 +40,7 @@ returns-2 c =
     let a = t .before .args in
     let r = c .before .r .given .0 .0 in
     let some = sym (t .ready .ensures) ∙ ap answerNumber (c .before .r .given .1) in
-    let rest = codeNumber (a .code) orelse 23 when noRoom (a .bytes) (a .room) in
+    let rest = fromCode (codeNumber (a .code)) (a .bytes) (a .room) in
     (sym (ends (refusalNumber r) rest (omega (arith, never-none r))) ∙ sym (λ i. some i orelse rest) ∙ refusal-split (a .time) (codeNumber (a .code)) (a .bytes) (a .room) (a .session), sym (ap (λ (b : Bool). cond b (a .bytes) 0) (ne-eqb (refusalNumber r) 0 (never-none r))))
 
 pub send-answer-spec : {M : Type 1} → statement M

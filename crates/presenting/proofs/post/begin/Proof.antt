@@ -1,5 +1,5 @@
 -- `begin`: the answer is there before anything is written; where it stops nothing, a serial is left and the envelope has room.
-use mathlib.Core.Path.{_≡_, refl, ap, sym, subst, _∙_}
+use mathlib.Core.Path.{_≡_, ap, sym, subst, _∙_}
 use mathlib.Core.Bool.{Bool, cond}
 use native.Mathlib.Omega.{arith}
 use lib.Seq.{sets}
@@ -11,7 +11,6 @@ use Rattle.session.specs.Running.{empty}
 use Rattle.session.specs.Outcome.{held}
 use Rattle.session.specs.Sending.{nextEnvelope, sent}
 use Rattle.session.proofs.Laws.Refusals.{send-told}
-use Rattle.presenting.specs.declared.answer.SendOutcome.{SendOutcome}
 use Rattle.presenting.specs.Said.{sendNumber}
 use Rattle.presenting.specs.Inner.Begun.{Begun}
 use borrow.Author.Needs.{needs}

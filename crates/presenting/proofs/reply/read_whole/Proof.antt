@@ -1,26 +1,24 @@
 -- `read_whole`: the order of a reply test by test: the envelope, the way it goes, and then what its body is told to be.
 use mathlib.Core.Path.{_≡_, ap, sym, subst, _∙_}
-use mathlib.Core.Bool.{not, true}
+use mathlib.Core.Bool.{true}
 use mathlib.Core.List.{List}
 use Prim.Native.Nat.{ℕ}
 use lib.Dec.{eqb}
 use Rattle.packed.specs.Part.{byteAt}
 use Rattle.packed.specs.Number.{byteValue}
 use Rattle.packed.proofs.Laws.Part.{part-tail}
-use Rattle.codes.specs.Chain.{_when_, _orelse_}
-use Rattle.codes.specs.Body.{operationOf}
 use Rattle.codes.specs.declared.refusal.Refusal.{Refusal}
 use Rattle.message.specs.declared.envelope.Kind.{Kind}
 use Rattle.message.specs.declared.envelope.Envelope.{Envelope}
 use Rattle.message.specs.Limits.{envelopeBytes}
 use Rattle.message.specs.Route.{sameRoute}
 use Rattle.message.specs.Envelope.{envelopeOf, envelopeGood, envelopeSaid, bodyOf}
-use Rattle.message.specs.Reply.{replyGood}
 use Rattle.message.proofs.Laws.Envelope.{read-told, wrong-told, enough}
-use Rattle.session.specs.Reply.{isAwaited, isAccepted}
+use Rattle.session.specs.Reply.{isAccepted}
 use Rattle.calls.specs.Inner.Arrival.{Told}
 use Rattle.calls.proofs.Laws.Arrival.{told-past}
 use Rattle.presenting.proofs.Laws.Arrival.{refused-so}
+use Rattle.presenting.specs.Inner.Order.{ofBody}
 use borrow.Author.Needs.{needs}
 use Rattle.presenting.proofs.reply.read_whole.Statement.{statement}
 use Rattle.presenting.proofs.reply.read_whole.Tie as tie
@@ -63,7 +61,7 @@ returns c =
     let k = c .before .before .before in
     let a = start k .args in
     let bytes = a .reply .now in
-    let of-body : List ℕ → Envelope → Type 0 = λ (b : List ℕ) (e : Envelope). Told (22 when not (replyGood b) orelse 35 when not (isAwaited (e .serial) (operationOf b) (a .p))) (eqb (byteValue (byteAt 4 b)) 0) (c .read-body .result .answer) (c .read-body .result .accepted) in
+    let of-body : List ℕ → Envelope → Type 0 = λ (b : List ℕ) (e : Envelope). Told (ofBody b (e .serial) (a .p)) (eqb (byteValue (byteAt 4 b)) 0) (c .read-body .result .answer) (c .read-body .result .accepted) in
     told-past 21 (envelopeGood Kind.Reply bytes) _ _ _ _ (read k .0)
     (told-past 33 (sameRoute (envelopeOf bytes .route) (a .route)) _ _ _ _ (way k ∙ c .before .before .if1 .taken)
     (subst (of-body (bodyOf bytes)) (read k .1)

@@ -99,7 +99,7 @@ returns c =
     let k = t .before in
     let w = c .before .before .write-detail in
     let body = w .ensures .1 ∙ ap (λ (o : ℕ). sets (midOf envelopeBytes (length (first k) - envelopeBytes) (first k)) 0 (writtenDetail o (start k .args .part .now))) (c .before .before .before .packed-byte .ensures) in
-    kept-said (sending k) _ _ (start k .pre .0) (start k .pre .1) (posted-so (sending k) _ _ (known k) (some t) (w .last .0) body)
+    kept-said (sending k) (k .before .before .before .begin .result) _ (start k .pre .0) (start k .pre .1) (posted-so (sending k) _ _ (known k) (some t) (w .last .0) body)
 
 same-length-2 : tie.Need-same-length-2
 same-length-2 c = search needs
@@ -107,7 +107,7 @@ same-length-2 c = search needs
 returns-2 : tie.Need-returns-2
 returns-2 c =
     let k = c .before in
-    kept-said (sending k) _ _ (start k .pre .0) (start k .pre .1) (unposted (sending k) _ _ (known k) (sym (k .is-begun .ensures) ∙ c .if1 .left))
+    kept-said (sending k) (k .before .before .before .begin .result) _ (start k .pre .0) (start k .pre .1) (unposted (sending k) _ _ (known k) (sym (k .is-begun .ensures) ∙ c .if1 .left))
 
 pub send-detail-spec : {M : Type 1} → statement M
 send-detail-spec =

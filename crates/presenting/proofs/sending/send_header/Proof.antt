@@ -93,7 +93,7 @@ returns c =
     let a = start k .args in
     let w = c .before .before .write-header in
     let body = w .ensures ∙ ap (λ (r : Route). sets (midOf envelopeBytes (length (first k) - envelopeBytes) (first k)) 0 (bodyBytes r (content k))) (c .before .before .before .presenting-route .ensures) in
-    kept-unlent (sending k) _ _ (header-sound (a .time) (a .moment) (a .centre) (a .number) (a .session .presenting)) (λ (t : Running). tt) (start k .pre)
+    kept-unlent (sending k) (k .before .before .before .begin .result) _ (header-sound (a .time) (a .moment) (a .centre) (a .number) (a .session .presenting)) (λ (t : Running). tt) (start k .pre)
     (λ (u : Running). posted-so (sending k u) _ _ (known k u) (some t) (w .last .0) body)
 
 same-length-2 : tie.Need-same-length-2
@@ -103,7 +103,7 @@ returns-2 : tie.Need-returns-2
 returns-2 c =
     let k = c .before in
     let a = start k .args in
-    kept-unlent (sending k) _ _ (header-sound (a .time) (a .moment) (a .centre) (a .number) (a .session .presenting)) (λ (t : Running). tt) (start k .pre)
+    kept-unlent (sending k) (k .before .before .before .begin .result) _ (header-sound (a .time) (a .moment) (a .centre) (a .number) (a .session .presenting)) (λ (t : Running). tt) (start k .pre)
     (λ (u : Running). unposted (sending k u) _ _ (known k u) (sym (k .is-begun .ensures) ∙ c .if1 .left))
 
 pub send-header-spec : {M : Type 1} → statement M

@@ -95,7 +95,7 @@ returns c =
     let number = k .before .before .before .before .before .before .open-number .ensures in
     let w = c .before .before .write-lot-total in
     let body = w .ensures ∙ λ i. sets (midOf envelopeBytes (length (first k) - envelopeBytes) (first k)) 0 (bodyBytes (presentingRoute (start k .args .session .parties)) (Body.lotEnding (record { number = number i; stated = c .before .before .before .before .stated .ensures i }))) in
-    kept-said (sending k) _ _ (start k .pre .0) (start k .pre .1) (posted-so (sending k) _ _ (known k) (some t) (w .last .0) body)
+    kept-said (sending k) (k .before .before .before .begin .result) _ (start k .pre .0) (start k .pre .1) (posted-so (sending k) _ _ (known k) (some t) (w .last .0) body)
 
 same-length-2 : tie.Need-same-length-2
 same-length-2 c = search needs
@@ -103,7 +103,7 @@ same-length-2 c = search needs
 returns-2 : tie.Need-returns-2
 returns-2 c =
     let k = c .before in
-    kept-said (sending k) _ _ (start k .pre .0) (start k .pre .1) (unposted (sending k) _ _ (known k) (sym (k .is-begun .ensures) ∙ c .if1 .left))
+    kept-said (sending k) (k .before .before .before .begin .result) _ (start k .pre .0) (start k .pre .1) (unposted (sending k) _ _ (known k) (sym (k .is-begun .ensures) ∙ c .if1 .left))
 
 pub send-lot-total-spec : {M : Type 1} → statement M
 send-lot-total-spec =

@@ -96,7 +96,7 @@ returns c =
     let counters = start k .args .session .presenting .counters in
     let w = c .before .before .write-session-total in
     let body = w .ensures ∙ ap (λ (x : Totals). sets (midOf envelopeBytes (length (first k) - envelopeBytes) (first k)) 0 (bodyBytes (presentingRoute (start k .args .session .parties)) (Body.sessionEnding (record { number = counters .lots; stated = x })))) (c .before .before .before .before .stated .ensures) in
-    kept-unlent (sending k) _ _ (λ e. tt) (λ (t : Running). tt) (start k .pre)
+    kept-unlent (sending k) (k .before .before .before .begin .result) _ (λ e. tt) (λ (t : Running). tt) (start k .pre)
     (λ (u : Running). posted-so (sending k u) _ _ (known k u) (some t) (w .last .0) body)
 
 same-length-2 : tie.Need-same-length-2
@@ -105,7 +105,7 @@ same-length-2 c = search needs
 returns-2 : tie.Need-returns-2
 returns-2 c =
     let k = c .before in
-    kept-unlent (sending k) _ _ (λ e. tt) (λ (t : Running). tt) (start k .pre)
+    kept-unlent (sending k) (k .before .before .before .begin .result) _ (λ e. tt) (λ (t : Running). tt) (start k .pre)
     (λ (u : Running). unposted (sending k u) _ _ (known k u) (sym (k .is-begun .ensures) ∙ c .if1 .left))
 
 pub send-session-total-spec : {M : Type 1} → statement M

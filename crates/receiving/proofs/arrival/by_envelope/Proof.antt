@@ -5,9 +5,6 @@ use Prim.Native.Nat.{ℕ, suc, _+_}
 use native.Mathlib.Omega.{arith}
 use lib.Dec.{eqb}
 use Rattle.codes.specs.Chain.{_when_, _orelse_}
-use Rattle.message.specs.Limits.{replyRoom}
-use Rattle.message.specs.Route.{sameRoute}
-use Rattle.session.specs.Outcome.{noRoom}
 use borrow.Author.Needs.{needs}
 use Rattle.receiving.proofs.arrival.by_envelope.Statement.{statement}
 use Rattle.receiving.proofs.arrival.by_envelope.Tie as tie
@@ -40,7 +37,7 @@ returns c =
     let one-more : a .last + 1 ≡ suc (a .last) = omega arith in
     let way = k .refused-when .ensures ∙ ap (λ (b : Bool). 33 when not b) (k .before .same-route .ensures) in
     let serial = c .before .before .before .refused-when2 .ensures ∙ ap (λ (n : ℕ). 35 when not (eqb (a .e .serial) (a .last) || eqb (a .e .serial) n)) one-more in
-    record { number = c .or-refused2 .ensures ∙ (λ i. way i orelse (c .before .or-refused .ensures ∙ λ j. serial j orelse c .before .before .refused-when3 .ensures j) i); finding = λ (z : (33 when not (sameRoute (a .e .route) (a .route)) orelse 35 when not (eqb (a .e .serial) (a .last) || eqb (a .e .serial) (suc (a .last))) orelse 23 when noRoom replyRoom (a .room)) ≡ 0). ap (eqb (a .e .serial)) one-more }
+    record { number = c .or-refused2 .ensures ∙ (λ i. way i orelse (c .before .or-refused .ensures ∙ λ j. serial j orelse c .before .before .refused-when3 .ensures j) i); finding = λ z. ap (eqb (a .e .serial)) one-more }
 
 pub by-envelope-spec : {M : Type 1} → statement M
 by-envelope-spec =

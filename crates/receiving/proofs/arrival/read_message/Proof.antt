@@ -1,19 +1,15 @@
 -- `read_message`: a wrong envelope ends the chain.
 use mathlib.Core.Path.{ap, sym, subst, _∙_}
-use mathlib.Core.Bool.{not, _||_}
 use Prim.Native.Nat.{suc}
 use lib.Dec.{eqb}
-use Rattle.codes.specs.Chain.{_when_, _orelse_}
 use Rattle.codes.specs.declared.refusal.Refusal.{Refusal}
 use Rattle.message.specs.declared.envelope.Kind.{Kind}
 use Rattle.message.specs.declared.envelope.Envelope.{Envelope}
-use Rattle.message.specs.Limits.{replyRoom}
-use Rattle.message.specs.Route.{sameRoute}
 use Rattle.message.specs.Envelope.{envelopeGood, envelopeSaid}
 use Rattle.message.proofs.Laws.Envelope.{read-told, wrong-told}
-use Rattle.session.specs.Outcome.{noRoom}
 use Rattle.calls.specs.Inner.Arrival.{Told}
 use Rattle.calls.proofs.Laws.Arrival.{told-refused, told-past}
+use Rattle.receiving.specs.Inner.Order.{ofEnvelope}
 use borrow.Author.Needs.{needs}
 use Rattle.receiving.proofs.arrival.read_message.Statement.{statement}
 use Rattle.receiving.proofs.arrival.read_message.Tie as tie
@@ -36,7 +32,7 @@ returns c =
     let a = m .before .before .before .before .args in
     let read = read-told Kind.Message (a .message .now) (m .e .given .0 .0) (ap envelopeSaid (sym (m .e .given .1)) ∙ m .before .before .read-envelope .ensures) in
     told-past 21 (envelopeGood Kind.Message (a .message .now)) _ _ _ _ (read .0)
-    (subst (λ (e : Envelope). Told (33 when not (sameRoute (e .route) (a .route)) orelse 35 when not (eqb (e .serial) (a .last) || eqb (e .serial) (suc (a .last))) orelse 23 when noRoom replyRoom (a .room)) (eqb (e .serial) (suc (a .last))) (c .by-envelope .result .answer) (c .by-envelope .result .next)) (read .1) (c .by-envelope .ensures))
+    (subst (λ (e : Envelope). Told (ofEnvelope e (a .last) (a .room) (a .route)) (eqb (e .serial) (suc (a .last))) (c .by-envelope .result .answer) (c .by-envelope .result .next)) (read .1) (c .by-envelope .ensures))
 
 returns-2 : tie.Need-returns-2
 returns-2 c =
