@@ -32,10 +32,10 @@ module _ (time : ℕ) (bytes : List ℕ) (s : Session) (t : Running) (line : Lis
 
   -- the direction and the running totals after a message, by whether it is new
   abbrev direction : Bool → Receiving
-  direction new = cond new (receivingAfter (earnedCode time (bodyOf bytes) h) (bodyOf bytes) t r) r
+  direction new = cond new (receivingAfter (earnedCode time (bodyOf bytes) (s .parties) t r) (bodyOf bytes) t r) r
 
   abbrev gathered : Bool → Running
-  gathered new = cond new (receivingCourse (earnedCode time (bodyOf bytes) h) (bodyOf bytes) t r .running) t
+  gathered new = cond new (receivingCourse (earnedCode time (bodyOf bytes) (s .parties) t r) (bodyOf bytes) t r .running) t
 
   left-so : (new : Bool) → held (seenAt time (withReceiving (direction new) s)) (gathered new) line ≡ cond new (afterNew time (bodyOf bytes) h) (afterRepeat time h)
   left-so true = refl

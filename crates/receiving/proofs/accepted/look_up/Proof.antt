@@ -8,9 +8,9 @@ use lib.Dec.{eqb}
 use lib.ListN.{length, take, getD}
 use Rattle.packed.specs.Every.{anyOf}
 use Rattle.amounts.specs.declared.Totals.{Totals}
-use Rattle.amounts.specs.Totals.{zeros, same as same-totals}
+use Rattle.amounts.specs.Totals.{same as same-totals}
 use Rattle.session.specs.declared.counters.Lot.{Lot}
-use Rattle.session.specs.Running.{stated}
+use Rattle.session.specs.Running.{empty, stated}
 use Rattle.session.specs.Receiving.{numberUsed, totalsUsed}
 use Rattle.receiving.proofs.Laws.Accepted.{any-next}
 use Rattle.receiving.proofs.accepted.look_up.Statement.{statement}
@@ -50,7 +50,7 @@ loop-again c =
     let t = c .before .before .before .before .before .before in
     let a = t .before .args in
     let i = t .loop .i in
-    let d : Lot = record { number = 0; gathered = zeros } in
+    let d : Lot = record { number = 0; gathered = empty } in
     let here : i < length (a .t4) = omega (arith, t .before .pre .0, t .before .pre .1, c .before .before .before .before .before .loop-test .taken) in
     let more : i + 1 ≡ suc i = omega arith in
     let same = c .same .ensures ∙ ap (λ (x : Totals). same-totals x (a .totals)) (c .before .stated .ensures) in (

@@ -42,8 +42,8 @@ receiver-late-requires c κs = search needs
 when-requires : tie.Need-when-requires
 when-requires c κs = search needs
 
-empty-requires : tie.Need-empty-requires
-empty-requires c κs = search needs
+zeros-requires : tie.Need-zeros-requires
+zeros-requires c κs = search needs
 
 look-up-requires : tie.Need-look-up-requires
 look-up-requires c κs = search needs
@@ -114,7 +114,7 @@ of-header-spec =
     header-sequence-requires
     receiver-late-requires
     when-requires
-    empty-requires
+    zeros-requires
     look-up-requires
     when-requires-2
     lots-used-requires
