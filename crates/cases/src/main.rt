@@ -7,6 +7,7 @@ use centre::call::receive_call;
 use centre::end::Centre;
 use centre::end::begun;
 use lent::example::receive_with_local;
+use session::running::stated;
 use session::session::Close;
 use session::session::Session;
 ghost use Rattle.session.specs.Engine.{Ready};
@@ -85,12 +86,13 @@ fn heard(c: Centre, message: &[u8]) -> Centre
     let turn = receive_call(c, 75_600, message, &mut reply);
     let next = turn.centre;
     let running = next.receiving;
+    let totals = stated(running);
     print_text(b"running: ");
-    io::print_decimal(1, running.documents.0);
+    io::print_decimal(1, totals.documents.0);
     print_text(b" ");
-    io::print_decimal(1, running.nominal.0);
+    io::print_decimal(1, totals.nominal.0);
     print_text(b" ");
-    io::print_decimal(1, running.commission.0);
+    io::print_decimal(1, totals.commission.0);
     print_text(b", code ");
     print_code(reply[15]);
     next

@@ -2,6 +2,7 @@
 -- the meaning of the call.
 use Prim.Native.Nat.{ℕ}
 use mathlib.Core.List.{List}
+use Rattle.session.specs.Sending.{Send}
 use Rattle.session.specs.Engine.{Call, Engine, Performed}
 use Rattle.centre.specs.declared.call.Order.{Order}
 use Rattle.centre.specs.declared.end.Centre.{Centre}
@@ -16,10 +17,10 @@ turnOf r line = record { number = r .number; written = r .written; line = line; 
 
 -- an order, with the bytes that stand beside it, as a call of 01
 abbrev pub callOf : Order → (bytes : List ℕ) → Call
-callOf (Order.Header time moment office number) bytes = Call.header time moment office number
-callOf (Order.Detail time operation) bytes = Call.detail time operation bytes
-callOf (Order.LotTotal time) bytes = Call.lotTotal time
-callOf (Order.SessionTotal time) bytes = Call.sessionTotal time
+callOf (Order.Header time moment office number) bytes = Call.send time (Send.header moment office number)
+callOf (Order.Detail time operation) bytes = Call.send time (Send.detail operation bytes)
+callOf (Order.LotTotal time) bytes = Call.send time Send.lotTotal
+callOf (Order.SessionTotal time) bytes = Call.send time Send.sessionTotal
 callOf (Order.Receive time) bytes = Call.receive time bytes
 callOf (Order.Reply time) bytes = Call.reply time bytes
 callOf (Order.Clock time) bytes = Call.clock time

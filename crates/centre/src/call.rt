@@ -18,6 +18,7 @@ use receiving::receive::receive;
 ghost use mathlib.Core.Path.{_≡_};
 ghost use mathlib.Core.List.{List};
 ghost use Prim.Native.Nat.{ℕ};
+ghost use Rattle.session.specs.Sending.{Send};
 ghost use Rattle.session.specs.Engine.{Call, Ready, performed, performedBy};
 ghost use Rattle.session.specs.Parties.{Direction};
 ghost use Rattle.session.specs.Premise.{Kept, KeptBeside};
@@ -78,7 +79,7 @@ pub fn header_call(
     line: &mut [u8],
 ) -> Turn
     requires { ⌜ Ready (engineOf c) ⌝ }
-    ensures outcome { λ r. ⌜ turnOf r (now (line .exit)) ≡ performed (Call.header time moment office number) (now (line .entry)) (engineOf c) ⌝ }
+    ensures outcome { λ r. ⌜ turnOf r (now (line .exit)) ≡ performed (Call.send time (Send.header moment office number)) (now (line .entry)) (engineOf c) ⌝ }
     ensures premise { λ r. ⌜ Ready (engineOf (r .centre)) ⌝ }
 {
     let session = c.session;
@@ -87,7 +88,7 @@ pub fn header_call(
 
 pub fn detail_call(c: Centre, time: u32, operation: u8, part: &[u8], line: &mut [u8]) -> Turn
     requires { ⌜ Ready (engineOf c) ⌝ }
-    ensures outcome { λ r. ⌜ turnOf r (now (line .exit)) ≡ performed (Call.detail time operation (now (part .entry))) (now (line .entry)) (engineOf c) ⌝ }
+    ensures outcome { λ r. ⌜ turnOf r (now (line .exit)) ≡ performed (Call.send time (Send.detail operation (now (part .entry)))) (now (line .entry)) (engineOf c) ⌝ }
     ensures premise { λ r. ⌜ Ready (engineOf (r .centre)) ⌝ }
 {
     let session = c.session;
@@ -100,7 +101,7 @@ pub fn detail_call(c: Centre, time: u32, operation: u8, part: &[u8], line: &mut 
 
 pub fn lot_total_call(c: Centre, time: u32, line: &mut [u8]) -> Turn
     requires { ⌜ Ready (engineOf c) ⌝ }
-    ensures outcome { λ r. ⌜ turnOf r (now (line .exit)) ≡ performed (Call.lotTotal time) (now (line .entry)) (engineOf c) ⌝ }
+    ensures outcome { λ r. ⌜ turnOf r (now (line .exit)) ≡ performed (Call.send time Send.lotTotal) (now (line .entry)) (engineOf c) ⌝ }
     ensures premise { λ r. ⌜ Ready (engineOf (r .centre)) ⌝ }
 {
     let session = c.session;
@@ -110,7 +111,7 @@ pub fn lot_total_call(c: Centre, time: u32, line: &mut [u8]) -> Turn
 
 pub fn session_total_call(c: Centre, time: u32, line: &mut [u8]) -> Turn
     requires { ⌜ Ready (engineOf c) ⌝ }
-    ensures outcome { λ r. ⌜ turnOf r (now (line .exit)) ≡ performed (Call.sessionTotal time) (now (line .entry)) (engineOf c) ⌝ }
+    ensures outcome { λ r. ⌜ turnOf r (now (line .exit)) ≡ performed (Call.send time Send.sessionTotal) (now (line .entry)) (engineOf c) ⌝ }
     ensures premise { λ r. ⌜ Ready (engineOf (r .centre)) ⌝ }
 {
     let session = c.session;

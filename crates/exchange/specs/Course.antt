@@ -8,6 +8,7 @@ use lib.ListN.{length}
 use Rattle.session.specs.Hours.{opening}
 use Rattle.session.specs.Limits.{mostLots, passesLot}
 use Rattle.session.specs.Running.{documentsIn}
+use Rattle.session.specs.Sending.{Send}
 use Rattle.session.specs.Engine.{Call, Engine}
 use Rattle.centre.specs.Turn.{engineOf}
 use Rattle.exchange.specs.declared.cursors.Cursors.{Cursors}
@@ -60,7 +61,7 @@ pastPart presentations documents before after c = cond (eqb after before) c (mov
 -- a part goes as a detail
 unfoldable pub partSent : (presentations part : List ℕ) → Standing → Standing
 partSent presentations bytes s =
-    let ends = roundMade (Call.detail opening (nextOperation presentations (s .cursors)) bytes) (s .ends) in
+    let ends = roundMade (Call.send opening (Send.detail (nextOperation presentations (s .cursors)) bytes)) (s .ends) in
     record { ends = ends; cursors = pastPart presentations (countIn bytes) (inOpenLot (s .ends)) (inOpenLot ends) (s .cursors) }
 
 -- it does if there is one and the open lot has room for it
@@ -88,7 +89,7 @@ roundBetween call s = record { ends = roundMade call (s .ends); cursors = s .cur
 
 -- header, parts and total
 abbrev pub wholeLot : (number : ℕ) (presentations returns : List ℕ) → Standing → Standing
-wholeLot number presentations returns s = roundBetween (Call.lotTotal opening) (filled presentations returns (roundBetween (Call.header opening moment office number) s))
+wholeLot number presentations returns s = roundBetween (Call.send opening Send.lotTotal) (filled presentations returns (roundBetween (Call.send opening (Send.header moment office number)) s))
 
 -- a lot, if documents remain
 unfoldable pub lotMade : (presentations returns : List ℕ) (number : ℕ) → Standing → Standing
@@ -100,7 +101,7 @@ lotsMade presentations returns s = whileMoving mostLots (lotMade presentations r
 
 -- and the session total after them
 unfoldable pub directionMade : (presentations returns : List ℕ) → Ends → Ends
-directionMade presentations returns e = roundMade (Call.sessionTotal opening) (lotsMade presentations returns (record { ends = e; cursors = unmoved }) .ends)
+directionMade presentations returns e = roundMade (Call.send opening Send.sessionTotal) (lotsMade presentations returns (record { ends = e; cursors = unmoved }) .ends)
 
 -- the other direction
 abbrev pub across : Ends → Ends

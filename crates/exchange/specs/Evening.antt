@@ -13,7 +13,7 @@ use Rattle.session.specs.declared.report.Report.{Report}
 use Rattle.session.specs.declared.session.Close.{Close}
 use Rattle.session.specs.Hours.{close}
 use Rattle.session.specs.declared.running.Running.{Running}
-use Rattle.session.specs.Running.{empty}
+use Rattle.session.specs.Running.{empty, stated}
 use Rattle.session.specs.Start.{start}
 use Rattle.session.specs.Report.{report}
 use Rattle.session.specs.Engine.{Call, Engine, withEmpty, performed}
@@ -26,7 +26,7 @@ use Rattle.exchange.specs.Course.{Ends, bothDirections}
 
 -- counts and sums in plain numbers, of so many lots
 abbrev pub sumsOf : (lots : ℕ) → Running → Sums
-sumsOf lots t = record { lots = lots; documents = t .documents .0; nominal = t .nominal .0; commission = t .commission .0 }
+sumsOf lots r = let t = stated r in record { lots = lots; documents = t .documents .0; nominal = t .nominal .0; commission = t .commission .0 }
 
 -- 0 for open, 1 for in order, 2 for forced
 abbrev pub closeNumber : Close → ℕ

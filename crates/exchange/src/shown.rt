@@ -4,6 +4,7 @@ use session::report::Awaited;
 use session::report::Report;
 use session::running::Running;
 use session::running::empty;
+use session::running::stated;
 use session::session::Close;
 ghost use mathlib.Core.Path.{_≡_};
 ghost use Rattle.exchange.specs.Evening.{sumsOf, closeNumber, awaitedNumber, noLot, awaitedLot, sideOf, noSide};
@@ -38,11 +39,12 @@ pub struct Evening {
 fn sums_of(lots: u64, gathered: Running) -> Sums
     ensures { λ r. ⌜ r ≡ sumsOf lots gathered ⌝ }
 {
+    let totals = stated(gathered);
     Sums {
         lots: lots,
-        documents: gathered.documents.0,
-        nominal: gathered.nominal.0,
-        commission: gathered.commission.0,
+        documents: totals.documents.0,
+        nominal: totals.nominal.0,
+        commission: totals.commission.0,
     }
 }
 

@@ -46,8 +46,8 @@ use denote.Triple.Entry.{Args, Res, alive}
 use denote.Triple.Spec.{Meets}
 use denote.Triple.Table.{entered}
 use denote.Triple.Walked.{Stay, Stays, Goes, AllGo, stay-dropped, gave-ref, gave-slice, goes-dropped, goes-gave-ref, goes-gave-slice, walked, walk-meets}
-use Rattle.amounts.proofs.Totals as T
-use Rattle.amounts.proofs.Totals.Laws as T′
+use Rattle.session.proofs.running.Running as T
+use Rattle.session.proofs.running.Running.Laws as T′
 use Rattle.session.proofs.session.Session as S
 use Rattle.session.proofs.session.Session.Laws as S′
 use Rattle.session.specs.Receiving.{receive}
@@ -70,6 +70,7 @@ pub use mir.Val.{Val, vunit, vptr}
 pub use base.Logic.{SProp, ent, emp, id⊢}
 pub use base.Fml.{GName, Lft, Share, ftrue, flft}
 pub use prog.Memory.{Memory}
+use prog.Memory.{size}
 pub use prog.Routine.{Routine}
 pub use prog.Wp.{Heap, Calls, Loops, WpFn}
 pub use ghost.Atoms.{Atoms}
@@ -111,6 +112,10 @@ session = declared S.the-type S′.the-laws S′.the-plain
 
 abbrev pub totals : Plain
 totals = declared T.the-type T′.the-laws T′.the-plain
+
+-- how many bytes they take: what stands behind them in an outcome begins there
+abbrev pub totalsBytes : ℕ
+totalsBytes = size T′.mir
 
 abbrev pub number : Plain
 number = record { type = u32; spell = uint-vals w32; tells = uint-tells w32; makes = λ 𝓤 H A W. uint-makes 𝓤 H A W w32; lawful = λ 𝓤 H A W. uint-lawful 𝓤 H A W w32 }

@@ -11,6 +11,7 @@ use session::report::Awaited;
 use session::report::Report;
 use session::report::Tally;
 use session::running::Running;
+use session::running::stated;
 use session::session::Close;
 use text::hex::write_hex;
 use text::kind::Kind;
@@ -69,9 +70,10 @@ fn put_running(head: &mut [u8], at: usize, running: Running) -> usize
     requires { ⌜ at + 63 ≤ length (now head) ⌝ }
     ensures { λ r. ⌜ r ≤ at + 63 ⌝ }
 {
-    let documents = put_number(head, at, running.documents.0);
-    let nominal = put_number(head, documents, running.nominal.0);
-    put_number(head, nominal, running.commission.0)
+    let totals = stated(running);
+    let documents = put_number(head, at, totals.documents.0);
+    let nominal = put_number(head, documents, totals.nominal.0);
+    put_number(head, nominal, totals.commission.0)
 }
 
 // A direction's lots, and what they gathered.

@@ -8,6 +8,7 @@ use lib.ListN.{length}
 use borrow.Author.Tests.{eq-eqb, ne-eqb}
 use Rattle.session.specs.Hours.{opening}
 use Rattle.session.specs.Limits.{passesLot}
+use Rattle.session.specs.Sending.{Send}
 use Rattle.session.specs.Engine.{Call}
 use Rattle.exchange.specs.declared.cursors.Cursors.{Cursors}
 use Rattle.exchange.specs.declared.progress.Progress.{Progress}
@@ -16,10 +17,10 @@ use Rattle.document.specs.Part.{countIn}
 use Rattle.exchange.specs.Course.{Ends, Standing, roundMade, inOpenLot, pastPart, partSent, ifRoom, detailSent, whileMoving, wholeLot, lotMade, Safe, standingOf}
 
 -- a part goes
-pub part-sent : (presentations bytes : List ℕ) (s : Standing) (operation before after : ℕ) (ends : Ends) (c : Cursors) → operation ≡ nextOperation presentations (s .cursors) → before ≡ inOpenLot (s .ends) → ends ≡ roundMade (Call.detail opening operation bytes) (s .ends) → after ≡ inOpenLot ends → c ≡ pastPart presentations (countIn bytes) before after (s .cursors) → record { ends = ends; cursors = c } ≡ partSent presentations bytes s
+pub part-sent : (presentations bytes : List ℕ) (s : Standing) (operation before after : ℕ) (ends : Ends) (c : Cursors) → operation ≡ nextOperation presentations (s .cursors) → before ≡ inOpenLot (s .ends) → ends ≡ roundMade (Call.send opening (Send.detail operation bytes)) (s .ends) → after ≡ inOpenLot ends → c ≡ pastPart presentations (countIn bytes) before after (s .cursors) → record { ends = ends; cursors = c } ≡ partSent presentations bytes s
 unfolding partSent
 part-sent presentations bytes s operation before after ends c op b e a so =
-    let made = e ∙ ap (λ (o : ℕ). roundMade (Call.detail opening o bytes) (s .ends)) op in
+    let made = e ∙ ap (λ (o : ℕ). roundMade (Call.send opening (Send.detail o bytes)) (s .ends)) op in
     let past = so ∙ (λ i. pastPart presentations (countIn bytes) (b i) ((a ∙ ap inOpenLot made) i) (s .cursors)) in
     λ i. record { ends = made i; cursors = past i }
 

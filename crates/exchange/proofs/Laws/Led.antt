@@ -11,18 +11,18 @@ use Rattle.codes.specs.Chain.{_when_}
 use Rattle.document.specs.Rules.{monthDays}
 use Rattle.message.specs.Limits.{replyRoom}
 use Rattle.session.specs.declared.effect.Effect.{Effect}
-use Rattle.session.specs.declared.session.Session.{Session}
 use Rattle.session.specs.Hours.{opening}
 use Rattle.session.specs.Parties.{realDate, partiesGood}
 use Rattle.session.specs.Start.{start}
 use Rattle.session.specs.Receiving.{receive}
 use Rattle.session.specs.Ledger.{Entry}
+use Rattle.session.specs.Sending.{Send}
 use Rattle.session.specs.Engine.{Call, Engine, Performed, performed, saidBy}
-use Rattle.session.specs.Ends.{End, other, Event, World, Step, act, run, Brought, Possible, StartsAccepted}
-use Rattle.session.specs.Entering.{PresenterLedger, presenterEnters, presenterLedgerAt}
+use Rattle.session.specs.Ends.{End, other, World, Step, act, run, Brought, Possible, StartsAccepted}
+use Rattle.session.specs.Entering.{PresenterLedger, presenterLedgerAt}
 use Rattle.session.specs.Claim.{Agreement}
 use Rattle.session.specs.Recovery.{ClockAllows, saidAt, Unrefused, delivery, deliveryAndReply, Settles, CanBeAnswered}
-use Rattle.session.proofs.Laws.EveryCall.{stamped, refused-engine, line-kept, pendingIn, none-pending, received-pending}
+use Rattle.session.proofs.Laws.EveryCall.{refused-engine, line-kept, pendingIn, none-pending, received-pending}
 use Rattle.session.proofs.Laws.Clocked.{still-allowed}
 use Rattle.session.proofs.Laws.Steps.{changed, unchanged, unchanged-here, every-end, both-ends, at-its-end, run-append, possible-append}
 use Rattle.session.proofs.Agreement.{agreement}
@@ -80,39 +80,16 @@ pub record Between (p : End) (e : Ends) : Type 0 where
   pub same : endsAt world p (e .message) (e .reply) ≡ e
   pub room : replyRoom ≤ length (e .reply)
 
--- the calls that a round begins with: a send at the opening
-pub data SendAtOpening : Call → Type 0 where
-  header : {moment centre number : ℕ} → SendAtOpening (Call.header opening moment centre number)
-  detail : {operation : ℕ} {part : List ℕ} → SendAtOpening (Call.detail opening operation part)
-  lotTotal : SendAtOpening (Call.lotTotal opening)
-  sessionTotal : SendAtOpening (Call.sessionTotal opening)
-
--- such a call brings nothing, and makes the opening the last seen time
-send-brings : {call : Call} → SendAtOpening call → (trace : List Event) → Brought call trace
-send-brings header trace = tt
-send-brings detail trace = tt
-send-brings lotTotal trace = tt
-send-brings sessionTotal trace = tt
-
-send-stamps : {call : Call} → SendAtOpening call → (s : Session) → stamped call s ≡ record { seen = opening; close = s .close }
-send-stamps header s = refl
-send-stamps detail s = refl
-send-stamps lotTotal s = refl
-send-stamps sessionTotal s = refl
-
--- its message waits, as it was written
+-- what waits, as it was written
 record Waits (b : PresenterLedger) (written : List ℕ) : Type 0 where
   entry : Entry
   waiting : b .waiting ≡ some (record { entry = entry; message = written })
 
-waiting-so : {call : Call} → SendAtOpening call → (written : List ℕ) (b : PresenterLedger) → Waits (presenterEnters call written b) written
-waiting-so header written b = record { entry = _; waiting = refl }
-waiting-so detail written b = record { entry = _; waiting = refl }
-waiting-so lotTotal written b = record { entry = _; waiting = refl }
-waiting-so sessionTotal written b = record { entry = _; waiting = refl }
+-- a round, which begins with a send at the opening
+module _ (w : World) (led : Led w) (quiet : (x : End) → Quiet (w .engine x)) (p : End) (message reply : List ℕ) (room : replyRoom ≤ length reply) (m : Send) where
+  abbrev call : Call
+  call = Call.send opening m
 
--- a round
-module _ (w : World) (led : Led w) (quiet : (x : End) → Quiet (w .engine x)) (p : End) (message reply : List ℕ) (room : replyRoom ≤ length reply) {call : Call} (sends : SendAtOpening call) where
   abbrev here : Engine
   here = w .engine p
 
@@ -129,7 +106,7 @@ module _ (w : World) (led : Led w) (quiet : (x : End) → Quiet (w .engine x)) (
   sent = act sending w
 
   sent-led : Led sent
-  sent-led = one-more w led sending (send-brings sends (w .trace))
+  sent-led = one-more w led sending tt
 
   sent-here : sent .engine p ≡ turn .engine
   unfolding act
@@ -140,7 +117,7 @@ module _ (w : World) (led : Led w) (quiet : (x : End) → Quiet (w .engine x)) (
   sent-there = unchanged p (turn .engine) (w .engine)
 
   sent-clock : ClockAllows opening (turn .engine)
-  sent-clock = still-allowed call message here opening (send-stamps sends (here .session)) (quiet p .clock)
+  sent-clock = still-allowed call message here opening refl (quiet p .clock)
 
   -- what the round leaves, as the definition has it
   abbrev left : Ends
@@ -163,7 +140,7 @@ module _ (w : World) (led : Led w) (quiet : (x : End) → Quiet (w .engine x)) (
   module _ (none : turn .number ≡ 0) where
     waits : Waits (presenterLedgerAt p (sent .trace)) (saidBy turn .bytes)
     unfolding act
-    waits = subst (λ (b : PresenterLedger). Waits b (saidBy turn .bytes)) (sym (at-its-end p call (turn .number) (saidBy turn .bytes) (w .trace) none)) (waiting-so sends (saidBy turn .bytes) (presenterLedgerAt p (w .trace)))
+    waits = subst (λ (b : PresenterLedger). Waits b (saidBy turn .bytes)) (sym (at-its-end p call (turn .number) (saidBy turn .bytes) (w .trace) none)) (record { entry = _; waiting = refl })
 
     through : Settles sent p (deliveryAndReply sent p (saidBy turn .bytes) opening opening reply)
     through =
@@ -236,5 +213,5 @@ module _ (w : World) (led : Led w) (quiet : (x : End) → Quiet (w .engine x)) (
       go (suc n) z = refused-round (λ (q : turn .number ≡ 0). omega (arith, z, q))
 
 -- so any round leads from between two rounds to between two rounds
-pub round-more : (p : End) (e : Ends) → Between p e → {call : Call} → SendAtOpening call → Between p (roundMade call e)
-round-more p e s {call = call} sends = subst (λ (x : Ends). Between p (roundMade call x)) (s .same) (round-between (s .world) (s .led) (s .quiet) p (e .message) (e .reply) (s .room) sends)
+pub round-more : (p : End) (e : Ends) → Between p e → (m : Send) → Between p (roundMade (Call.send opening m) e)
+round-more p e s m = subst (λ (x : Ends). Between p (roundMade (Call.send opening m) x)) (s .same) (round-between (s .world) (s .led) (s .quiet) p (e .message) (e .reply) (s .room) m)

@@ -3,7 +3,6 @@
 use mathlib.Core.Path.{_≡_, refl, ap, sym, _∙_}
 use mathlib.Core.Bool.{Bool, true, false, _||_, cond}
 use mathlib.Core.List.{List, []}
-use mathlib.Core.Logic.{_⊎_, inl, inr}
 use Prim.Native.Nat.{ℕ, zero, suc, _+_}
 use native.Mathlib.Omega.{arith}
 use lib.Dec.{eqb}
@@ -22,10 +21,12 @@ use Rattle.session.specs.Parties.{realDate, partiesGood}
 use Rattle.session.specs.Limits.{mostLots, passesLot}
 use Rattle.session.specs.Time.{clockRefusal, timeRefusal}
 use Rattle.session.specs.Start.{fresh, start}
+use Rattle.session.specs.Sending.{Send}
 use Rattle.session.specs.Engine.{Call, Engine}
 use Rattle.session.specs.Ends.{End, World, Step, act, run, Possible, begun}
 use Rattle.session.specs.Report.{awaited, report}
-use Rattle.session.specs.Claim.{reportAt, presentedTally, receivedTally, Level, Ahead}
+use Rattle.session.specs.Ledger.{tallied}
+use Rattle.session.specs.Claim.{reportAt, presentedTally, receivedTally, Agreement, Beyond}
 use Rattle.session.proofs.Laws.EveryCall.{pendingIn, ticked-pending}
 use Rattle.exchange.specs.declared.shown.Sums.{Sums}
 use Rattle.exchange.specs.declared.shown.Evening.{Evening}
@@ -34,7 +35,7 @@ use Rattle.exchange.specs.Cursors.{unmoved, partAt, same}
 use Rattle.exchange.specs.Course.{Ends, Standing, inOpenLot, partSent, detailSent, whileMoving, nextPart, filled, roundBetween, wholeLot, lotMade, lotsMade, directionMade, across, bothDirections}
 use Rattle.exchange.specs.Evening.{sumsOf, awaitedNumber, sideOf, noSide, closedEnd, closedSide, beginning, evening, traysCode, exchanged}
 use Rattle.exchange.specs.Together.{bothStarted, IsAList, EveningIsAList, Settled, EveningIsSettled}
-use Rattle.exchange.proofs.Laws.Led.{Led, one-more, agreed, agrees, Quiet, Between, SendAtOpening, round-more}
+use Rattle.exchange.proofs.Laws.Led.{Led, one-more, agreed, agrees, Quiet, Between, round-more}
 
 -- all that a direction is made of leads from between two rounds to between two rounds
 module _ (p : End) where
@@ -56,19 +57,19 @@ module _ (p : End) where
     unfolding detailSent partSent
     part-between number s x =
         let part = partAt presentations returns (s .cursors) in
-        either-between (eqb (countIn part) 0 || passesLot (inOpenLot (s .ends) + countIn part)) s (partSent presentations part s) x (round-more p (s .ends) x SendAtOpening.detail)
+        either-between (eqb (countIn part) 0 || passesLot (inOpenLot (s .ends) + countIn part)) s (partSent presentations part s) x (round-more p (s .ends) x _)
 
     lot-between : (number : ℕ) (s : Standing) → Between p (s .ends) → Between p (lotMade presentations returns number s .ends)
     unfolding lotMade filled
     lot-between number s x =
-        let opened = roundBetween (Call.header opening moment office number) s in
+        let opened = roundBetween (Call.send opening (Send.header moment office number)) s in
         let full = filled presentations returns opened in
         either-between (eqb (length (partAt presentations returns (s .cursors))) 0) s (wholeLot number presentations returns s) x
-        (round-more p (full .ends) (while-between (nextPart presentations returns) part-between lotParts 0 opened (round-more p (s .ends) x SendAtOpening.header)) SendAtOpening.lotTotal)
+        (round-more p (full .ends) (while-between (nextPart presentations returns) part-between lotParts 0 opened (round-more p (s .ends) x _)) Send.lotTotal)
 
     direction-between : (e : Ends) → Between p e → Between p (directionMade presentations returns e)
     unfolding directionMade lotsMade
-    direction-between e x = round-more p _ (while-between (lotMade presentations returns) lot-between mostLots 1 (record { ends = e; cursors = unmoved }) x) SendAtOpening.sessionTotal
+    direction-between e x = round-more p _ (while-between (lotMade presentations returns) lot-between mostLots 1 (record { ends = e; cursors = unmoved }) x) Send.sessionTotal
 
 -- the other end presents
 across-between : (e : Ends) → Between End.near e → Between End.far (across e)
@@ -123,11 +124,14 @@ module _ (nearPresentations nearReturns farPresentations farReturns : List ℕ) 
   none-awaited x = ap awaited (idle x)
 
   level : (p : End) → receivedTally after p ≡ presentedTally after p
-  level p = go (agrees after led p .agreed)
+  level p = go (claim .agreed)
     where
-      go : Level after p ⊎ Ahead after p → receivedTally after p ≡ presentedTally after p
-      go (inl l) = l .totals
-      go (inr a) = absurd (not-named (sym (none-awaited p) ∙ a .named))
+      claim : Agreement after p
+      claim = agrees after led p
+
+      go : Beyond after p → receivedTally after p ≡ presentedTally after p
+      go (Beyond.nothing l) = claim .received ∙ ap tallied l ∙ sym (claim .presented)
+      go (Beyond.oneLot l n more) = absurd (not-named (sym (none-awaited p) ∙ n .shown))
         where
           not-named : {l : Lot} → Awaited.Neither ≡ Awaited.LotTotal l → ⊥
           not-named e = let z : _≡_ {A = ℕ} 0 1 = ap awaitedNumber e in omega arith

@@ -12,7 +12,7 @@ use Rattle.message.proofs.Laws.Envelope.{whole-length}
 use Rattle.session.specs.declared.effect.Effect.{Effect}
 use Rattle.session.specs.Parties.{Direction}
 use Rattle.session.specs.Outcome.{Held, Outcome}
-use Rattle.session.specs.Sending.{nextEnvelope, sendRefusal, send, sendHeader, sendDetail, sendLotTotal, sendSessionTotal}
+use Rattle.session.specs.Sending.{nextEnvelope, sendRefusal, send, sendMessage}
 use Rattle.session.specs.Receiving.{afterMessage, receiveRefusal, receive}
 use Rattle.session.specs.Reply.{takeReply}
 use Rattle.session.specs.Clock.{clock}
@@ -26,14 +26,11 @@ Within room o = o .written ≤ room
 sent-within : (time code : ℕ) (effect : Effect) (body : List ℕ) (h : Held) → Within (length (h .line)) (send time code effect body h)
 unfolding send
 sent-within time code effect body h =
-    either (Within (length (h .line))) _ h _ (λ (k : ℕ). omega arith) (λ (e : sendRefusal time code (length (wholeMessage (nextEnvelope (h .session)) body)) (length (h .line)) (h .session) ≡ 0). send-told time code (wholeMessage (nextEnvelope (h .session)) body) h e .room)
+    either (Within (length (h .line))) _ h _ (λ (k : ℕ). omega arith) (λ (e : sendRefusal time code (length (wholeMessage (nextEnvelope (h .session)) body)) (length (h .line)) (h .session) ≡ 0). send-told time code (length (wholeMessage (nextEnvelope (h .session)) body)) h e .room)
 
 meant-within : (call : Call) (h : Held) → Within (length (h .line)) (meaning call h)
-unfolding meaning sendHeader sendDetail sendLotTotal sendSessionTotal receive takeReply clock
-meant-within (Call.header time moment centre number) h = sent-within time _ _ _ h
-meant-within (Call.detail time operation part) h = sent-within time _ _ _ h
-meant-within (Call.lotTotal time) h = sent-within time _ _ _ h
-meant-within (Call.sessionTotal time) h = sent-within time _ _ _ h
+unfolding meaning sendMessage receive takeReply clock
+meant-within (Call.send time x) h = sent-within time _ _ _ h
 meant-within (Call.receive time bytes) h =
     either (Within (length (h .line))) _ h _ (λ (k : ℕ). omega arith) (λ (e : receiveRefusal time bytes (length (h .line)) (h .session) ≡ 0). subst (λ (n : ℕ). n ≤ length (h .line)) (sym (whole-length Kind.Reply (envelopeOf bytes) (writtenReplyBody (afterMessage time bytes h .session .receiving .reply)))) (receive-told time bytes h e .room))
 meant-within (Call.reply time bytes) h = either (Within (length (h .line))) _ h _ (λ (k : ℕ). omega arith) (λ e. omega arith)

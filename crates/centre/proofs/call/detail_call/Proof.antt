@@ -1,6 +1,7 @@
 -- `detail_call`: what the send says, of the centre.
 use mathlib.Core.Path.{_∙_}
 use borrow.Author.Needs.{needs}
+use Rattle.session.specs.Sending.{Send}
 use Rattle.session.specs.Engine.{Call, meaning}
 use Rattle.centre.specs.Turn.{engineOf}
 use Rattle.centre.proofs.Laws.{by-meaning}
@@ -21,7 +22,7 @@ unfolding meaning
 returns c =
     let s = c .before .before .before .before .before .before .before .before .before in
     let said = c .sent-beside .ensures in
-    (said .0 _ ∙ by-meaning (Call.detail (s .args .time) (s .args .operation) (s .args .part .now)) (s .args .line .now) (engineOf (s .args .c)) (c .before .before .before .send-detail .ensures .0), said .1)
+    (said .0 _ ∙ by-meaning (Call.send (s .args .time) (Send.detail (s .args .operation) (s .args .part .now))) (s .args .line .now) (engineOf (s .args .c)) (c .before .before .before .send-detail .ensures .0), said .1)
 
 pub detail-call-spec : {M : Type 1} → statement M
 detail-call-spec =

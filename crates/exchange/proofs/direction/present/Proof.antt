@@ -1,6 +1,7 @@
 -- `present`: the lots, and the session total after them.
 use mathlib.Core.Path.{ap, _∙_}
 use Rattle.session.specs.Hours.{opening}
+use Rattle.session.specs.Sending.{Send}
 use Rattle.session.specs.Engine.{Call}
 use Rattle.exchange.specs.Course.{Standing, roundMade, directionMade}
 use borrow.Author.Needs.{needs}
@@ -23,7 +24,7 @@ returns : tie.Need-returns
 unfolding directionMade
 returns c =
     let total = c .before .before .before .before .one-more .ensures in
-    (total .0 ∙ ap (λ (s : Standing). roundMade (Call.sessionTotal opening) (s .ends)) (c .before .before .before .before .before .before .before .before .before .before .before .before .send-lots .ensures .0), total .1)
+    (total .0 ∙ ap (λ (s : Standing). roundMade (Call.send opening Send.sessionTotal) (s .ends)) (c .before .before .before .before .before .before .before .before .before .before .before .before .send-lots .ensures .0), total .1)
 
 pub present-spec : {M : Type 1} → statement M
 present-spec =

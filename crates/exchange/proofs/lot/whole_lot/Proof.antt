@@ -1,6 +1,7 @@
 -- `whole_lot`: the header's round, the parts, and the total's round, each on what the one before it left.
 use mathlib.Core.Path.{ap, _∙_}
 use Rattle.session.specs.Hours.{opening}
+use Rattle.session.specs.Sending.{Send}
 use Rattle.session.specs.Engine.{Call}
 use Rattle.exchange.specs.Course.{filled, roundBetween}
 use borrow.Author.Needs.{needs}
@@ -44,7 +45,7 @@ returns c =
     let f = filling e in
     let o = opened f in
     let a = start o .args in
-    (e .round-between2 .ensures .0 ∙ ap (roundBetween (Call.lotTotal opening)) (f .fill .ensures .0 ∙ ap (filled (a .presentations .now) (a .returns .now)) (o .round-between .ensures .0)), e .round-between2 .ensures .1 _ _ (f .fill .ensures .1))
+    (e .round-between2 .ensures .0 ∙ ap (roundBetween (Call.send opening Send.lotTotal)) (f .fill .ensures .0 ∙ ap (filled (a .presentations .now) (a .returns .now)) (o .round-between .ensures .0)), e .round-between2 .ensures .1 _ _ (f .fill .ensures .1))
 
 pub whole-lot-spec : {M : Type 1} → statement M
 whole-lot-spec =

@@ -12,7 +12,7 @@ use Rattle.receiving.proofs.receive.receive as step
 use Rattle.receiving.proofs.receive.receive.Symbol as step-def
 use Rattle.receiving.proofs.receive.receive.Symbol.{name as #step}
 use Rattle.receiving.proofs.receive.receive.Met as step-thm
-use Rattle.lent.proofs.InPlace.{u8, ℕ, _≡_, refl, ap, List, [], _∷_, length, URA, named, Val, vptr, SProp, ent, id⊢, GName, Lft, Share, ftrue, flft, Memory, Routine, Heap, Calls, Loops, WpFn, Atoms, Fun, givenOf, FmC, Given, ‵, raw, _⊛_, ⋆, _$_, _∵_, !, qed, by, move, keep, drop, group, use1, split, split3, join, fsplit, fsplit3, fjoin, feqL, suffices, frame, done, look, init, stop, hop, from, load, addr, and-then, no-more, returns, enter, alloc1, alloc0, params1, pass1, pass0, free0, agg, whole, sub, look-in, owns, Is, RefT, MutRef, sliceVal, slice-vals, ShrSlice, MutSlice, finally, shr-slice-lawful, mut-slice-lawful, only, nothing, Contract, Triple, onEntry, tripleOf, cited, says, walkOf, ends-at, Session, Running, Direction, Sound, Carried, Received, session, totals, number, received, outcome, typed, Param, by-value, lent, shared, lent-on, stays, all-said, premise, ReceivedSo, Lent, has, settled, promised, gone, here, apart, hears, sets, into, reads, asks, gives, concluded}
+use Rattle.lent.proofs.InPlace.{u8, ℕ, _≡_, refl, ap, List, [], _∷_, length, URA, named, Val, vptr, SProp, ent, id⊢, GName, Lft, Share, ftrue, flft, Memory, Routine, Heap, Calls, Loops, WpFn, Atoms, Fun, givenOf, FmC, Given, ‵, raw, _⊛_, ⋆, _$_, _∵_, !, qed, by, move, keep, drop, group, use1, split, split3, join, fsplit, fsplit3, fjoin, feqL, suffices, frame, done, look, init, stop, hop, from, load, addr, and-then, no-more, returns, enter, alloc1, alloc0, params1, pass1, pass0, free0, agg, whole, sub, look-in, owns, Is, RefT, MutRef, sliceVal, slice-vals, ShrSlice, MutSlice, finally, shr-slice-lawful, mut-slice-lawful, only, nothing, Contract, Triple, onEntry, tripleOf, cited, says, walkOf, ends-at, Session, Running, Direction, Sound, Carried, Received, session, totals, totalsBytes, number, received, outcome, typed, Param, by-value, lent, shared, lent-on, stays, all-said, premise, ReceivedSo, Lent, has, settled, promised, gone, here, apart, hears, sets, into, reads, asks, gives, concluded}
 use Rattle.lent.proofs.receive.receive.Key.{name as #receive}
 use Rattle.lent.proofs.receive.receive as in-place
 use Rattle.lent.proofs.receive.receive.Statement as stated
@@ -22,7 +22,7 @@ abbrev params : List (Param 3)
 params = by-value session (λ x f. refl) ∷ lent 0 tt ∷ by-value number (λ x f. refl) ∷ shared 1 tt ∷ lent-on 2 tt ∷ []
 
 -- where the outcome by value has what the call gives beside the running totals
-at-received : fieldOf O′.mir 1 ≡ just (R′.mir, 24)
+at-received : fieldOf O′.mir 1 ≡ just (R′.mir, totalsBytes)
 at-received = refl
 
 module _ {M : Type 1} (𝓤 : URA M) (H : Heap 𝓤) (A : Atoms 𝓤) (W : Given 𝓤 H A) (mem : Memory → SProp 𝓤) (run : Routine → Fun 𝓤)

@@ -17,7 +17,7 @@ use Rattle.presenting.proofs.reply.take_reply as step
 use Rattle.presenting.proofs.reply.take_reply.Symbol as step-def
 use Rattle.presenting.proofs.reply.take_reply.Symbol.{name as #step}
 use Rattle.presenting.proofs.reply.take_reply.Met as step-thm
-use Rattle.lent.proofs.InPlace.{u8, ℕ, _≡_, refl, ap, List, [], _∷_, URA, named, Val, vptr, SProp, ent, id⊢, GName, Lft, Share, ftrue, flft, Memory, Routine, Heap, Calls, Loops, WpFn, Atoms, Fun, givenOf, FmC, Given, ‵, raw, _⊛_, ⋆, _$_, _∵_, !, qed, by, move, keep, drop, group, use1, split, split3, join, fsplit, fsplit3, fjoin, suffices, frame, done, look, init, and-then, no-more, returns, enter, alloc1, alloc0, params1, pass1, pass0, free0, owns, Is, RefT, MutRef, slice-vals, ShrSlice, shr-slice-lawful, only, nothing, Contract, Triple, onEntry, tripleOf, cited, says, walkOf, ends-at, Session, Running, Direction, Sound, Carried, Plain, declared, session, totals, number, typed, Param, by-value, lent, shared, stays, all-said, premise, Lent, has, settled, promised, gone, here, apart, hears, into, reads, asks, gives, concluded}
+use Rattle.lent.proofs.InPlace.{u8, ℕ, _≡_, refl, ap, List, [], _∷_, URA, named, Val, vptr, SProp, ent, id⊢, GName, Lft, Share, ftrue, flft, Memory, Routine, Heap, Calls, Loops, WpFn, Atoms, Fun, givenOf, FmC, Given, ‵, raw, _⊛_, ⋆, _$_, _∵_, !, qed, by, move, keep, drop, group, use1, split, split3, join, fsplit, fsplit3, fjoin, suffices, frame, done, look, init, and-then, no-more, returns, enter, alloc1, alloc0, params1, pass1, pass0, free0, owns, Is, RefT, MutRef, slice-vals, ShrSlice, shr-slice-lawful, only, nothing, Contract, Triple, onEntry, tripleOf, cited, says, walkOf, ends-at, Session, Running, Direction, Sound, Carried, Plain, declared, session, totals, totalsBytes, number, typed, Param, by-value, lent, shared, stays, all-said, premise, Lent, has, settled, promised, gone, here, apart, hears, into, reads, asks, gives, concluded}
 use Rattle.lent.proofs.reply.take_reply.Key.{name as #take}
 use Rattle.lent.proofs.reply.take_reply as take
 use Rattle.lent.proofs.reply.take_reply.Statement as stated
@@ -33,7 +33,7 @@ abbrev outcome : Plain
 outcome = declared O.the-type O′.the-laws O′.the-plain
 
 -- where the outcome by value has what the call gives beside the running totals
-at-called : fieldOf O′.mir 1 ≡ just (R′.mir, 24)
+at-called : fieldOf O′.mir 1 ≡ just (R′.mir, totalsBytes)
 at-called = refl
 
 module _ {M : Type 1} (𝓤 : URA M) (H : Heap 𝓤) (A : Atoms 𝓤) (W : Given 𝓤 H A) (mem : Memory → SProp 𝓤) (run : Routine → Fun 𝓤)
