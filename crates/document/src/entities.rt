@@ -9,11 +9,14 @@ pub const LARGEST_ENTITY: u16 = 9999;
 // How many entities a centre may represent.
 pub const MOST_REPRESENTED: usize = 8;
 
-// Whether own and represented entities are within the limits of a start.
+// Whether own and represented entities are within the limits of a start. None is read where there are too many.
 pub fn entities_good(own: u16, represented: &[u16]) -> bool
     ensures { λ r. ⌜ r ≡ entitiesGood own (now (represented .entry)) ⌝ }
 {
-    let mut good = (own <= LARGEST_ENTITY) & (represented.len() <= MOST_REPRESENTED);
+    if MOST_REPRESENTED < represented.len() {
+        return false;
+    }
+    let mut good = own <= LARGEST_ENTITY;
     let mut i: usize = 0;
     while i < represented.len() {
         good = good & (represented[i] <= LARGEST_ENTITY);

@@ -1,16 +1,19 @@
--- `entities_good` passes over the represented ones. The invariant: good so far, and those left good, is the whole test. The measure is what
--- is left.
+-- `entities_good`: too many are refused by their number; else the represented ones are passed over. The invariant: good so far, and those
+-- left good, is the whole test. The measure is what is left.
 use mathlib.Core.Path.{_≡_, refl, ap, sym, _∙_}
-use mathlib.Core.Bool.{_&&_}
+use mathlib.Core.Bool.{Bool, true, false, _&&_, and-true, and-false}
 use mathlib.Core.List.{List}
 use Prim.Native.Nat.{ℕ, _-_, _≤_}
 use native.Mathlib.Numerals.{add-one}
 use native.Mathlib.Omega.{arith}
 use borrow.Author.Needs.{needs}
+use borrow.Author.Tests.{le-leb, lt-leb}
+use lib.Dec.{leb}
 use lib.ListN.{length, drop, drop-of-length-le}
 use lib.Seq.{drop-cons}
 use Rattle.packed.specs.Every.{every}
 use Rattle.packed.proofs.Laws.Every.{every-none, every-step}
+use Rattle.document.specs.Limits.{mostRepresented}
 use Rattle.document.specs.Entities.{isEntity, entitiesGood}
 use Rattle.document.proofs.entities.entities_good.Statement.{statement}
 use Rattle.document.proofs.entities.entities_good.Tie as tie
@@ -22,8 +25,21 @@ Inv-loop own represented good₀ i₀ good i =
 abbrev μ-loop : tie.MeasureT-loop
 μ-loop own represented good₀ i₀ good i = length represented - i
 
+-- what the number of them decides
+numbered : (own : ℕ) (represented : List ℕ) (few : Bool) → leb (length represented) mostRepresented ≡ few → entitiesGood own represented ≡ (isEntity own && few && every isEntity represented)
+numbered own represented few e = ap (λ (t : Bool). isEntity own && t && every isEntity represented) e
+
+returns : tie.Need-returns Inv-loop μ-loop
+returns c =
+    let a = c .before .args in
+    let r = a .represented .now in
+    sym (numbered (a .own) r false (lt-leb (length r) mostRepresented (omega arith)) ∙ ap (λ (t : Bool). t && every isEntity r) (and-false (isEntity (a .own))))
+
 loop-holds : tie.Need-loop-holds Inv-loop μ-loop
-loop-holds c = (omega arith, refl)
+loop-holds c =
+    let a = c .before .args in
+    let r = a .represented .now in
+    (omega arith, sym (numbered (a .own) r true (le-leb (length r) mostRepresented (omega arith)) ∙ ap (λ (t : Bool). t && every isEntity r) (and-true (isEntity (a .own)))))
 
 mul-good : tie.Need-mul-good Inv-loop μ-loop
 mul-good c = search needs
@@ -40,7 +56,7 @@ loop-less c = omega arith
 loop-again : tie.Need-loop-again Inv-loop μ-loop
 loop-again c =
     let t = c .before .before in
-    let a = t .before .args in
+    let a = t .before .before .args in
     let i = t .loop .i in (
       omega arith,
       rw add-one
@@ -49,10 +65,10 @@ loop-again c =
           ∙ t .loop .inv .1),
     )
 
-returns : tie.Need-returns Inv-loop μ-loop
-returns c =
+returns-2 : tie.Need-returns-2 Inv-loop μ-loop
+returns-2 c =
     let t = c .before in
-    let a = t .before .args in
+    let a = t .before .before .args in
     sym (every-none isEntity (t .loop .good))
     ∙ ap (λ (l : List ℕ). t .loop .good && every isEntity l) (sym (drop-of-length-le (a .represented .now) {i = t .loop .i} (omega arith)))
     ∙ t .loop .inv .1
@@ -63,10 +79,11 @@ entities-good-spec =
     (tie.spec
     Inv-loop
     μ-loop
+    returns
     loop-holds
     mul-good
     shared-slice-read-good
     add-i
     loop-less
     loop-again
-    returns)
+    returns-2)
