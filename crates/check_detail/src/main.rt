@@ -1,7 +1,10 @@
 // The check program (01, 'The check program'): takes the bytes of a detail's body from standard input, and prints the code
-// in two digits and the three totals.
+// in two digits and the three totals. Where the input cannot be read to its end, there is no body to judge: it says so on
+// standard error, and prints nothing.
+mod input;
 mod line;
 
+use crate::input::read_input;
 use crate::line::LINE_BYTES;
 use crate::line::write_line;
 use detail::checked::Checked;
@@ -33,8 +36,16 @@ fn answer(body: &[u8], line: &mut [u8]) -> usize
 // The buffer holds far more than the longest body, so that a body too long is seen to be so.
 fn main() {
     let mut input = io::large_buffer();
-    let n = io::read_full(0, &mut input);
+    let read = read_input(libc::STDIN_FILENO, &mut input);
+    let n = read.count;
+    if read.failed {
+        io::write_all(
+            libc::STDERR_FILENO,
+            b"check_detail: standard input cannot be read\n",
+        );
+        return;
+    }
     let mut line = [0u8; LINE_BYTES];
     let written = answer(&input[..n], &mut line);
-    io::write_all(1, &line[..written]);
+    io::write_all(libc::STDOUT_FILENO, &line[..written]);
 }
