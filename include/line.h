@@ -2,6 +2,10 @@
  * For C and C++ callers: the detail check, link with libdetail.a; a whole
  * evening of two engines over trays, and scripts of evenings, link with
  * libentries.a. Both libraries may be linked into one program.
+ *
+ * They are built for x86-64 Linux, with the System V calling convention, and
+ * may be linked into a program or a shared object. libdetail.a needs nothing
+ * beside it, libentries.a memcpy and memset of the C library.
  */
 #ifndef LINE_H
 #define LINE_H
@@ -37,19 +41,20 @@ typedef struct line_checked {
  * entity 0072 is 72.
  *
  * Lengths: body_len counts bytes, represented_len counts entities. Any
- * length may be passed as long as its bytes fit in PTRDIFF_MAX; a body of 0
- * or of more than 10,400 bytes gets code 1.
+ * length may be passed as long as its bytes fit in PTRDIFF_MAX. A length is
+ * looked at before a byte that it counts is read: more than 8 represented
+ * get 24 with nothing read, and a body of 0 or of more than 10,400 bytes
+ * gets 1 with nothing of the body read.
  *
  * Pointers: each must be valid for reading its whole length, and
- * represented aligned as uint16_t. A null pointer is not allowed, not even
- * with length 0; the address of any object will do there.
+ * represented aligned as uint16_t. A null pointer is allowed with length 0.
  *
  * The call only reads what is lent, changes none of it and keeps nothing.
  * There is no global state, so several threads may call at once, on the
  * same bytes too, while nobody writes them.
  */
 line_checked line_check_detail(const uint8_t *body, size_t body_len,
-                               uint16_t own,
+                               uint32_t own,
                                const uint16_t *represented,
                                size_t represented_len);
 
@@ -79,8 +84,8 @@ typedef struct line_side {
 /* What an evening gives. Both sides are 0 unless code is 0. */
 typedef struct line_evening {
     uint8_t code; /* 0, or 25 where a tray is not a multiple of 51 bytes */
-    line_side near;
-    line_side far;
+    line_side near_side;
+    line_side far_side;
 } line_evening;
 
 /*
@@ -102,8 +107,9 @@ typedef struct line_evening {
  * presented ones, and neither end awaits a reply: the theorem
  * EveningIsSettled (docs/AGREEMENT.md, 'An evening of the driver').
  *
- * Lengths, pointers and threads are as for line_check_detail. The call needs
- * less than 128 kB of stack and no heap.
+ * Lengths, pointers and threads are as for line_check_detail; 25 is given by
+ * the lengths, with nothing read. The call needs less than 128 kB of stack
+ * and no heap.
  */
 line_evening line_exchange(const uint8_t *near_presentations,
                            size_t near_presentations_len,
@@ -144,8 +150,7 @@ typedef struct line_played {
  *
  * Pointers: script must be valid for reading its whole length, output and
  * wire for writing theirs, and the three must not overlap. A null pointer is
- * not allowed, not even with length 0; the address of any object will do
- * there.
+ * allowed with length 0.
  *
  * The call changes the first `written` bytes of output and any of wire,
  * nothing else, and keeps nothing. There is no global state, so several
@@ -154,6 +159,71 @@ typedef struct line_played {
 line_played line_play_script(const uint8_t *script, size_t script_len,
                              uint8_t *output, size_t output_len,
                              uint8_t *wire, size_t wire_len);
+
+/*
+ * The functions of the libraries themselves take no null pointer. So in C and
+ * C++ their names stand for the inline functions below, which hand on the
+ * address of an object where a length is 0. Other languages, which bind to the
+ * libraries without this header, pass such an address themselves.
+ */
+static inline const uint8_t *line_lent_bytes(const uint8_t *bytes, size_t len)
+{
+    static const uint8_t nothing = 0;
+    return len == 0 ? &nothing : bytes;
+}
+
+static inline const uint16_t *line_lent_entities(const uint16_t *entities,
+                                                 size_t len)
+{
+    static const uint16_t nothing = 0;
+    return len == 0 ? &nothing : entities;
+}
+
+static inline uint8_t *line_lent_room(uint8_t *room, size_t len)
+{
+    static uint8_t nothing = 0;
+    return len == 0 ? &nothing : room;
+}
+
+static inline line_checked
+line_check_detail_inline(const uint8_t *body, size_t body_len, uint32_t own,
+                         const uint16_t *represented, size_t represented_len)
+{
+    return line_check_detail(line_lent_bytes(body, body_len), body_len, own,
+                             line_lent_entities(represented, represented_len),
+                             represented_len);
+}
+
+static inline line_evening
+line_exchange_inline(const uint8_t *near_presentations,
+                     size_t near_presentations_len,
+                     const uint8_t *near_returns, size_t near_returns_len,
+                     const uint8_t *far_presentations,
+                     size_t far_presentations_len,
+                     const uint8_t *far_returns, size_t far_returns_len)
+{
+    return line_exchange(
+        line_lent_bytes(near_presentations, near_presentations_len),
+        near_presentations_len,
+        line_lent_bytes(near_returns, near_returns_len), near_returns_len,
+        line_lent_bytes(far_presentations, far_presentations_len),
+        far_presentations_len,
+        line_lent_bytes(far_returns, far_returns_len), far_returns_len);
+}
+
+static inline line_played
+line_play_script_inline(const uint8_t *script, size_t script_len,
+                        uint8_t *output, size_t output_len,
+                        uint8_t *wire, size_t wire_len)
+{
+    return line_play_script(line_lent_bytes(script, script_len), script_len,
+                            line_lent_room(output, output_len), output_len,
+                            line_lent_room(wire, wire_len), wire_len);
+}
+
+#define line_check_detail line_check_detail_inline
+#define line_exchange line_exchange_inline
+#define line_play_script line_play_script_inline
 
 #ifdef __cplusplus
 }

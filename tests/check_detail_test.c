@@ -2,6 +2,7 @@
    its own. Use: check_detail_test VECTORS LEAST, where fewer than LEAST
    vectors in the file are a failure. */
 #include "line.h"
+#include "unreadable.h"
 #include "vectors.h"
 
 #include <inttypes.h>
@@ -105,6 +106,47 @@ static void try_represented(void)
     try_vector("nine represented", &vector);
 }
 
+/* Own numbers up to the largest and past it, with a body that is good for what
+   is left of them in 16 bits, where that is an entity. */
+static void try_own(void)
+{
+    static const struct {
+        uint32_t own;
+        const char *body;
+        uint64_t code;
+    } tried[] = {
+        { 9999, "$EX[23:9999][36:9999]", 0 },
+        { 10000, "$EX[23:9999][36:9999]", 24 },
+        { 65535, "$EX[23:9999][36:9999]", 24 },
+        { 65536, "$EX[23:0000][36:0000]", 24 },
+        { 65608, "$EX", 24 },
+        { 4294967295, "$EX", 24 },
+    };
+    for (size_t i = 0; i < sizeof tried / sizeof tried[0]; i++) {
+        char name[32];
+        snprintf(name, sizeof name, "own %" PRIu32, tried[i].own);
+        take_body(tried[i].body, 55);
+        want(tried[i].code, 0, 0, 0);
+        if (tried[i].code == 0)
+            want(0, 1, 15000, 30);
+        judge(name, &vector, line_check_detail(vector.body, 55, tried[i].own, NULL, 0));
+    }
+}
+
+/* A length that is wrong is answered before a byte is read. */
+static void try_lengths_alone(void)
+{
+    const uint8_t *bytes = unreadable();
+    const uint16_t *entities = (const uint16_t *)(const void *)bytes;
+    want(24, 0, 0, 0);
+    judge("nine unread", &vector, line_check_detail(bytes, 55, 72, entities, 9));
+    judge("a hundred million unread",
+          &vector, line_check_detail(bytes, 55, 72, entities, 100000000));
+    want(1, 0, 0, 0);
+    judge("no body", &vector, line_check_detail(bytes, 0, 72, NULL, 0));
+    judge("too long an unread body", &vector, line_check_detail(bytes, 10401, 72, NULL, 0));
+}
+
 /* What lies past a stated length must not count. */
 static void try_past_the_length(void)
 {
@@ -164,6 +206,8 @@ int main(int argc, char **argv)
     }
     try_lengths();
     try_represented();
+    try_own();
+    try_lengths_alone();
     try_past_the_length();
     try_non_digits();
     if (failures > 0)

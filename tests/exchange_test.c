@@ -1,27 +1,18 @@
 /* Runs evenings through line_exchange: one of a document each way, one whose
-   near document the far end does not take, and one with a tray that is cut.
+   near document the far end does not take, and some with a tray that is cut.
    Use: exchange_test, without arguments. */
+#include "example.h"
 #include "line.h"
+#include "unreadable.h"
 
 #include <inttypes.h>
 #include <stdio.h>
 #include <string.h>
 
-#define DOCUMENT 51
-
 /* The places of the receiving entity, the drawee and the nominal. */
 #define ENTITY 18
 #define DRAWEE 31
 #define NOMINAL 25
-
-/* The document of the check program's example, for entity 0072. */
-static const uint8_t example[DOCUMENT] = {
-    0x00, 0x00, 0x00, 0x00, 0x01, 0x00, 0x00, 0x02, 0x43, 0x41, 0x57,
-    0x14, 0x03, 0x00, 0x81, 0x01, 0x10, 0x28, 0x00, 0x72, 0x08, 0x00,
-    0x81, 0x01, 0x10, 0x00, 0x00, 0x00, 0x01, 0x50, 0x00, 0x00, 0x72,
-    0x01, 0x10, 0x00, 0x00, 0x12, 0x34, 0x56, 0x01, 0x00, 0x01, 0x00,
-    0x00, 0x00, 0x30, 0x00, 0x00, 0x00, 0x00,
-};
 
 static int passed, failed;
 
@@ -75,8 +66,8 @@ static void run(const char *what, const uint8_t *presented, size_t cut,
                                      example, 0, back, DOCUMENT);
 
     same(what, got.code, wanted.code);
-    same_side(what, got.near, wanted.near);
-    same_side(what, got.far, wanted.far);
+    same_side(what, got.near_side, wanted.near_side);
+    same_side(what, got.far_side, wanted.far_side);
 }
 
 /* Both ends as they close, each having received what the other presented. */
@@ -85,6 +76,20 @@ static line_evening closed(line_sums near, line_sums far)
     line_evening e = { 0, side(near, far), side(far, near) };
 
     return e;
+}
+
+/* A tray that is cut is seen by its length, whichever it is. */
+static void try_lengths_alone(void)
+{
+    const uint8_t *tray = unreadable();
+
+    for (int cut = 0; cut < 4; cut++) {
+        size_t len[4] = { DOCUMENT, DOCUMENT, DOCUMENT, DOCUMENT };
+
+        len[cut]--;
+        same("nothing read", line_exchange(tray, len[0], tray, len[1], tray, len[2],
+                                           tray, len[3]).code, 25);
+    }
 }
 
 int main(void)
@@ -104,6 +109,7 @@ int main(void)
     run("both ways", example, 0, back, closed(presented, returned));
     run("not served", strange, 0, back, closed(none, returned));
     run("a cut tray", example, 50, back, refused);
+    try_lengths_alone();
 
     printf("%d of %d numbers as wanted\n", passed, passed + failed);
     return failed != 0;

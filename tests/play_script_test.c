@@ -2,6 +2,7 @@
    answers and with too little, and with no memory for written bytes. Use:
    play_script_test, without arguments. */
 #include "line.h"
+#include "unreadable.h"
 
 #include <inttypes.h>
 #include <stdio.h>
@@ -164,6 +165,20 @@ static void try_play(const char *name, const struct step *steps, size_t output_l
     free(wire);
 }
 
+/* A wire that is a byte too short is left alone. */
+static void try_short_wire(void)
+{
+    struct texts texts = texts_of(forgotten);
+    uint8_t output[sizeof texts.answers];
+
+    judge("short wire", texts.answers_len, expected(forgotten, texts.answers_len),
+          line_play_script((const uint8_t *)texts.script, texts.script_len,
+                           output, texts.answers_len, unreadable(), WIRE - 1));
+    if (memcmp(output, texts.answers, texts.answers_len) != 0)
+        fail("short wire", texts.answers_len, "other answers");
+    plays++;
+}
+
 int main(void)
 {
     size_t whole = texts_of(evening).answers_len;
@@ -171,6 +186,7 @@ int main(void)
         try_play("evening", evening, output_len, WIRE);
     try_play("long output", evening, 100000, WIRE);
     try_play("no wire", forgotten, texts_of(forgotten).answers_len, 0);
+    try_short_wire();
     try_play("empty script", nothing, 10, WIRE);
     try_play("empty script, output and wire", nothing, 0, 0);
     printf("%u plays, %u failed\n", plays, failures);

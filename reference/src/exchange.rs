@@ -49,9 +49,12 @@ pub fn of_two(check: DetailCheck, near: &FilledTrays, far: &FilledTrays) -> Even
     };
     let (mut a, mut b) = (start(81, 72), start(72, 81));
     let reports = evening(&mut a, &mut b, [near.lent(), far.lent()]);
-    let [near, far] = reports.expect("nothing is refused").map(Side::from);
-    let code = 0;
-    Evening { code, near, far }
+    let [near_side, far_side] = reports.expect("nothing is refused").map(Side::from);
+    Evening {
+        code: 0,
+        near_side,
+        far_side,
+    }
 }
 
 /// The trays of one end, as they lie there before the evening.

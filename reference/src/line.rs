@@ -91,15 +91,15 @@ impl From<Report> for Side {
 #[derive(Clone, Copy, Debug, Default, PartialEq, Eq)]
 pub struct Evening {
     pub code: u8,
-    pub near: Side,
-    pub far: Side,
+    pub near_side: Side,
+    pub far_side: Side,
 }
 
 unsafe extern "C" {
     fn line_check_detail(
         body: *const u8,
         body_len: usize,
-        own: u16,
+        own: u32,
         represented: *const u16,
         represented_len: usize,
     ) -> Checked;
@@ -132,7 +132,7 @@ pub fn check(body: &[u8], own: u16, represented: &[u16]) -> Checked {
         line_check_detail(
             body.as_ptr(),
             body.len(),
-            own,
+            u32::from(own),
             represented.as_ptr(),
             represented.len(),
         )

@@ -22,7 +22,7 @@ fn compare(near: [usize; 2], far: [usize; 2]) {
 
 /// What is proved of every evening.
 fn settled(evening: &Evening) {
-    let (near, far) = (&evening.near, &evening.far);
+    let (near, far) = (&evening.near_side, &evening.far_side);
     assert_eq!(near.received, far.presented);
     assert_eq!(far.received, near.presented);
     assert_eq!([near.awaited, far.awaited], [0, 0]);
@@ -62,8 +62,8 @@ fn one_document_too_many() {
     assert_eq!(evening.code, 0);
     settled(&evening);
     let taken = (
-        evening.near.presented.lots,
-        evening.near.presented.documents,
+        evening.near_side.presented.lots,
+        evening.near_side.presented.documents,
     );
     assert_eq!(taken, (64, FULL as u64));
 }
@@ -98,8 +98,11 @@ fn a_bad_document_stays() {
             let evening = of_line(&near, &far);
             assert_eq!(evening.code, 0);
             settled(&evening);
-            assert_eq!(evening.near.presented.documents, (at / 200 * 200) as u64);
-            assert_eq!(evening.far.presented.documents, 600);
+            assert_eq!(
+                evening.near_side.presented.documents,
+                (at / 200 * 200) as u64
+            );
+            assert_eq!(evening.far_side.presented.documents, 600);
         }
     }
 }

@@ -2,5 +2,6 @@
 pub mod Groups
 pub mod Shape
 pub mod Codes
+pub mod Checked
 pub mod Writing
 pub mod RoundTrip

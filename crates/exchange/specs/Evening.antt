@@ -98,7 +98,7 @@ beginning = record { presenter = startedEnd near far; receiver = startedEnd far 
 
 -- after both directions the far end is the one that has presented
 abbrev pub shownOf : Ends → Evening
-shownOf e = record { code = 0; near = closedSide (e .receiver); far = closedSide (e .presenter) }
+shownOf e = record { code = 0; «near_side» = closedSide (e .receiver); «far_side» = closedSide (e .presenter) }
 
 unfoldable pub evening : (nearPresentations nearReturns farPresentations farReturns : List ℕ) → Evening
 evening nearPresentations nearReturns farPresentations farReturns = shownOf (bothDirections nearPresentations nearReturns farPresentations farReturns beginning)
@@ -111,4 +111,4 @@ traysCode nearPresentations nearReturns farPresentations farReturns = checkCode 
 unfoldable pub exchanged : (nearPresentations nearReturns farPresentations farReturns : List ℕ) → Evening
 exchanged nearPresentations nearReturns farPresentations farReturns =
     let code = traysCode nearPresentations nearReturns farPresentations farReturns in
-    cond (eqb code 0) (evening nearPresentations nearReturns farPresentations farReturns) (record { code = code; near = noSide; far = noSide })
+    cond (eqb code 0) (evening nearPresentations nearReturns farPresentations farReturns) (record { code = code; «near_side» = noSide; «far_side» = noSide })

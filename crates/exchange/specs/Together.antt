@@ -17,8 +17,8 @@ bothStarted = begun date near far (λ (x : End). [])
 pub record IsAList (e : Evening) : Type 0 where
   pub steps : List Step
   pub possible : Possible steps bothStarted
-  pub near-side : e .near ≡ sideOf (reportAt (run steps bothStarted) End.near)
-  pub far-side : e .far ≡ sideOf (reportAt (run steps bothStarted) End.far)
+  pub near-side : e .«near_side» ≡ sideOf (reportAt (run steps bothStarted) End.near)
+  pub far-side : e .«far_side» ≡ sideOf (reportAt (run steps bothStarted) End.far)
   pub agreed : (p : End) → Agreement (run steps bothStarted) p
 
 abbrev pub EveningIsAList : Type 0
@@ -26,10 +26,10 @@ EveningIsAList = (nearPresentations nearReturns farPresentations farReturns : Li
 
 -- each end's received totals are the other's presented ones, and neither awaits a reply
 pub record Settled (e : Evening) : Type 0 where
-  pub near-received : e .near .received ≡ e .far .presented
-  pub far-received : e .far .received ≡ e .near .presented
-  pub near-awaits : e .near .awaited ≡ 0
-  pub far-awaits : e .far .awaited ≡ 0
+  pub near-received : e .«near_side» .received ≡ e .«far_side» .presented
+  pub far-received : e .«far_side» .received ≡ e .«near_side» .presented
+  pub near-awaits : e .«near_side» .awaited ≡ 0
+  pub far-awaits : e .«far_side» .awaited ≡ 0
 
 abbrev pub EveningIsSettled : Type 0
 EveningIsSettled = (nearPresentations nearReturns farPresentations farReturns : List ℕ) → Settled (exchanged nearPresentations nearReturns farPresentations farReturns)

@@ -124,8 +124,8 @@ fn evening<'a>(
     );
     Evening {
         code: 0,
-        near: closed(last.receiver),
-        far: closed(last.presenter),
+        near_side: closed(last.receiver),
+        far_side: closed(last.presenter),
     }
 }
 
@@ -181,7 +181,7 @@ pub fn exchange<'a>(
     }
     Evening {
         code: code,
-        near: no_side(),
-        far: no_side(),
+        near_side: no_side(),
+        far_side: no_side(),
     }
 }

@@ -32,8 +32,8 @@ pub struct Side {
 #[repr(C)]
 pub struct Evening {
     pub code: u8,
-    pub near: Side,
-    pub far: Side,
+    pub near_side: Side,
+    pub far_side: Side,
 }
 
 fn sums_of(lots: u64, gathered: Running) -> Sums

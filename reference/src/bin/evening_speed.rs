@@ -27,7 +27,7 @@ fn main() {
         ("line", Box::new(|| line::exchange(near.both(), far.both()))),
     ];
     let expected = evenings[0].1();
-    assert_eq!(expected.near.presented.documents, FULL as u64);
+    assert_eq!(expected.near_side.presented.documents, FULL as u64);
     for (name, evening) in &evenings {
         assert_eq!(evening(), expected, "{name}");
     }

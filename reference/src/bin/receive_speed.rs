@@ -86,7 +86,7 @@ impl Work {
         &'a self,
         evening: impl Fn(&FilledTrays, &FilledTrays) -> Evening + Copy + 'a,
     ) -> [Run<'a>; 2] {
-        let received = evening(&self.lot, &self.none).far.received;
+        let received = evening(&self.lot, &self.none).far_side.received;
         assert_eq!((received.lots, received.documents), (1, 2_600));
         [
             Box::new(move || time(1, || evening(&self.lot, &self.none))),

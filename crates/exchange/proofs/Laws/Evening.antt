@@ -38,19 +38,19 @@ module _ (nearPresentations nearReturns farPresentations farReturns : List ℕ) 
       let both = none-both (checkCode nearPresentations nearReturns 0 0) (checkCode farPresentations farReturns 0 0) (sym so ∙ none) in
       (tray-good nearPresentations nearReturns (both .0), tray-good farPresentations farReturns (both .1))
 
-  by-code : cond (eqb code 0) (evening nearPresentations nearReturns farPresentations farReturns) (record { code = code; near = noSide; far = noSide }) ≡ exchanged nearPresentations nearReturns farPresentations farReturns
+  by-code : cond (eqb code 0) (evening nearPresentations nearReturns farPresentations farReturns) (record { code = code; «near_side» = noSide; «far_side» = noSide }) ≡ exchanged nearPresentations nearReturns farPresentations farReturns
   unfolding exchanged
-  by-code = ap (λ (n : ℕ). cond (eqb n 0) (evening nearPresentations nearReturns farPresentations farReturns) (record { code = n; near = noSide; far = noSide })) so
+  by-code = ap (λ (n : ℕ). cond (eqb n 0) (evening nearPresentations nearReturns farPresentations farReturns) (record { code = n; «near_side» = noSide; «far_side» = noSide })) so
 
   pub ran : code ≡ 0 → evening nearPresentations nearReturns farPresentations farReturns ≡ exchanged nearPresentations nearReturns farPresentations farReturns
   ran none = (rw (eq-eqb code 0 none)) ∙ by-code
 
-  pub refused : {near far : Side} → (code ≡ 0 → ⊥) → near ≡ noSide → far ≡ noSide → record { code = code; near = near; far = far } ≡ exchanged nearPresentations nearReturns farPresentations farReturns
-  refused some n f = (λ i. record { code = code; near = n i; far = f i }) ∙ (rw (ne-eqb code 0 some)) ∙ by-code
+  pub refused : {near far : Side} → (code ≡ 0 → ⊥) → near ≡ noSide → far ≡ noSide → record { code = code; «near_side» = near; «far_side» = far } ≡ exchanged nearPresentations nearReturns farPresentations farReturns
+  refused some n f = (λ i. record { code = code; «near_side» = n i; «far_side» = f i }) ∙ (rw (ne-eqb code 0 some)) ∙ by-code
 
 -- what the ends show after both directions
-pub shows : (nearPresentations nearReturns farPresentations farReturns : List ℕ) {first second : Engine} {last : Ends} {a b : Side} → first ≡ startedEnd near far → second ≡ startedEnd far near → last ≡ bothDirections nearPresentations nearReturns farPresentations farReturns (record { presenter = first; receiver = second; message = replicate messageRoom 0; reply = replicate replyRoom 0 }) → a ≡ closedSide (last .receiver) → b ≡ closedSide (last .presenter) → record { code = 0; near = a; far = b } ≡ evening nearPresentations nearReturns farPresentations farReturns
+pub shows : (nearPresentations nearReturns farPresentations farReturns : List ℕ) {first second : Engine} {last : Ends} {a b : Side} → first ≡ startedEnd near far → second ≡ startedEnd far near → last ≡ bothDirections nearPresentations nearReturns farPresentations farReturns (record { presenter = first; receiver = second; message = replicate messageRoom 0; reply = replicate replyRoom 0 }) → a ≡ closedSide (last .receiver) → b ≡ closedSide (last .presenter) → record { code = 0; «near_side» = a; «far_side» = b } ≡ evening nearPresentations nearReturns farPresentations farReturns
 unfolding beginning evening
 shows nearPresentations nearReturns farPresentations farReturns f s l x y =
-    (λ i. record { code = 0; near = x i; far = y i })
+    (λ i. record { code = 0; «near_side» = x i; «far_side» = y i })
     ∙ ap shownOf (l ∙ (λ i. bothDirections nearPresentations nearReturns farPresentations farReturns (record { presenter = f i; receiver = s i; message = replicate messageRoom 0; reply = replicate replyRoom 0 })))

@@ -168,19 +168,19 @@ module _ (nearPresentations nearReturns farPresentations farReturns : List ℕ) 
       }
 
   -- what holds of it and of a bad tray's code with nothing beside it holds of what C gets
-  either-evening : (Q : Evening → Type 0) → Q (evening nearPresentations nearReturns farPresentations farReturns) → ((code : ℕ) → Q (record { code = code; near = noSide; far = noSide })) → Q (exchanged nearPresentations nearReturns farPresentations farReturns)
+  either-evening : (Q : Evening → Type 0) → Q (evening nearPresentations nearReturns farPresentations farReturns) → ((code : ℕ) → Q (record { code = code; «near_side» = noSide; «far_side» = noSide })) → Q (exchanged nearPresentations nearReturns farPresentations farReturns)
   unfolding exchanged
   either-evening Q good bad = go (eqb code 0)
     where
       code : ℕ
       code = traysCode nearPresentations nearReturns farPresentations farReturns
 
-      go : (t : Bool) → Q (cond t (evening nearPresentations nearReturns farPresentations farReturns) (record { code = code; near = noSide; far = noSide }))
+      go : (t : Bool) → Q (cond t (evening nearPresentations nearReturns farPresentations farReturns) (record { code = code; «near_side» = noSide; «far_side» = noSide }))
       go true = good
       go false = bad code
 
 -- for which no call is made
-no-calls : (code : ℕ) → IsAList (record { code = code; near = noSide; far = noSide })
+no-calls : (code : ℕ) → IsAList (record { code = code; «near_side» = noSide; «far_side» = noSide })
 unfolding run Possible begun start partiesGood realDate monthDays every _when_ fresh report
 no-calls code = record { steps = []; possible = tt; near-side = refl; far-side = refl; agreed = agreed [] tt }
 

@@ -1,15 +1,15 @@
--- `line_check_detail`: entities outside the limits end the chain; else the reading's code and totals are handed on as numbers.
+-- `check`: entities outside the limits end the chain; else the reading's code and totals are handed on as numbers.
 use mathlib.Core.Path.{ap, sym, _∙_}
 use Prim.Native.Nat.{ℕ}
 use borrow.Author.Needs.{needs}
-use lib.Dec.{lit<}
-use Rattle.codes.proofs.Laws.Chain.{fails, holds}
+use Rattle.codes.proofs.Laws.Chain.{holds}
 use Rattle.document.specs.Entities.{entitiesGood}
 use Rattle.detail.specs.Groups.{documents}
 use Rattle.detail.specs.Codes.{receiverCode, acceptedTotals}
 use Rattle.detail.specs.Checked.{checkedCode, fourNumbers, checked}
-use Rattle.detail.proofs.checked.line_check_detail.Statement.{statement}
-use Rattle.detail.proofs.checked.line_check_detail.Tie as tie
+use Rattle.detail.proofs.Laws.Checked.{start-refused}
+use Rattle.detail.proofs.checked.check.Statement.{statement}
+use Rattle.detail.proofs.checked.check.Tie as tie
 
 entities-good-requires : tie.Need-entities-good-requires
 entities-good-requires c κs = search needs
@@ -32,25 +32,22 @@ returns c =
     let totals = read .1 ∙ ap (λ (n : ℕ). acceptedTotals n (documents body)) code in
     λ i. fourNumbers ((c .code-number .ensures ∙ code) i) (totals i)
 
-refusal-number-requires : tie.Need-refusal-number-requires
-refusal-number-requires c κs = search needs
+wrong-start-requires : tie.Need-wrong-start-requires
+wrong-start-requires c κs = search needs
 
 returns-2 : tie.Need-returns-2
-unfolding checked checkedCode
 returns-2 c =
     let a = c .before .before .before .before .before .args in
-    let body = a .body .now in
     let bad = sym (c .before .before .entities-good .ensures) ∙ c .before .if1 .left in
-    let code = sym (fails 24 (entitiesGood (a .own) (a .represented .now)) (receiverCode (a .own) (a .represented .now) body) (lit< tt) bad) in
-    (λ i. fourNumbers (c .refusal-number .ensures i) (acceptedTotals 24 (documents body))) ∙ ap (λ (n : ℕ). fourNumbers n (acceptedTotals n (documents body))) code
+    c .wrong-start .ensures ∙ start-refused (a .own) (a .represented .now) (a .body .now) bad
 
-pub line-check-detail-spec : {M : Type 1} → statement M
-line-check-detail-spec =
+pub check-spec : {M : Type 1} → statement M
+check-spec =
     tie.close
     (tie.spec
     entities-good-requires
     read-detail-requires
     code-number-requires
     returns
-    refusal-number-requires
+    wrong-start-requires
     returns-2)
