@@ -7,6 +7,9 @@ use crate::verdict::judge;
 use crate::verdict::refused;
 use codes::body::LONGEST_BODY;
 use codes::body::operation_of;
+use codes::chain::is_accepted;
+use codes::chain::or_else;
+use codes::chain::when;
 use codes::code::Code;
 use document::DOCUMENT_BYTES;
 use document::MOST_DETAIL_DOCUMENTS;
@@ -29,15 +32,16 @@ pub fn read_detail(body: &[u8], own: u16, represented: &[u16]) -> Verdict
         return refused(Code::WrongField);
     }
     let heads = read_heads(body);
-    if heads.good {
-        if heads.one {
-            let found = read_groups(body, operation_of(body), own, represented);
-            let totals = found.totals;
-            return judge(found.fields, found.amounts, found.served, totals);
-        }
-        return refused(Code::MixedOperations);
+    let code = or_else(
+        when(Code::WrongField, !heads.good),
+        when(Code::MixedOperations, !heads.one),
+    );
+    if is_accepted(code) {
+        let found = read_groups(body, operation_of(body), own, represented);
+        let totals = found.totals;
+        return judge(found.fields, found.amounts, found.served, totals);
     }
-    refused(Code::WrongField)
+    refused(code)
 }
 
 // Whether a detail may be sent from an operation, the plain number, and a part.

@@ -1,5 +1,8 @@
 // What is decided on a detail: a code, and the totals where the code accepts.
 use amounts::Totals;
+use codes::chain::is_accepted;
+use codes::chain::or_else;
+use codes::chain::when;
 use codes::code::Code;
 ghost use mathlib.Core.Path.{_≡_};
 ghost use Rattle.amounts.specs.Totals.{zeros};
@@ -9,6 +12,16 @@ ghost use Rattle.detail.specs.Inner.Verdict.{judged, ifAccepted};
 pub struct Verdict {
     pub code: Code,
     pub totals: Totals,
+}
+
+// The totals where a code accepts.
+fn if_accepted(code: Code, totals: Totals) -> Totals
+    ensures { λ r. ⌜ r ≡ ifAccepted (codeNumber code) totals ⌝ }
+{
+    if is_accepted(code) {
+        return totals;
+    }
+    Totals::zeros()
 }
 
 // A code that accepts nothing.
@@ -26,17 +39,15 @@ pub fn judge(fields: bool, amounts: bool, served: bool, totals: Totals) -> Verdi
     ensures code { λ r. ⌜ codeNumber (r .code) ≡ judged fields amounts served ⌝ }
     ensures totals { λ r. ⌜ r .totals ≡ ifAccepted (codeNumber (r .code)) totals ⌝ }
 {
-    if fields {
-        if amounts {
-            if served {
-                return Verdict {
-                    code: Code::Accepted,
-                    totals: totals,
-                };
-            }
-            return refused(Code::WrongDrawee);
-        }
-        return refused(Code::WrongAmount);
+    let code = or_else(
+        when(Code::WrongField, !fields),
+        or_else(
+            when(Code::WrongAmount, !amounts),
+            when(Code::WrongDrawee, !served),
+        ),
+    );
+    Verdict {
+        code: code,
+        totals: if_accepted(code, totals),
     }
-    refused(Code::WrongField)
 }

@@ -2,7 +2,7 @@
 use mathlib.Core.Path.{_≡_, ap, sym, _∙_}
 use mathlib.Core.Bool.{true, false, not, _&&_, _||_, and-eq-true-iff}
 use mathlib.Core.List.{List}
-use Prim.Native.Nat.{ℕ, _/_, _%_, _≤_}
+use Prim.Native.Nat.{ℕ, _/_, _%_, _≤_, _<_}
 use lib.Dec.{eqb, leb, lit<}
 use lib.ListN.{length}
 use borrow.Author.Tests.{eqb-true, leb-true}
@@ -10,7 +10,7 @@ use Rattle.packed.specs.Every.{every}
 use Rattle.packed.specs.Pieces.{pieces}
 use Rattle.packed.specs.Writing.{packedByte}
 use Rattle.codes.specs.Chain.{_when_, _orelse_}
-use Rattle.codes.proofs.Laws.Chain.{fails, holds, held, all-held, last}
+use Rattle.codes.proofs.Laws.Chain.{ends, fails, holds, held, all-held, joins, last}
 use Rattle.codes.specs.Field.{between}
 use Rattle.codes.specs.Body.{operationOf}
 use Rattle.document.specs.Limits.{documentBytes, mostDetailDocuments}
@@ -67,9 +67,12 @@ module _ (own : ℕ) (represented body : List ℕ) where
   unfolding receiverCode
   misshapen e = fails 1 (shapeGood body) _ (lit< tt) e
 
-  pub mixed : shapeGood body ≡ true → oneOperation body ≡ false → receiverCode own represented body ≡ 9
+  -- a code that the heads give is that of the whole
+  pub by-heads : (code : ℕ) → code ≡ (1 when not (shapeGood body) orelse 9 when not (oneOperation body)) → 0 < code → code ≡ receiverCode own represented body
   unfolding receiverCode
-  mixed s e = holds 1 (shapeGood body) _ s ∙ fails 9 (oneOperation body) _ (lit< tt) e
+  by-heads code e some =
+      let rest = judged (every (fieldsGood (operationOf body) own) (documents body)) (every (amountsGood (operationOf body) own) (documents body)) (every (draweeServed (operationOf body) own represented) (documents body)) in
+      sym (ends code rest some) ∙ ap (λ (n : ℕ). n orelse rest) e ∙ joins (1 when not (shapeGood body)) (9 when not (oneOperation body)) rest
 
   pub shaped-judged : shapeGood body ≡ true → oneOperation body ≡ true → receiverCode own represented body ≡ judged (every (fieldsGood (operationOf body) own) (documents body)) (every (amountsGood (operationOf body) own) (documents body)) (every (draweeServed (operationOf body) own represented) (documents body))
   unfolding receiverCode
