@@ -70,7 +70,7 @@ fn sent_beside(c: Centre, outcome: SendOutcome) -> Turn
     }
 }
 
-pub fn header_call(
+fn header_call(
     c: Centre,
     time: u32,
     moment: u32,
@@ -86,7 +86,7 @@ pub fn header_call(
     sent(c, send_header(session, time, moment, office, number, line))
 }
 
-pub fn detail_call(c: Centre, time: u32, operation: u8, part: &[u8], line: &mut [u8]) -> Turn
+fn detail_call(c: Centre, time: u32, operation: u8, part: &[u8], line: &mut [u8]) -> Turn
     requires { ⌜ Ready (engineOf c) ⌝ }
     ensures outcome { λ r. ⌜ turnOf r (now (line .exit)) ≡ performed (Call.send time (Send.detail operation (now (part .entry)))) (now (line .entry)) (engineOf c) ⌝ }
     ensures premise { λ r. ⌜ Ready (engineOf (r .centre)) ⌝ }
@@ -99,7 +99,7 @@ pub fn detail_call(c: Centre, time: u32, operation: u8, part: &[u8], line: &mut 
     )
 }
 
-pub fn lot_total_call(c: Centre, time: u32, line: &mut [u8]) -> Turn
+fn lot_total_call(c: Centre, time: u32, line: &mut [u8]) -> Turn
     requires { ⌜ Ready (engineOf c) ⌝ }
     ensures outcome { λ r. ⌜ turnOf r (now (line .exit)) ≡ performed (Call.send time Send.lotTotal) (now (line .entry)) (engineOf c) ⌝ }
     ensures premise { λ r. ⌜ Ready (engineOf (r .centre)) ⌝ }
@@ -109,7 +109,7 @@ pub fn lot_total_call(c: Centre, time: u32, line: &mut [u8]) -> Turn
     sent_beside(c, send_lot_total(session, running, time, line))
 }
 
-pub fn session_total_call(c: Centre, time: u32, line: &mut [u8]) -> Turn
+fn session_total_call(c: Centre, time: u32, line: &mut [u8]) -> Turn
     requires { ⌜ Ready (engineOf c) ⌝ }
     ensures outcome { λ r. ⌜ turnOf r (now (line .exit)) ≡ performed (Call.send time Send.sessionTotal) (now (line .entry)) (engineOf c) ⌝ }
     ensures premise { λ r. ⌜ Ready (engineOf (r .centre)) ⌝ }

@@ -3,4 +3,4 @@
 
 pub mod call;
 pub mod end;
-pub mod turn;
+mod turn;

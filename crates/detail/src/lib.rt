@@ -2,8 +2,8 @@
 // words mean stands in specs/.
 
 pub mod checked;
-pub mod documents;
-pub mod groups;
+mod documents;
+mod groups;
 pub mod reading;
 pub mod verdict;
 pub mod writing;

@@ -2,8 +2,8 @@
 // what it is worth. A document is handed over as a slice of exactly its bytes; fields are read at their places in it,
 // counted from 0. What the words mean stands in specs/, where the table of fields is.
 
-pub mod digits;
-pub mod drawee;
+mod digits;
+mod drawee;
 pub mod entities;
 pub mod found;
 pub mod rules;

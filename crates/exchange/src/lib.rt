@@ -2,12 +2,12 @@
 // reply on its way back; an evening is made of rounds alone, with the clock calls and the reports at its end. What the
 // words mean stands in specs/.
 
-pub mod cursors;
-pub mod direction;
+mod cursors;
+mod direction;
 pub mod evening;
-pub mod fixed;
-pub mod lot;
-pub mod progress;
-pub mod round;
-pub mod rounds;
+mod fixed;
+mod lot;
+mod progress;
+mod round;
+mod rounds;
 pub mod shown;

@@ -5,7 +5,7 @@
 pub mod content;
 pub mod envelope;
 pub mod header;
-pub mod layout;
+mod layout;
 pub mod line;
 pub mod reply;
 pub mod route;

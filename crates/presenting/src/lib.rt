@@ -2,8 +2,8 @@
 // the one that takes its reply. What they mean stands in the specs/ of `session`.
 
 pub mod answer;
-pub mod pending;
-pub mod post;
+mod pending;
+mod post;
 pub mod reply;
 pub mod sending;
-pub mod stops;
+mod stops;

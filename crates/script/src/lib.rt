@@ -3,8 +3,8 @@
 // it does to the two sessions and their running totals, and which bytes of the output keep their values; the text of an answer
 // they leave open.
 
-pub mod answer;
+mod answer;
 pub mod play;
 pub mod player;
-pub mod reading;
-pub mod wording;
+mod reading;
+mod wording;

@@ -210,7 +210,7 @@ fn filled() -> [u8; MOST_ROOM]
 }
 
 // One line of any bytes, without its line feed. What stands in it as bytes is read into a lent buffer.
-pub fn play_line(
+fn play_line(
     player: Player,
     text: &[u8],
     output: &mut [u8],

@@ -4,7 +4,7 @@
 // whatever they hold; where they hold a list of what was written (`Holds`, which `remember` keeps), it is what that list has
 // under the number (`recalls`).
 
-pub mod digit;
+mod digit;
 pub mod hex;
 pub mod kind;
 pub mod line;
