@@ -70,14 +70,7 @@ fn sent_beside(c: Centre, outcome: SendOutcome) -> Turn
     }
 }
 
-fn header_call(
-    c: Centre,
-    time: u32,
-    moment: u32,
-    office: u16,
-    number: u16,
-    line: &mut [u8],
-) -> Turn
+fn header_call(c: Centre, time: u32, moment: u32, office: u16, number: u16, line: &mut [u8]) -> Turn
     requires { ⌜ Ready (engineOf c) ⌝ }
     ensures outcome { λ r. ⌜ turnOf r (now (line .exit)) ≡ performed (Call.send time (Send.header moment office number)) (now (line .entry)) (engineOf c) ⌝ }
     ensures premise { λ r. ⌜ Ready (engineOf (r .centre)) ⌝ }

@@ -22,13 +22,13 @@ use Rattle.session.specs.Sequence.{isOpen}
 use Rattle.session.specs.Start.{fresh, started, start}
 use Rattle.session.specs.Report.{tally, awaited, report}
 use Rattle.session.specs.Premise.{PendingSound}
-use Rattle.session.specs.Ledger.{LedgerLot, Ledger, Entry, blank, enter, moved, lotsSum, tallied}
+use Rattle.session.specs.Ledger.{LedgerLot, Ledger, Entry, blank, enter, moved, lotsSum, tallied, lotSum}
 use Rattle.session.specs.Engine.{Call, Engine, performed, saidBy, withEmpty, Ready}
 use Rattle.session.specs.Ends.{End, other, Event, World, Step, replaced, act, run, Brought, Possible, engines, begun, StartsAccepted}
 use Rattle.session.specs.Entering.{Waiting, namedLot, namedBy, awaitedBy, toBeNamed, PresenterLedger, unpresented, ReceiverLedger, presenterEnters, receiverEnters, presenterLedgerAt, receiverLedgerAt}
-use Rattle.session.specs.Claim.{confirmed, counted, reportAt, presentedTally, receivedTally, Level, Beyond, JustReplied, Agreement, AfterAnyCalls, BothEndsTogether}
+use Rattle.session.specs.Claim.{oneMore, TotalsFollow, confirmed, counted, reportAt, presentedTally, receivedTally, Level, Beyond, JustReplied, Agreement, AfterAnyCalls, BothEndsTogether}
 use Rattle.session.proofs.Laws.Parties.{Told, told}
-use Rattle.session.proofs.Laws.Ledger.{openOf, lotOf, effectOf}
+use Rattle.session.proofs.Laws.Ledger.{openOf, lotOf, effectOf, lots-last, one-longer}
 use Rattle.session.proofs.Laws.Line.{accepts}
 use Rattle.session.proofs.Laws.Joined.{waitingEffect, Link, Joined, PresentingEnd, ReceivingEnd, presentingEnd, receivingEnd}
 use Rattle.session.proofs.Laws.Steps.{every-end, both-ends, at-its-end}
@@ -249,6 +249,18 @@ module _ (w : World) (all : Whole w) (p : End) where
         settled = settled;
         ready = all .ready;
       }
+
+-- and their reports' totals are equal, or the receiver's are larger by the lot that is named
+pub totals-follow : (w : World) (p : End) (a : Agreement w p) → TotalsFollow w p (a .agreed)
+totals-follow w p a = go (a .agreed)
+  where
+    go : (b : Beyond w p) → TotalsFollow w p b
+    go (Beyond.nothing same) = a .received ∙ ap tallied same ∙ sym (a .presented)
+    go (Beyond.oneLot l named more) =
+        a .received
+        ∙ ap tallied more
+        ∙ (λ i. record { lots = one-longer (confirmed w p) l i; gathered = lots-last (confirmed w p) l i })
+        ∙ ap (oneMore (lotSum l)) (sym (a .presented))
 
 -- both directions stay joined through any list of calls
 pub whole-after : AfterAnyCalls Whole

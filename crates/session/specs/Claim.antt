@@ -1,13 +1,15 @@
 -- Demand 3, 01's 'Both ends together': what holds of a direction, in which one end presents and the other receives, after any list of calls.
 -- The theorem is `agreement` of proofs/Agreement. docs/AGREEMENT.md leads from the demand's sentences to the fields.
-use Prim.Native.Nat.{ℕ}
+use Prim.Native.Nat.{ℕ, suc}
 use mathlib.Core.Path.{_≡_}
 use mathlib.Core.List.{List, [], _∷_, _++_}
 use mathlib.Core.Option.{some}
+use Rattle.session.specs.declared.counters.Lot.{Lot}
 use Rattle.session.specs.declared.report.Tally.{Tally}
 use Rattle.session.specs.declared.report.Awaited.{Awaited}
 use Rattle.session.specs.declared.report.Report.{Report}
 use Rattle.session.specs.Report.{report}
+use Rattle.session.specs.Running.{gather}
 use Rattle.session.specs.Ledger.{LedgerLot, lotSum, tallied, numbers, Distinct}
 use Rattle.session.specs.Engine.{Call, Ready}
 use Rattle.session.specs.Ends.{End, other, Event, World, Step, run, Possible, begun, StartsAccepted}
@@ -72,6 +74,16 @@ pub record Agreement (w : World) (p : End) : Type 0 where
   pub settled : JustReplied w p → (reportAt w p .awaited ≡ Awaited.Neither) × Level w p
   -- beside the demand: the premise of every call holds at both ends, so the theorem is about the engine that runs
   pub ready : (x : End) → Ready (w .engine x)
+
+-- totals that are larger by exactly one lot
+abbrev pub oneMore : Lot → Tally → Tally
+oneMore lot t = record { lots = suc (t .lots); gathered = gather (t .gathered) (lot .gathered) }
+
+-- What follows for the two reports, by what is counted beyond: equal totals, or the receiver's larger by that lot. It is `totals-follow` of
+-- proofs/Agreement.
+abbrev pub TotalsFollow : (w : World) (p : End) → Beyond w p → Type 0
+TotalsFollow w p (Beyond.nothing same) = receivedTally w p ≡ presentedTally w p
+TotalsFollow w p (Beyond.oneLot lot named more) = receivedTally w p ≡ oneMore (lotSum lot) (presentedTally w p)
 
 -- what holds after any list of calls: whatever the date, the pair and the represented entities of two starts that were not refused, after any calls
 -- at either end, with any arguments, over a line that brings what was written and nothing else

@@ -25,9 +25,9 @@ use Rattle.session.specs.Sending.{Send}
 use Rattle.session.specs.Engine.{Call, Engine}
 use Rattle.session.specs.Ends.{End, World, Step, act, run, Possible, begun}
 use Rattle.session.specs.Report.{awaited, report}
-use Rattle.session.specs.Ledger.{tallied}
-use Rattle.session.specs.Claim.{reportAt, presentedTally, receivedTally, Agreement, Beyond}
+use Rattle.session.specs.Claim.{reportAt, presentedTally, receivedTally, Agreement, Beyond, TotalsFollow}
 use Rattle.session.proofs.Laws.EveryCall.{pendingIn, ticked-pending}
+use Rattle.session.proofs.Agreement.{totals-follow}
 use Rattle.exchange.specs.declared.shown.Sums.{Sums}
 use Rattle.exchange.specs.declared.shown.Evening.{Evening}
 use Rattle.exchange.specs.Fixed.{moment, office, lotParts}
@@ -124,14 +124,14 @@ module _ (nearPresentations nearReturns farPresentations farReturns : List ℕ) 
   none-awaited x = ap awaited (idle x)
 
   level : (p : End) → receivedTally after p ≡ presentedTally after p
-  level p = go (claim .agreed)
+  level p = go (claim .agreed) (totals-follow after p claim)
     where
       claim : Agreement after p
       claim = agrees after led p
 
-      go : Beyond after p → receivedTally after p ≡ presentedTally after p
-      go (Beyond.nothing l) = claim .received ∙ ap tallied l ∙ sym (claim .presented)
-      go (Beyond.oneLot l n more) = absurd (not-named (sym (none-awaited p) ∙ n .shown))
+      go : (b : Beyond after p) → TotalsFollow after p b → receivedTally after p ≡ presentedTally after p
+      go (Beyond.nothing l) same = same
+      go (Beyond.oneLot l n more) same = absurd (not-named (sym (none-awaited p) ∙ n .shown))
         where
           not-named : {l : Lot} → Awaited.Neither ≡ Awaited.LotTotal l → ⊥
           not-named e = let z : _≡_ {A = ℕ} 0 1 = ap awaitedNumber e in omega arith
