@@ -12,6 +12,7 @@ use Rattle.codes.proofs.Cases.{Case, _is_, AllDue, with-byte}
 use Rattle.document.specs.Operation.{presentedNumber}
 use Rattle.detail.specs.Limits.{headBytes}
 use Rattle.detail.proofs.Cases.{printed}
+use Rattle.session.specs.Limits.{mostLotDocuments, mostLots}
 use Rattle.session.specs.Running.{empty}
 use Rattle.session.specs.Sequence.{headerSequence, lotSequence, lotTotalSequence, sessionTotalSequence}
 use Rattle.session.specs.Sending.{Send}
@@ -59,18 +60,18 @@ in-order :
     -- a header sent: 01, 07, 10, 11
     ∷ numberOf openPresenter (sending 80000 (Sent.header 0)) is Answer.number 1
     ∷ numberOf openPresenter (sending 83700 (Sent.header 8)) is Answer.number (headerSequence false seven)
-    ∷ numberOf (withLots 64 presenter) (sending 83700 (Sent.header 7)) is Answer.number 10
+    ∷ numberOf (withLots mostLots presenter) (sending 83700 (Sent.header 7)) is Answer.number 10
     -- received: 01, 07, 10, 04, 11
     ∷ replyOf openReceiver (arriving 80000 2 (Sent.header 0)) is Answer.reply 0 86 1 7 0
     ∷ replyOf openReceiver (arriving 83700 2 (Sent.header 8)) is Answer.reply 0 86 (headerSequence false seven) 7 0
     ∷ replyOf onePast (arriving 83700 4 (Sent.header 7)) is Answer.reply 0 86 10 0 0
-    ∷ replyOf (withLots 64 onePast) (arriving 80000 4 (Sent.header 7)) is Answer.reply 0 86 4 0 0
+    ∷ replyOf (withLots mostLots onePast) (arriving 80000 4 (Sent.header 7)) is Answer.reply 0 86 4 0 0
     -- a detail sent: its own codes, then 07, 12; no calls lead to documents with no lot open, so 07 before 12 is of the definitions alone
     ∷ numberOf presenter (Call.send 80000 (Send.detail presentedNumber (drop headBytes (with-byte 35 0x0A printed)))) is Answer.number 3
-    ∷ numberOf (holding 2600 presenter) (sending 80000 detail) is Answer.number (lotSequence false none)
+    ∷ numberOf (holding mostLotDocuments presenter) (sending 80000 detail) is Answer.number (lotSequence false none)
     -- received
     ∷ replyOf receiver (arriving 80000 1 (withDrawee 0x73)) is Answer.reply 0 86 6 0 0
-    ∷ replyOf (holding 2600 receiver) (arriving 80000 1 detail) is Answer.reply 0 86 (lotSequence false none) 0 2600
+    ∷ replyOf (holding mostLotDocuments receiver) (arriving 80000 1 detail) is Answer.reply 0 86 (lotSequence false none) 0 mostLotDocuments
     -- a lot total received: 03, 07, 04, 08
     ∷ replyOf receiver (noDigit 1 34 (total 7)) is Answer.reply 0 87 3 0 0
     ∷ replyOf onePast (arriving 80000 4 (total 8)) is Answer.reply 0 87 (lotTotalSequence false 8 none empty) 0 0
