@@ -18,7 +18,7 @@ use contract.Running.{GhostRules, Running as Runs, tables, tablesOf}
 use contract.Monad.{fact, factI, fact-use}
 use contract.Lifetimes.{Lfts, Shares, AllOutlive}
 use sound.WpLaws.{fmOf, WpFn-mono}
-use types.Kit.{some, later, nth, put, use3, fpick, fpack, Soaks, Goal, Post, runs, lands, frees, Seq, Step, step, await, pick, rewrite}
+use types.Kit.{some, later, nth, put, use0, use3, fpick, fpack, Soaks, Goal, Post, runs, lands, frees, Seq, Step, step, await, pick, rewrite}
 use types.Run.{Reads, Rv, Opd, Opds, look-raw, store-raw, forget, fld, assigns, land, free1}
 use types.Part.{Part}
 use types.SemTy.{Body as Cell}
@@ -27,8 +27,8 @@ use denote.Lend.{lends-ref, ref-back}
 use denote.RattleType.{RattleType, flat}
 use denote.Laws.{Ises, Are, Spells, Tellss, Tells, Typed, Makes, Lawful, valss, shows}
 use denote.Memory.{cellAt, mem, partOf}
-use denote.Plain.{uint-vals, uint-tells, uint-makes, uint-lawful, bool-vals, bool-tells, bool-makes, bool-lawful}
-use denote.Builtin.{u32, bool}
+use denote.Plain.{uint-vals, uint-tells, uint-makes, uint-lawful}
+use denote.Builtin.{u32}
 pub use denote.Builtin.{u8}
 use denote.Exit.{Last, left, yes}
 use denote.Ref.{ptr-vals, mut-tells}
@@ -46,6 +46,8 @@ use denote.Triple.Entry.{Args, Res, alive}
 use denote.Triple.Spec.{Meets}
 use denote.Triple.Table.{entered}
 use denote.Triple.Walked.{Stay, Stays, Goes, AllGo, stay-dropped, gave-ref, gave-slice, goes-dropped, goes-gave-ref, goes-gave-slice, walked, walk-meets}
+use Rattle.lent.proofs.leaving.leave as leave
+use Rattle.lent.proofs.leaving.leave.Symbol.{name as #leave}
 use Rattle.session.proofs.running.Running as T
 use Rattle.session.proofs.running.Running.Laws as T′
 use Rattle.session.proofs.session.Session as S
@@ -59,7 +61,6 @@ use Rattle.receiving.proofs.receive.Received.Laws as D′
 use Rattle.receiving.proofs.receive.ReceiveOutcome as O
 use Rattle.receiving.proofs.receive.ReceiveOutcome.Laws as O′
 pub use Prim.Native.Nat.{ℕ}
-pub use mathlib.Core.Bool.{Bool}
 pub use mathlib.Core.Path.{_≡_, refl, ap}
 pub use mathlib.Core.List.{List, [], _∷_}
 pub use lib.ListN.{length}
@@ -77,7 +78,7 @@ pub use ghost.Atoms.{Atoms}
 pub use contract.Monad.{Fun}
 pub use contract.Running.{givenOf}
 pub use sound.WpLaws.{FmC}
-pub use types.Kit.{Given, Item, ‵, raw, _⊛_, ⋆, _$_, _∵_, !, qed, by, move, keep, drop, group, use0, use1, split, split3, join, fsplit, fsplit3, fjoin, feqL, feqI, suffices, frame, done}
+pub use types.Kit.{Given, Item, ‵, raw, _⊛_, ⋆, _$_, _∵_, !, qed, by, move, keep, drop, group, use1, split, split3, join, fsplit, fsplit3, fjoin, feqL, feqI, suffices, frame, done}
 pub use types.Run.{look, init, stop, hop, from, load, addr, unit-lit, of-opd, and-then, no-more, returns, enter, alloc1, alloc0, params1, pass1, pass0, free0}
 pub use types.Part.{agg, whole, sub, look-in}
 pub use denote.RattleType.{owns}
@@ -119,9 +120,6 @@ totalsBytes = size T′.mir
 
 abbrev pub number : Plain
 number = record { type = u32; spell = uint-vals w32; tells = uint-tells w32; makes = λ 𝓤 H A W. uint-makes 𝓤 H A W w32; lawful = λ 𝓤 H A W. uint-lawful 𝓤 H A W w32 }
-
-abbrev pub truth : Plain
-truth = record { type = bool; spell = bool-vals; tells = bool-tells; makes = bool-makes; lawful = bool-lawful }
 
 abbrev pub received : Plain
 received = declared D.the-type D′.the-laws D′.the-plain
@@ -207,14 +205,18 @@ module _ {M : Type 1} {𝓤 : URA M} (κ : Lft) (q : Share) (γ : GName) (b o : 
   abbrev Opened : List (Item 𝓤)
   Opened = ‵ (cellAt fullShare (T.the-row .mir) (totals .spell h) b o) ∷ ‵ (T.the-row .own h (totals .spell h)) ∷ ‵ (fobor κ q (Cell (mem T.the-row) b o γ)) ∷ ‵ (fobs γ (T.the-row .coded .code h)) ∷ ‵ (fauth γ (T.the-row .coded .code h)) ∷ Γ
 
+-- and what is left of them where they are lent no longer: their last value, and the token
+abbrev pub Settled : {M : Type 1} {𝓤 : URA M} → Lft → Share → GName → Running → List (Item 𝓤) → List (Item 𝓤)
+Settled κ q γ h Γ = ‵ (fres γ (T.the-row .coded .code h)) ∷ ‵ (flft κ q) ∷ Γ
+
 -- ---- steps
 module _ {M : Type 1} {𝓤 : URA M} {H : Heap 𝓤} {A : Atoms 𝓤} {K : Type 0} {W : Given 𝓤 H A} {Γ : List (Item 𝓤)} where
   -- what a plain value owns is had for nothing
   pub has : K → {G : Goal 𝓤 H} (k : Plain) (x : k .type .Denot) {vs : List Val} → Is (k .type) x vs → Step K W (‵ (k .type .own x vs) ∷ Γ) G Γ G
   has t k x {vs} is = owned t (k .type) (Is (k .type)) (k .makes 𝓤 H A W) x vs is
 
-  -- running totals that are no longer lent: what is left of them is their last value
-  pub settled : K → {G : Goal 𝓤 H} {κ : Lft} {q : Share} {γ : GName} (b o : ℕ) (h : Running) → Step K W (‵ (fres γ (T.the-row .coded .code h)) ∷ ‵ (flft κ q) ∷ Γ) G (Lent κ q γ b o h Γ) G
+  -- running totals are lent no longer
+  pub settled : K → {G : Goal 𝓤 H} {κ : Lft} {q : Share} {γ : GName} (b o : ℕ) (h : Running) → Step K W (Settled κ q γ h Γ) G (Lent κ q γ b o h Γ) G
   settled t {γ = γ} b o h = step (λ s. use1 W (‵ (fres γ (T.the-row .coded .code h))) (W .names .obs-res γ (T.the-row .coded .code h)) $ move t (1 ∷ []) $ drop t $ s)
 
   -- running totals in a local are lent for a lifetime ν that is made for it
@@ -248,7 +250,7 @@ module _ {M : Type 1} {𝓤 : URA M} {H : Heap 𝓤} {A : Atoms 𝓤} {K : Type 
   here t r = load t (from t (stop t)) r
 
   -- a field of a local is read; nothing but a struct has one
-  field-of : K → {E : Env 𝓤 H} {i k : ℕ} (σ : Ty) {vs : Vals} {τ : Ty} {d : ℕ} (n : ℕ) → fieldOf σ k ≡ just (τ, d) → spotOf 𝓤 H E i .0 ≡ σ → nth 𝓤 H A n Γ ≡ ‵ (fat fullShare σ (spotOf 𝓤 H E i .1) zero (vstruct vs))
+  pub field-of : K → {E : Env 𝓤 H} {i k : ℕ} (σ : Ty) {vs : Vals} {τ : Ty} {d : ℕ} (n : ℕ) → fieldOf σ k ≡ just (τ, d) → spotOf 𝓤 H E i .0 ≡ σ → nth 𝓤 H A n Γ ≡ ‵ (fat fullShare σ (spotOf 𝓤 H E i .1) zero (vstruct vs))
       → Opd K W Γ E (copy (place i (field k ∷ []))) (getV vs k)
   field-of t {E} {i} {k} (tyStruct ν τs) {vs} n at-k is-i at-i =
       load t (from t (fld t (ap (λ (ρ : Ty). fieldOf ρ k) is-i ∙ at-k) (stop t)))
@@ -318,18 +320,36 @@ module _ {M : Type 1} {𝓤 : URA M} {H : Heap 𝓤} {A : Atoms 𝓤} {K : Type 
         use1 W (later (some (λ (r : Res (S .signature) (y .0 .0)). (raw (alive 𝓤 H A (S .signature) (y .0 .0) (y .0 .1)) ⊛ ‵ (typeAt (S .signature .result) (y .0 .0) .own r (v ∷ []))) ⊛ raw (ensured 𝓤 H A S c (y .0 .0) (y .0 .3) (y .1) r)))) (id⊢ 𝓤 _) $ await t tt $ pick t (λ r.
         split t $ split t $ move t (1 ∷ []) $ peeks t (typeAt (S .signature .result) (y .0 .0)) (Is (typeAt (S .signature .result) (y .0 .0))) (shows 𝓤 H A (typeAt (S .signature .result) (y .0 .0))) r (v ∷ []) (λ is. drop t $ move t (1 ∷ 0 ∷ []) $ k v r is)))
 
-module _ {M : Type 1} {𝓤 : URA M} {H : Heap 𝓤} {A : Atoms 𝓤} {K : Type 0} {W : Given 𝓤 H A} {Γ : List (Item 𝓤)} {C : Calls 𝓤 H} {Λ : Loops 𝓤 H} {E : Env 𝓤 H} {Q : Post 𝓤 H} {rest : Body} where
-  -- `*p = i.0; i.1`, of a local that holds running totals and what else a call gives, as machine values x and y
-  pub gives : K → {i p : ℕ} (σ : Ty) {τ : Ty} {d : ℕ} {κ : Lft} {q : Share} {γ : GName} {b o : ℕ} {h : Running} {x y : Val} (n m z : ℕ)
-      → fieldOf σ 0 ≡ just (T′.mir, 0) → fieldOf σ 1 ≡ just (τ, d) → spotOf 𝓤 H E i .0 ≡ σ
+-- ---- `leave`, by which the calls of this crate change what they are lent: it is lent on to it, and comes back as its last value
+module _ {M : Type 1} (𝓤 : URA M) (H : Heap 𝓤) (A : Atoms 𝓤) (memory : Memory → SProp 𝓤) (run : Routine → Fun 𝓤) where
+  abbrev pub Leave : Contract 𝓤
+  Leave = tripleOf 𝓤 H A leave.signature (leave.spec 𝓤 H A memory run)
+
+  -- with h lent at (b, o), and h′ left, as the machine value x
+  abbrev leaving : (κ : Lft) (q : Share) (γ : GName) (b o : ℕ) (h h′ : Running) (x : Val) → Leave .Ghost
+  leaving κ q γ b o h h′ x = (((κ, tt), (q, tt), tt, (record { ptr = (b, o); name = γ; now = h }, (h′, tt)), (vptr b o ∷ [], (x ∷ [], tt))), tt)
+
+  hands-on : (W : Given 𝓤 H A) (κ : Lft) (q : Share) (γ : GName) (b o : ℕ) (h h′ : Running) (x : Val) → Is T.the-row h′ (x ∷ []) → ent 𝓤 (⋆ 𝓤 H A (Lent κ q γ b o h [])) (Leave .pre (leaving κ q γ b o h h′ x))
+  hands-on W κ q γ b o h h′ x is =
+      qed W (Lent κ q γ b o h []) ∵ nothing ! $ has ! totals h′ is $ fjoin ! $ move ! (1 ∷ 2 ∷ []) $ fjoin ! $ feqI ! (List Val) (vptr b o ∷ []) (vptr b o ∷ []) refl $ fjoin ! $ fjoin ! $
+      nothing ! $ move ! (2 ∷ 0 ∷ []) $ join ! $ join ! $ frame ! $ done !
+
+module _ {M : Type 1} {𝓤 : URA M} {H : Heap 𝓤} {A : Atoms 𝓤} {K : Type 0} {W : Given 𝓤 H A} {Γ : List (Item 𝓤)} {C : Calls 𝓤 H} {Λ : Loops 𝓤 H} {E : Env 𝓤 H} {Q : Post 𝓤 H} {rest : Body} (memory : Memory → SProp 𝓤) (run : Routine → Fun 𝓤) where
+  -- `u = leave(p, i.0)`, of a local i that holds running totals and what else a call gives, as machine values x and y
+  pub leaves : K → FmC 𝓤 H (W .laws) C → Triple 𝓤 (C #leave) (Leave 𝓤 H A memory run) → {i p u : ℕ} (σ : Ty) {κ : Lft} {q : Share} {γ : GName} {b o : ℕ} {h : Running} {x y : Val} (n m k : ℕ) → fieldOf σ 0 ≡ just (T′.mir, 0) → spotOf 𝓤 H E i .0 ≡ σ
       → nth 𝓤 H A n Γ ≡ ‵ (fat fullShare (spotOf 𝓤 H E p .0) (spotOf 𝓤 H E p .1) zero (vptr b o)) → nth 𝓤 H A m Γ ≡ ‵ (fat fullShare σ (spotOf 𝓤 H E i .1) zero (vstruct (vcons x (vcons y vnil))))
-      → nth 𝓤 H A z Γ ≡ ‵ (froom (spotOf 𝓤 H E zero .0) (spotOf 𝓤 H E zero .1) zero) → Holds (hasTy (spotOf 𝓤 H E zero .0) y) × WT y → (h′ : Running) → Is T.the-row h′ (x ∷ [])
-      → Step K W (Lent κ q γ b o h′ (put 𝓤 H A z (‵ (fat fullShare (spotOf 𝓤 H E zero .0) (spotOf 𝓤 H E zero .1) zero y)) Γ)) (runs C Λ E rest Q)
-      (Lent κ q γ b o h Γ) (runs C Λ E (seq (assign (place p (deref T′.mir ∷ [])) (rvOpd (copy (place i (field 0 ∷ []))))) (seq (assign (place 0 []) (rvOpd (copy (place i (field 1 ∷ []))))) rest)) Q)
-  gives t {i} σ {κ = κ} {q} {γ} {b} {o} {h} {x} {y} n m z at-0 at-1 is-i at-p at-i at-z fits h′ is =
-      let before : Opd K W (Opened κ q γ b o h Γ) E (copy (place i (field 0 ∷ []))) x = field-of t σ (suc (suc (suc (suc (suc m))))) at-0 is-i at-i in
-      let after : Opd K W (Lent κ q γ b o h′ Γ) E (copy (place i (field 1 ∷ []))) y = field-of t σ (suc (suc (suc m))) at-1 is-i at-i in
-      step (λ s. writes t {h = h} n at-p h′ x is before $ assigns t (of-opd t after) (from t (stop t)) (init t (suc (suc (suc z))) at-z fits) $ s)
+      → nth 𝓤 H A k Γ ≡ ‵ (froom (spotOf 𝓤 H E u .0) (spotOf 𝓤 H E u .1) zero) → Holds (hasTy (spotOf 𝓤 H E u .0) vunit) × WT vunit → (h′ : Running) → Is T.the-row h′ (x ∷ [])
+      → Step K W (Settled κ q γ h′ (put 𝓤 H A k (‵ (fat fullShare (spotOf 𝓤 H E u .0) (spotOf 𝓤 H E u .1) zero vunit)) Γ)) (runs C Λ E rest Q)
+      (Lent κ q γ b o h Γ) (runs C Λ E (seq (call #leave (copy (place p []) ∷ copy (place i (field 0 ∷ [])) ∷ []) (place u [])) rest) Q)
+  leaves t fm known {i} {p} {u} σ {κ} {q} {γ} {b} {o} {h} {x} {y} n m k at-0 is-i at-p at-i at-u fits h′ is =
+      let asked : Leave 𝓤 H A memory run .Ghost = leaving 𝓤 H A memory run κ q γ b o h h′ x in
+      let first : Opd K W (raw (Leave 𝓤 H A memory run .pre asked) ∷ Γ) E (copy (place p [])) (vptr b o) = here t (look t (suc n) at-p) in
+      let second : Opd K W (raw (Leave 𝓤 H A memory run .pre asked) ∷ Γ) E (copy (place i (field 0 ∷ []))) x = field-of t σ (suc m) at-0 is-i at-i in
+      step (λ s. group t 3 $ use1 W (raw (Leave 𝓤 H A memory run .pre asked)) (hands-on 𝓤 H A memory run W κ q γ b o h h′ x is) $
+      asks t fm leave.ended (leave.clauses 𝓤 H A memory run) known asked (and-then t first (and-then t second (no-more t))) (λ v r is-v.
+      subst (λ (w : Val). Seq K W (raw (ensured 𝓤 H A leave.ended (leave.clauses 𝓤 H A memory run) (asked .0 .0) (asked .0 .3) (asked .1) r) ∷ raw (alive 𝓤 H A (leave.ended .signature) (asked .0 .0) (asked .0 .1)) ∷ Γ) (lands C Λ E (place u []) w rest Q)) (sym (ap only is-v))
+      (hears t leave.ended (leave.clauses 𝓤 H A memory run) asked r (λ ws. ws .0 ≡ h′) (λ _. id⊢ 𝓤 _) (λ ws e. fsplit t $ move t (1 ∷ []) $ drop t $ move t (1 ∷ []) $ use1 W (‵ (flft κ q) ⊛ ‵ ftrue) (id⊢ 𝓤 _) $ split t $ move t (1 ∷ []) $ drop t $ move t (1 ∷ []) $
+      rewrite t 0 (λ (w : Running). ‵ (fres γ (T.the-row .coded .code w))) e refl $ into t (suc (suc k)) at-u fits $ s))))
 
 -- ---- a walk of a function with these parameters, from its entry with their machine values written out, is taken to the function's own statement
 module _ {M : Type 1} (𝓤 : URA M) (H : Heap 𝓤) (𝓜 : Model 𝓤 H) (𝓖 : GhostRules 𝓤 H) (𝓡 : Runs 𝓤 H 𝓜) (env : Routines) {n : ℕ} (ps : List (Param n)) (res : Slot n) where

@@ -1,4 +1,5 @@
 // Receiving, with the running totals of the received lot lent.
+use crate::leaving::leave;
 use receiving::receive::Received;
 use session::running::Running;
 use session::session::Session;
@@ -9,7 +10,7 @@ ghost use Rattle.session.specs.Premise.{Sound, Carried, KeptBeside};
 ghost use Rattle.session.specs.Outcome.{held};
 ghost use Rattle.receiving.specs.Said.{receivedSaid};
 
-// Takes a message of any bytes and writes the reply to it.
+// Takes a message of any bytes and writes the reply to it. A detail that it accepts is added to the running totals in place.
 pub fn receive(
     session: Session,
     running: &mut Running,
@@ -22,6 +23,6 @@ pub fn receive(
     ensures { λ r. ⌜ (receivedSaid r (now (running .exit)) (now (line .exit)) ≡ receive time (now (message .entry)) (held session (now (running .entry)) (now (line .entry)))) × KeptBeside Direction.receiving session (r .session) (now (running .exit)) ⌝ }
 {
     let outcome = receiving::receive::receive(session, *running, time, message, line);
-    *running = outcome.running;
+    leave(running, outcome.running);
     outcome.received
 }
