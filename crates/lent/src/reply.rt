@@ -12,7 +12,7 @@ ghost use Rattle.session.specs.Premise.{Sound, Carried, KeptBeside};
 ghost use Rattle.session.specs.Outcome.{held};
 ghost use Rattle.calls.specs.Said.{calledSaid};
 
-// Takes a reply of any bytes. A detail that was accepted by it is added to the running totals in place.
+// Takes a reply of any bytes. A detail that it accepts is added to the running totals in place.
 pub fn take_reply(session: Session, running: &mut Running, time: u32, reply: &[u8]) -> Called
     requires { ⌜ Sound session ⌝ }
     requires { ⌜ Carried Direction.presenting session (now running) ⌝ }
