@@ -3,6 +3,6 @@
 // to what they are lent: `leaving` has the one step by which they change it, and `example` a caller.
 
 pub mod example;
-pub mod leaving;
+mod leaving;
 pub mod receive;
 pub mod reply;
