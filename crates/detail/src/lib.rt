@@ -5,5 +5,5 @@ pub mod checked;
 mod documents;
 mod groups;
 pub mod reading;
-pub mod verdict;
+mod verdict;
 pub mod writing;

@@ -2,17 +2,15 @@
 use crate::COMMISSION;
 use crate::COMMISSION_BYTES;
 use crate::DRAWEE;
-use crate::KEY;
 use crate::NOMINAL;
 use crate::NOMINAL_BYTES;
+use crate::UNREAD_KEY;
 use packed::digits::are_digits;
 use packed::digits::is_digits;
 ghost use mathlib.Core.Path.{_≡_};
-ghost use mathlib.Core.Bool.{_&&_};
 ghost use lib.ListN.{length};
-ghost use Rattle.packed.specs.Part.{part};
-ghost use Rattle.packed.specs.Digits.{areDigits};
 ghost use Rattle.document.specs.Limits.{documentBytes};
+ghost use Rattle.document.specs.Inner.Digits.{fieldDigits, amountDigits, digitsToKey};
 
 // The bytes of the fields between the two amounts.
 const LATE_FIELDS: usize = COMMISSION - DRAWEE;
@@ -29,13 +27,13 @@ const RUN: usize = 16;
 
 const SECOND_RUN: usize = RUN;
 
-const THIRD_RUN: usize = KEY - RUN;
+const THIRD_RUN: usize = UNREAD_KEY - RUN;
 
 // Whether everything up to the key is digits. One loop over three runs of this width, without a branch, is what a compiler
 // makes the fastest code of.
 fn sweep(d: &[u8]) -> bool
     requires { ⌜ length (now d) ≡ documentBytes ⌝ }
-    ensures { λ r. ⌜ r ≡ areDigits (part 0 47 (now (d .entry))) ⌝ }
+    ensures { λ r. ⌜ r ≡ digitsToKey (now (d .entry)) ⌝ }
 {
     let mut first = true;
     let mut second = true;
@@ -53,8 +51,8 @@ fn sweep(d: &[u8]) -> bool
 // Amounts lie between fields. One sweep serves a good document; only after a fault is it asked where the fault lies.
 pub fn all_digits(d: &[u8]) -> AllDigits
     requires { ⌜ length (now d) ≡ documentBytes ⌝ }
-    ensures fields { λ r. ⌜ r .fields ≡ (areDigits (part 0 25 (now (d .entry))) && areDigits (part 31 12 (now (d .entry)))) ⌝ }
-    ensures amounts { λ r. ⌜ r .amounts ≡ (areDigits (part 25 6 (now (d .entry))) && areDigits (part 43 4 (now (d .entry)))) ⌝ }
+    ensures fields { λ r. ⌜ r .fields ≡ fieldDigits (now (d .entry)) ⌝ }
+    ensures amounts { λ r. ⌜ r .amounts ≡ amountDigits (now (d .entry)) ⌝ }
 {
     if sweep(d) {
         return AllDigits {

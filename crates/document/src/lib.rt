@@ -22,7 +22,8 @@ pub const DOCUMENT_BYTES: usize = 51;
 
 pub const MOST_DETAIL_DOCUMENTS: usize = 200;
 
-// Where the fields stand that more than one test reads, how wide the amounts are, and where the key is, which no test reads.
+// Where the fields stand that more than one test reads, how wide the amounts are, and where the four key bytes begin, which
+// no test reads.
 pub const NOMINAL: usize = 25;
 
 pub const NOMINAL_BYTES: usize = 6;
@@ -33,4 +34,4 @@ pub const COMMISSION: usize = 43;
 
 pub const COMMISSION_BYTES: usize = 4;
 
-pub const KEY: usize = 47;
+pub const UNREAD_KEY: usize = 47;

@@ -2,9 +2,7 @@
 use session::running::Running;
 ghost use mathlib.Core.Path.{_≡_};
 
-// The running totals that a call by value leaves take the place of those that are lent. An accepted detail is added in them;
-// after an accepted header, and after any reply to a lot total, there are none; all else leaves them. They are carried with
-// the session that the call gives, and so is what stands in place, since it is the same.
+// What a call by value leaves takes the place of what is lent. proofs/Added.antt says what that is after a detail.
 pub fn leave(running: &mut Running, left: Running)
     ensures { λ _. ⌜ now (running .exit) ≡ left ⌝ }
 {

@@ -67,8 +67,8 @@ pub fn send_written(a: SendAnswer) -> usize
     }
 }
 
-// Whether nothing stopped it.
-pub fn is_begun(o: SendOutcome) -> bool
+// Whether nothing stopped a send.
+pub fn is_unstopped(o: SendOutcome) -> bool
     ensures { λ r. ⌜ r ≡ unstopped (o .answer) ⌝ }
 {
     let answer = o.answer;

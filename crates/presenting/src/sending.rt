@@ -1,7 +1,7 @@
 // The four calls that send a message. Each stands whole at the start of the line buffer; nothing is counted before its
 // reply.
 use crate::answer::SendOutcome;
-use crate::answer::is_begun;
+use crate::answer::is_unstopped;
 use crate::post::begin;
 use crate::post::presenting_route;
 use crate::stops::detail_stop;
@@ -58,7 +58,7 @@ pub fn send_header(
         Effect::Header(number),
         line,
     );
-    if is_begun(begun) {
+    if is_unstopped(begun) {
         let header = Header {
             time: moment,
             centre: centre,
@@ -100,7 +100,7 @@ pub fn send_detail(
     let adds = stop.adds;
     let bytes = ENVELOPE_BYTES + written_bytes(part);
     let begun = begin(session, time, code, bytes, Effect::Detail(adds), line);
-    if is_begun(begun) {
+    if is_unstopped(begun) {
         write_detail(
             &mut line[ENVELOPE_BYTES..],
             packed_byte(operation as u64),
@@ -145,7 +145,7 @@ pub fn send_lot_total(session: Session, running: Running, time: u32, line: &mut 
         Effect::LotTotal(lot),
         line,
     );
-    if is_begun(begun) {
+    if is_unstopped(begun) {
         let total = Total {
             number: number,
             stated: stated(running),
@@ -175,7 +175,7 @@ pub fn send_session_total(session: Session, time: u32, line: &mut [u8]) -> SendO
         Effect::SessionTotal,
         line,
     );
-    if is_begun(begun) {
+    if is_unstopped(begun) {
         let total = Total {
             number: counters.lots as u16,
             stated: stated(gathered),

@@ -12,7 +12,7 @@ use session::running::Running;
 use session::session::Receiving;
 ghost use mathlib.Core.Path.{_≡_};
 ghost use mathlib.Core.Bool.{cond};
-ghost use Rattle.session.specs.Receiving.{earnedCode, receivingCourse, receivingAfter};
+ghost use Rattle.receiving.specs.Inner.Handled.{newReceiving, newRunning};
 ghost use Rattle.receiving.specs.Inner.Lent.{Lent};
 
 // The direction, and the running totals beside it.
@@ -24,8 +24,8 @@ pub struct Handled {
 // A new message: its serial becomes the last, its reply is kept, and what it does is counted.
 fn handle(time: u32, body: &[u8], p: Parties, running: Running, r: Receiving) -> Handled
     requires { ⌜ Lent p running r ⌝ }
-    ensures receiving { λ h. ⌜ h .receiving ≡ receivingAfter (earnedCode time (now (body .entry)) p running r) (now (body .entry)) running r ⌝ }
-    ensures running { λ h. ⌜ h .running ≡ receivingCourse (earnedCode time (now (body .entry)) p running r) (now (body .entry)) running r .running ⌝ }
+    ensures receiving { λ h. ⌜ h .receiving ≡ newReceiving time (now (body .entry)) p running r ⌝ }
+    ensures running { λ h. ⌜ h .running ≡ newRunning time (now (body .entry)) p running r ⌝ }
 {
     let content = content_of(body);
     let found = earned(content, time, body, p, running, r);
@@ -64,8 +64,8 @@ pub fn handle_if(
     r: Receiving,
 ) -> Handled
     requires { ⌜ Lent p running r ⌝ }
-    ensures receiving { λ h. ⌜ h .receiving ≡ cond next (receivingAfter (earnedCode time (now (body .entry)) p running r) (now (body .entry)) running r) r ⌝ }
-    ensures running { λ h. ⌜ h .running ≡ cond next (receivingCourse (earnedCode time (now (body .entry)) p running r) (now (body .entry)) running r .running) running ⌝ }
+    ensures receiving { λ h. ⌜ h .receiving ≡ cond next (newReceiving time (now (body .entry)) p running r) r ⌝ }
+    ensures running { λ h. ⌜ h .running ≡ cond next (newRunning time (now (body .entry)) p running r) running ⌝ }
 {
     if next {
         return handle(time, body, p, running, r);

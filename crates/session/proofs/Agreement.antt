@@ -26,7 +26,7 @@ use Rattle.session.specs.Ledger.{LedgerLot, Ledger, Entry, blank, enter,
 use Rattle.session.specs.Engine.{Call, Engine, performed, saidBy, withEmpty, Ready}
 use Rattle.session.specs.Ends.{End, other, Event, World, Step, replaced, act, run, Brought, Possible, engines, begun, StartsAccepted}
 use Rattle.session.specs.Entering.{Waiting, namedLot, namedBy, awaitedBy, toBeNamed, PresenterLedger, unpresented, ReceiverLedger, presenterEnters, receiverEnters, presenterLedgerAt, receiverLedgerAt}
-use Rattle.session.specs.Claim.{oneMore, TotalsFollow, confirmed, counted, reportAt, presentedTally, receivedTally, Level, Beyond, JustReplied, Agreement, AfterAnyCalls, BothEndsTogether}
+use Rattle.session.specs.Claim.{LevelTotals, oneMore, TotalsFollow, confirmed, counted, reportAt, presentedTally, receivedTally, Level, Beyond, JustReplied, Agreement, AfterAnyCalls, BothEndsTogether}
 use Rattle.session.proofs.Laws.Parties.{Told, told}
 use Rattle.session.proofs.Laws.Ledger.{openOf, lotOf, effectOf, lots-last, one-longer}
 use Rattle.session.proofs.Laws.Line.{accepts}
@@ -250,12 +250,15 @@ module _ (w : World) (all : Whole w) (p : End) where
         ready = all .ready;
       }
 
--- and their reports' totals are equal, or the receiver's are larger by the lot that is named
+-- so do the totals of their reports: equal where they are level, else the receiver's larger by the lot that is named
+pub level-totals : (w : World) (p : End) → Agreement w p → LevelTotals w p
+level-totals w p a same = a .received ∙ ap tallied same ∙ sym (a .presented)
+
 pub totals-follow : (w : World) (p : End) (a : Agreement w p) → TotalsFollow w p (a .agreed)
 totals-follow w p a = go (a .agreed)
   where
     go : (b : Beyond w p) → TotalsFollow w p b
-    go (Beyond.nothing same) = a .received ∙ ap tallied same ∙ sym (a .presented)
+    go (Beyond.nothing same) = level-totals w p a same
     go (Beyond.oneLot l named more) =
         a .received
         ∙ ap tallied more

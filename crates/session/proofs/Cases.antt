@@ -28,7 +28,7 @@ use Rattle.session.specs.Engine.{Call, Engine, Performed, performed, sai
 use Rattle.session.specs.Ends.{End}
 use Rattle.session.proofs.Examples.{computing, buffer, moment, Sent, messageFrom, replyTo, sending, receiving, replied}
 
--- what a case gets; beside a reply stand the open lot, 0 for none, and its documents
+-- what a case gets; beside a reply stand the open lot, 0 for noneOpen, and its documents
 pub data Answer : Type 0 where
   checked : Checked → Answer
   number : ℕ → Answer
@@ -207,37 +207,37 @@ representing = after (arriving 80000 1 (Sent.header 7) ∷ []) (withEmpty (start
 abbrev pub withDrawee : (byte : ℕ) → Sent
 withDrawee b = Sent.detail presentedNumber (drop headBytes (with-byte 37 b printed))
 
--- a header but for its operation, which is none of 01's
+-- a header but for its operation, which is noneOpen of 01's
 abbrev strange : Call
 strange = Call.receive 80000 (with-byte 15 0x02 (messageFrom End.near 1 (Sent.header 7)))
 
 -- no lot is open, and lot 7 is
-abbrev pub none : OpenLot
-none = OpenLot.None
+abbrev pub noneOpen : OpenLot
+noneOpen = OpenLot.None
 
-abbrev pub seven : OpenLot
-seven = OpenLot.Numbered 7
+abbrev pub sevenOpen : OpenLot
+sevenOpen = OpenLot.Numbered 7
 
 -- 07, clause by clause: what the definitions of a message's place give. The rows of calls below, and those of Order and Runs, cite the definitions.
 places :
     let cases : List (Case ℕ) =
     -- a header, and a session total: after the end, in a lot, between lots
-    headerSequence true none is 7
-    ∷ headerSequence false seven is 7
-    ∷ headerSequence false none is 0
-    ∷ sessionTotalSequence true none is 7
-    ∷ sessionTotalSequence false seven is 7
-    ∷ sessionTotalSequence false none is 0
+    headerSequence true noneOpen is 7
+    ∷ headerSequence false sevenOpen is 7
+    ∷ headerSequence false noneOpen is 0
+    ∷ sessionTotalSequence true noneOpen is 7
+    ∷ sessionTotalSequence false sevenOpen is 7
+    ∷ sessionTotalSequence false noneOpen is 0
     -- a detail, and a lot total as its presenter asks for it: after the end, with no lot open, in a lot
-    ∷ lotSequence true none is 7
-    ∷ lotSequence false none is 7
-    ∷ lotSequence false seven is 0
+    ∷ lotSequence true noneOpen is 7
+    ∷ lotSequence false noneOpen is 7
+    ∷ lotSequence false sevenOpen is 0
     -- a lot total as its receiver does: after the end, with no lot open, of another lot, with no detail, in its place
-    ∷ lotTotalSequence true 7 none empty is 7
-    ∷ lotTotalSequence false 7 none empty is 7
-    ∷ lotTotalSequence false 8 seven (adding presented (totals 1 15000 30)) is 7
-    ∷ lotTotalSequence false 7 seven empty is 7
-    ∷ lotTotalSequence false 7 seven (adding presented (totals 1 15000 30)) is 0
+    ∷ lotTotalSequence true 7 noneOpen empty is 7
+    ∷ lotTotalSequence false 7 noneOpen empty is 7
+    ∷ lotTotalSequence false 8 sevenOpen (adding presented (totals 1 15000 30)) is 7
+    ∷ lotTotalSequence false 7 sevenOpen empty is 7
+    ∷ lotTotalSequence false 7 sevenOpen (adding presented (totals 1 15000 30)) is 0
     ∷ []
     in
     AllDue cases
@@ -279,20 +279,20 @@ every-number :
     ∷ numberOf presenter (Call.send 80000 (Send.header 24000000 1 7)) is Answer.number 1
     ∷ numberOf presenter (Call.send 80000 (Send.header moment 1 0)) is Answer.number 1
     ∷ numberOf presenter (Call.send 80000 (Send.detail 31 (drop headBytes printed))) is Answer.number 1
-    ∷ numberOf openPresenter (sending 80000 (Sent.header 8)) is Answer.number (headerSequence false seven)
-    ∷ numberOf presenter (sending 80000 detail) is Answer.number (lotSequence false none)
-    ∷ numberOf presenter (sending 80000 (total 7)) is Answer.number (lotSequence false none)
-    ∷ numberOf openPresenter (sending 80000 (Sent.sessionTotal 0 zeros)) is Answer.number (sessionTotalSequence false seven)
+    ∷ numberOf openPresenter (sending 80000 (Sent.header 8)) is Answer.number (headerSequence false sevenOpen)
+    ∷ numberOf presenter (sending 80000 detail) is Answer.number (lotSequence false noneOpen)
+    ∷ numberOf presenter (sending 80000 (total 7)) is Answer.number (lotSequence false noneOpen)
+    ∷ numberOf openPresenter (sending 80000 (Sent.sessionTotal 0 zeros)) is Answer.number (sessionTotalSequence false sevenOpen)
     ∷ numberOf openPresenter (sending 80000 (total 7)) is Answer.number 0
-    ∷ numberOf endedPresenter (sending 80000 (Sent.header 7)) is Answer.number (headerSequence true none)
-    ∷ numberOf endedPresenter (sending 80000 (Sent.sessionTotal 0 zeros)) is Answer.number (sessionTotalSequence true none)
+    ∷ numberOf endedPresenter (sending 80000 (Sent.header 7)) is Answer.number (headerSequence true noneOpen)
+    ∷ numberOf endedPresenter (sending 80000 (Sent.sessionTotal 0 zeros)) is Answer.number (sessionTotalSequence true noneOpen)
     -- 07 in replies
-    ∷ replyOf openReceiver (arriving 80000 2 (Sent.header 8)) is Answer.reply 0 86 (headerSequence false seven) 7 0
-    ∷ replyOf receiver (arriving 80000 1 detail) is Answer.reply 0 86 (lotSequence false none) 0 0
-    ∷ replyOf (after (arriving 80000 2 detail ∷ []) openReceiver) (arriving 80000 3 (total 8)) is Answer.reply 0 87 (lotTotalSequence false 8 seven empty) 0 0
-    ∷ replyOf openReceiver (arriving 80000 2 (Sent.sessionTotal 0 zeros)) is Answer.reply 0 97 (sessionTotalSequence false seven) 7 0
-    ∷ replyOf endedReceiver (arriving 80000 2 (Sent.header 7)) is Answer.reply 0 86 (headerSequence true none) 0 0
-    ∷ replyOf endedReceiver (arriving 80000 2 (Sent.sessionTotal 0 zeros)) is Answer.reply 0 97 (sessionTotalSequence true none) 0 0
+    ∷ replyOf openReceiver (arriving 80000 2 (Sent.header 8)) is Answer.reply 0 86 (headerSequence false sevenOpen) 7 0
+    ∷ replyOf receiver (arriving 80000 1 detail) is Answer.reply 0 86 (lotSequence false noneOpen) 0 0
+    ∷ replyOf (after (arriving 80000 2 detail ∷ []) openReceiver) (arriving 80000 3 (total 8)) is Answer.reply 0 87 (lotTotalSequence false 8 sevenOpen (adding presented (totals 1 15000 30))) 0 0
+    ∷ replyOf openReceiver (arriving 80000 2 (Sent.sessionTotal 0 zeros)) is Answer.reply 0 97 (sessionTotalSequence false sevenOpen) 7 0
+    ∷ replyOf endedReceiver (arriving 80000 2 (Sent.header 7)) is Answer.reply 0 86 (headerSequence true noneOpen) 0 0
+    ∷ replyOf endedReceiver (arriving 80000 2 (Sent.sessionTotal 0 zeros)) is Answer.reply 0 97 (sessionTotalSequence true noneOpen) 0 0
     -- 04, 11, 08
     ∷ replyOf onePast (arriving 80000 4 (Sent.header 7)) is Answer.reply 0 86 4 0 0
     ∷ replyOf (withLots 63 receiver) (arriving 80000 1 (Sent.header 7)) is Answer.reply 0 86 0 7 0
@@ -327,7 +327,7 @@ every-number :
     ∷ startOf 140328 81 81 [] is Answer.number 24
     ∷ startOf 140328 81 72 (replicate 9 0) is Answer.number 24
     ∷ startOf 140328 81 72 (10000 ∷ []) is Answer.number 24
-    -- the close is in order where both directions have ended, and a second before the hour there is none
+    -- the close is in order where both directions have ended, and a second before the hour there is noneOpen
     ∷ closeOf bothEnded (Call.clock 84599) is Answer.close Close.Open
     ∷ closeOf bothEnded (Call.clock 84600) is Answer.close Close.Ordered
     ∷ closeOf endedPresenter (Call.clock 84600) is Answer.close Close.Forced

@@ -19,7 +19,7 @@ use Rattle.session.specs.Sending.{Send}
 use Rattle.session.specs.Engine.{Call, Engine}
 use Rattle.session.specs.Ends.{End}
 use Rattle.session.proofs.Examples.{computing, Sent, messageFrom, replyTo, sending}
-use Rattle.session.proofs.Cases.{Answer, numberOf, numberInRoom, replyOf, presenter, receiver, arriving, after, openPresenter, openReceiver, holding, detail, withDrawee, total, five, withLots, withSerial, onePast, none, seven}
+use Rattle.session.proofs.Cases.{Answer, numberOf, numberInRoom, replyOf, presenter, receiver, arriving, after, openPresenter, openReceiver, holding, detail, withDrawee, total, five, withLots, withSerial, onePast, noneOpen, sevenOpen}
 
 -- at the close, and with a header that awaits its reply
 abbrev closed : Engine
@@ -59,26 +59,26 @@ in-order :
     ∷ numberInRoom 30 presenter (sending 83700 (Sent.header 7)) is Answer.number 10
     -- a header sent: 01, 07, 10, 11
     ∷ numberOf openPresenter (sending 80000 (Sent.header 0)) is Answer.number 1
-    ∷ numberOf openPresenter (sending 83700 (Sent.header 8)) is Answer.number (headerSequence false seven)
+    ∷ numberOf openPresenter (sending 83700 (Sent.header 8)) is Answer.number (headerSequence false sevenOpen)
     ∷ numberOf (withLots mostLots presenter) (sending 83700 (Sent.header 7)) is Answer.number 10
     -- received: 01, 07, 10, 04, 11
     ∷ replyOf openReceiver (arriving 80000 2 (Sent.header 0)) is Answer.reply 0 86 1 7 0
-    ∷ replyOf openReceiver (arriving 83700 2 (Sent.header 8)) is Answer.reply 0 86 (headerSequence false seven) 7 0
+    ∷ replyOf openReceiver (arriving 83700 2 (Sent.header 8)) is Answer.reply 0 86 (headerSequence false sevenOpen) 7 0
     ∷ replyOf onePast (arriving 83700 4 (Sent.header 7)) is Answer.reply 0 86 10 0 0
     ∷ replyOf (withLots mostLots onePast) (arriving 80000 4 (Sent.header 7)) is Answer.reply 0 86 4 0 0
     -- a detail sent: its own codes, then 07, 12; no calls lead to documents with no lot open, so 07 before 12 is of the definitions alone
     ∷ numberOf presenter (Call.send 80000 (Send.detail presentedNumber (drop headBytes (with-byte 35 0x0A printed)))) is Answer.number 3
-    ∷ numberOf (holding mostLotDocuments presenter) (sending 80000 detail) is Answer.number (lotSequence false none)
+    ∷ numberOf (holding mostLotDocuments presenter) (sending 80000 detail) is Answer.number (lotSequence false noneOpen)
     -- received
     ∷ replyOf receiver (arriving 80000 1 (withDrawee 0x73)) is Answer.reply 0 86 6 0 0
-    ∷ replyOf (holding mostLotDocuments receiver) (arriving 80000 1 detail) is Answer.reply 0 86 (lotSequence false none) 0 mostLotDocuments
+    ∷ replyOf (holding mostLotDocuments receiver) (arriving 80000 1 detail) is Answer.reply 0 86 (lotSequence false noneOpen) 0 mostLotDocuments
     -- a lot total received: 03, 07, 04, 08
     ∷ replyOf receiver (noDigit 1 34 (total 7)) is Answer.reply 0 87 3 0 0
-    ∷ replyOf onePast (arriving 80000 4 (total 8)) is Answer.reply 0 87 (lotTotalSequence false 8 none empty) 0 0
+    ∷ replyOf onePast (arriving 80000 4 (total 8)) is Answer.reply 0 87 (lotTotalSequence false 8 noneOpen empty) 0 0
     ∷ replyOf (after (arriving 80000 6 detail ∷ []) five) (arriving 80000 7 (total 8)) is Answer.reply 0 87 4 0 0
     -- a session total received: 03, 07, 08
     ∷ replyOf openReceiver (noDigit 2 37 (Sent.sessionTotal 0 zeros)) is Answer.reply 0 97 3 7 0
-    ∷ replyOf openReceiver (arriving 80000 2 (Sent.sessionTotal 1 (totals 1 15000 30))) is Answer.reply 0 97 (sessionTotalSequence false seven) 7 0
+    ∷ replyOf openReceiver (arriving 80000 2 (Sent.sessionTotal 1 (totals 1 15000 30))) is Answer.reply 0 97 (sessionTotalSequence false sevenOpen) 7 0
     ∷ []
     in
     AllDue cases

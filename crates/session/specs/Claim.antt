@@ -59,12 +59,12 @@ pub record JustReplied (w : World) (p : End) : Type 0 where
 
 -- the claim about one direction, in which the end p presents
 pub record Agreement (w : World) (p : End) : Type 0 where
-  -- the clause on the lots: counted are the confirmed ones; or the report names an unconfirmed one, and counted are the confirmed and then it
+  -- the clause on the lots
   pub agreed : Beyond w p
   -- on the numbers: none stands twice in either list
   pub counted-once : Distinct (numbers (counted w p))
   pub confirmed-once : Distinct (numbers (confirmed w p))
-  -- on a report's totals: they are counts and sums over its end's list, so those of two equal lists are equal
+  -- on a report's totals: they are counts and sums over its end's list
   pub presented : presentedTally w p ≡ tallied (confirmed w p)
   pub received : receivedTally w p ≡ tallied (counted w p)
   -- on what a report names: the open lot, with number, counts and sums (or a session total), from the send of its total that was not refused until the reply call for
@@ -75,12 +75,14 @@ pub record Agreement (w : World) (p : End) : Type 0 where
   -- beside the demand: the premise of every call holds at both ends, so the theorem is about the engine that runs
   pub ready : (x : End) → Ready (w .engine x)
 
--- totals that are larger by exactly one lot
+-- What follows for the totals of the two reports, proved in proofs/Agreement. Those of level ends are equal (`level-totals`),
+abbrev pub LevelTotals : World → End → Type 0
+LevelTotals w p = Level w p → receivedTally w p ≡ presentedTally w p
+
+-- and where one lot is counted beyond, the receiver's are larger by exactly that (`totals-follow`).
 abbrev pub oneMore : Lot → Tally → Tally
 oneMore lot t = record { lots = suc (t .lots); gathered = gather (t .gathered) (lot .gathered) }
 
--- What follows for the two reports, by what is counted beyond: equal totals, or the receiver's larger by that lot. It is `totals-follow` of
--- proofs/Agreement.
 abbrev pub TotalsFollow : (w : World) (p : End) → Beyond w p → Type 0
 TotalsFollow w p (Beyond.nothing same) = receivedTally w p ≡ presentedTally w p
 TotalsFollow w p (Beyond.oneLot lot named more) = receivedTally w p ≡ oneMore (lotSum lot) (presentedTally w p)

@@ -68,7 +68,7 @@ enter (Entry.header number) false b = b
 enter (Entry.detail ds) false b = b
 enter Entry.sessionTotal accepted b = b
 
--- a body that is no message is none
+-- the same of a body that was read: one that is no message enters nothing
 abbrev pub enterRead : Option Entry → (accepted : Bool) → Ledger → Ledger
 enterRead none accepted b = b
 enterRead (some e) accepted b = enter e accepted b
@@ -84,7 +84,7 @@ sentEntry (Send.detail operation part) = Entry.detail (ofOperation (packedByte o
 sentEntry Send.lotTotal = Entry.lotTotal
 sentEntry Send.sessionTotal = Entry.sessionTotal
 
--- and what a body is read as, by what it is
+-- and what a received body is entered as, by its content
 unfoldable pub receivedEntry : Content → (body : List ℕ) → Option Entry
 receivedEntry Content.Header body = some (Entry.header (headerOf body .number))
 receivedEntry Content.Detail body = some (Entry.detail (ofOperation (operationOf body) (documents body)))
@@ -92,7 +92,7 @@ receivedEntry Content.LotTotal body = some Entry.lotTotal
 receivedEntry Content.SessionTotal body = some Entry.sessionTotal
 receivedEntry Content.Unknown body = none
 
--- by its operation
+-- which its operation tells
 abbrev pub bodyEntry : (body : List ℕ) → Option Entry
 bodyEntry body = receivedEntry (contentOf body) body
 

@@ -14,6 +14,7 @@ use Rattle.codes.proofs.Laws.Field.{tableDigits, table-split, digitRuns, total,
 use Rattle.document.specs.Limits.{documentBytes}
 use Rattle.document.specs.Rules.{identification, dayAndMonth, province, truncation, keyOrReason}
 use Rattle.document.specs.Fields.{documentPosition, documentFields, fieldsGood, amountsGood}
+use Rattle.document.specs.Inner.Digits.{fieldDigits, amountDigits}
 use Rattle.document.specs.Inner.Values.{valuesGood}
 
 listed : (a b c d e f g : Bool) → a && (b && (c && (d && (e && (f && (g && true)))))) ≡ a && b && c && d && e && f && g
@@ -25,19 +26,19 @@ module _ (operation receiving : ℕ) where
   unfolding adjoining documentFields
   covered = refl
 
-  field-digits : (d : List ℕ) → tableDigits documentPosition (codeNumber Code.WrongField) (documentFields operation receiving) d ≡ areDigits (part 0 25 d) && areDigits (part 31 12 d)
+  field-digits : (d : List ℕ) → tableDigits documentPosition (codeNumber Code.WrongField) (documentFields operation receiving) d ≡ fieldDigits d
   unfolding documentFields earning every digitRuns total
   field-digits d =
       runs-join 0 (5 ∷ 2 ∷ 4 ∷ 2 ∷ 2 ∷ 2 ∷ 1 ∷ 2 ∷ 1 ∷ 4 ∷ []) d (digitRuns 31 (2 ∷ 2 ∷ 5 ∷ 1 ∷ 2 ∷ []) d true)
       ∙ ap (λ (t : Bool). areDigits (part 0 25 d) && t) (runs-join 31 (2 ∷ 2 ∷ 5 ∷ 1 ∷ 2 ∷ []) d true ∙ and-true (areDigits (part 31 12 d)))
 
-  pub fields-split : (d : List ℕ) → fieldsGood operation receiving d ≡ areDigits (part 0 25 d) && areDigits (part 31 12 d) && valuesGood operation receiving d
+  pub fields-split : (d : List ℕ) → fieldsGood operation receiving d ≡ fieldDigits d && valuesGood operation receiving d
   unfolding fieldsGood valuesGood
   fields-split d =
       table-split documentPosition (codeNumber Code.WrongField) (documentFields operation receiving) d
       ∙ ap (λ (t : Bool). t && valuesGood operation receiving d) (field-digits d)
 
-  pub amounts-split : (d : List ℕ) → amountsGood operation receiving d ≡ areDigits (part 25 6 d) && areDigits (part 43 4 d)
+  pub amounts-split : (d : List ℕ) → amountsGood operation receiving d ≡ amountDigits d
   unfolding amountsGood documentFields earning every
   amounts-split d =
       table-split documentPosition (codeNumber Code.WrongAmount) (documentFields operation receiving) d

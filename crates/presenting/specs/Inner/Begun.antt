@@ -20,6 +20,7 @@ use Rattle.presenting.specs.Said.{sendNumber, sendWritten}
 abbrev pub unstopped : SendAnswer → Bool
 unstopped a = eqb (sendNumber a) 0
 
+-- what it leaves, begun with this code, length and effect
 pub record Begun (time code bytes : ℕ) (effect : Effect) (s : Session) (line after : List ℕ) (o : SendOutcome) : Type 0 where
   pub number : sendNumber (o .answer) ≡ sendRefusal time code bytes (length line) s
   pub written : sendWritten (o .answer) ≡ cond (unstopped (o .answer)) bytes 0

@@ -1,5 +1,4 @@
--- Parts of the lines of 'Order' that a function answers for: of a send what comes before its own code, and that with what follows it; of a reply what
--- its body decides.
+-- Parts of the lines of 'Order', each of which one function answers for.
 use Prim.Native.Nat.{ℕ}
 use mathlib.Core.Bool.{not}
 use mathlib.Core.List.{List}
@@ -15,15 +14,18 @@ use Rattle.session.specs.Time.{timeRefusal}
 use Rattle.session.specs.Sending.{isPending}
 use Rattle.session.specs.Reply.{isAwaited}
 
+-- a send: what refuses it before its own code
 abbrev pub beforeCode : (time : ℕ) → Session → ℕ
 beforeCode time s =
     timeRefusal time (s .seen) (s .close)
     orelse 34 when isPending (s .presenting .pending)
     orelse 36 when leb largestSerial (s .presenting .serial)
 
+-- its own code, then 23
 abbrev pub fromCode : (code bytes room : ℕ) → ℕ
 fromCode code bytes room = code orelse 23 when noRoom bytes room
 
+-- a reply: what its body decides
 abbrev pub ofBody : (body : List ℕ) (serial : ℕ) → Presenting → ℕ
 ofBody body serial p =
     22 when not (replyGood body)

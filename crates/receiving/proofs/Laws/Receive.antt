@@ -22,6 +22,7 @@ use Rattle.session.specs.Outcome.{Held, held, seenAt, withReceiving}
 use Rattle.session.specs.Receiving.{earnedCode, receivingCourse, receivingAfter, isNext, isExpected, afterNew, afterRepeat, receiveRefusal, replying, receive}
 use Rattle.session.proofs.Laws.Refusals.{ReceiveTold, receive-told, last-told}
 use Rattle.calls.proofs.Laws.Said.{said-done}
+use Rattle.receiving.specs.Inner.Handled.{newReceiving, newRunning}
 
 module _ (time : ℕ) (bytes : List ℕ) (s : Session) (t : Running) (line : List ℕ) where
   abbrev h : Held
@@ -32,10 +33,10 @@ module _ (time : ℕ) (bytes : List ℕ) (s : Session) (t : Running) (line : Lis
 
   -- the direction and the running totals after a message, by whether it is new
   abbrev direction : Bool → Receiving
-  direction new = cond new (receivingAfter (earnedCode time (bodyOf bytes) (s .parties) t r) (bodyOf bytes) t r) r
+  direction new = cond new (newReceiving time (bodyOf bytes) (s .parties) t r) r
 
   abbrev gathered : Bool → Running
-  gathered new = cond new (receivingCourse (earnedCode time (bodyOf bytes) (s .parties) t r) (bodyOf bytes) t r .running) t
+  gathered new = cond new (newRunning time (bodyOf bytes) (s .parties) t r) t
 
   left-so : (new : Bool) → held (seenAt time (withReceiving (direction new) s)) (gathered new) line ≡ cond new (afterNew time (bodyOf bytes) h) (afterRepeat time h)
   left-so true = refl

@@ -1,4 +1,4 @@
--- The part of the line of 'Order' for receiving that the envelope decides, once it is read.
+-- A part of a line of 'Order' that one function answers for.
 use Prim.Native.Nat.{ℕ, suc}
 use mathlib.Core.Bool.{not, _||_}
 use lib.Dec.{eqb}
@@ -9,6 +9,7 @@ use Rattle.message.specs.Limits.{replyRoom}
 use Rattle.message.specs.Route.{sameRoute}
 use Rattle.session.specs.Outcome.{noRoom}
 
+-- receiving: what a good envelope decides
 abbrev pub ofEnvelope : Envelope → (last room : ℕ) → Route → ℕ
 ofEnvelope e last room route =
     33 when not (sameRoute (e .route) route)

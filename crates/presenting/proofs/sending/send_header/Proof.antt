@@ -33,23 +33,23 @@ add-begin c = search needs
 begin-requires : tie.Need-begin-requires
 begin-requires c κs = search needs
 
-is-begun-requires : tie.Need-is-begun-requires
-is-begun-requires c κs = search needs
+is-unstopped-requires : tie.Need-is-unstopped-requires
+is-unstopped-requires c κs = search needs
 
-abbrev start : tie.After-is-begun → tie.Start
+abbrev start : tie.After-is-unstopped → tie.Start
 start k = k .before .before .before .before .before .before .before .before .before
 
-abbrev content : tie.After-is-begun → Body
+abbrev content : tie.After-is-unstopped → Body
 content k = let a = start k .args in headerBody (a .moment) (a .centre) (a .number)
 
 -- what the line buffer holds once the send has begun
-abbrev first : tie.After-is-begun → List ℕ
+abbrev first : tie.After-is-unstopped → List ℕ
 first k = k .before .before .before .begin .last .1 .1 .1 .1 .1 .0
 
-abbrev sending : tie.After-is-begun → Running → Sending
+abbrev sending : tie.After-is-unstopped → Running → Sending
 sending k u = let a = start k .args in record { time = a .time; message = Send.header (a .moment) (a .centre) (a .number); lent = held (a .session) u (a .line .now) }
 
-known : (k : tie.After-is-begun) (u : Running) → Beginning (sending k u) (first k) (k .before .before .before .begin .result)
+known : (k : tie.After-is-unstopped) (u : Running) → Beginning (sending k u) (first k) (k .before .before .before .begin .result)
 known k u =
     record {
       code = _;
@@ -62,7 +62,7 @@ known k u =
     }
 
 some : (t : tie.Then1) → unstopped (t .before .before .before .before .begin .result .answer) ≡ true
-some t = sym (t .before .is-begun .ensures) ∙ t .if1 .taken
+some t = sym (t .before .is-unstopped .ensures) ∙ t .if1 .taken
 
 sub-write-header : tie.Need-sub-write-header
 sub-write-header c = tail (sending (c .before) empty) _ _ (known (c .before) empty) (some c)
@@ -104,7 +104,7 @@ returns-2 c =
     let k = c .before in
     let a = start k .args in
     kept-unlent (sending k) (k .before .before .before .begin .result) _ (header-sound (a .time) (a .moment) (a .centre) (a .number) (a .session .presenting)) (λ (t : Running). tt) (start k .pre)
-    (λ (u : Running). unposted (sending k u) _ _ (known k u) (sym (k .is-begun .ensures) ∙ c .if1 .left))
+    (λ (u : Running). unposted (sending k u) _ _ (known k u) (sym (k .is-unstopped .ensures) ∙ c .if1 .left))
 
 pub send-header-spec : {M : Type 1} → statement M
 send-header-spec =
@@ -113,7 +113,7 @@ send-header-spec =
     header-stop-requires
     add-begin
     begin-requires
-    is-begun-requires
+    is-unstopped-requires
     sub-write-header
     part-write-header-start
     part-write-header-end

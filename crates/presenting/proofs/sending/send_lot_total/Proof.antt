@@ -32,23 +32,23 @@ add-begin c = search needs
 begin-requires : tie.Need-begin-requires
 begin-requires c κs = search needs
 
-is-begun-requires : tie.Need-is-begun-requires
-is-begun-requires c κs = search needs
+is-unstopped-requires : tie.Need-is-unstopped-requires
+is-unstopped-requires c κs = search needs
 
-abbrev start : tie.After-is-begun → tie.Start
+abbrev start : tie.After-is-unstopped → tie.Start
 start k = k .before .before .before .before .before .before .before .before .before .before
 
-abbrev content : tie.After-is-begun → Body
+abbrev content : tie.After-is-unstopped → Body
 content k = let a = start k .args in lotTotalBody (a .session .presenting .counters) (a .running)
 
 -- what the line buffer holds once the send has begun
-abbrev first : tie.After-is-begun → List ℕ
+abbrev first : tie.After-is-unstopped → List ℕ
 first k = k .before .before .before .begin .last .1 .1 .1 .1 .1 .0
 
-abbrev sending : tie.After-is-begun → Sending
+abbrev sending : tie.After-is-unstopped → Sending
 sending k = let a = start k .args in record { time = a .time; message = Send.lotTotal; lent = held (a .session) (a .running) (a .line .now) }
 
-known : (k : tie.After-is-begun) → Beginning (sending k) (first k) (k .before .before .before .begin .result)
+known : (k : tie.After-is-unstopped) → Beginning (sending k) (first k) (k .before .before .before .begin .result)
 unfolding lotTotalStop
 known k =
     let a = start k .args in
@@ -64,7 +64,7 @@ known k =
     }
 
 some : (t : tie.Then1) → unstopped (t .before .before .before .before .begin .result .answer) ≡ true
-some t = sym (t .before .is-begun .ensures) ∙ t .if1 .taken
+some t = sym (t .before .is-unstopped .ensures) ∙ t .if1 .taken
 
 stated-requires : tie.Need-stated-requires
 stated-requires c κs = search needs
@@ -103,7 +103,7 @@ same-length-2 c = search needs
 returns-2 : tie.Need-returns-2
 returns-2 c =
     let k = c .before in
-    kept-said (sending k) (k .before .before .before .begin .result) _ (start k .pre .0) (start k .pre .1) (unposted (sending k) _ _ (known k) (sym (k .is-begun .ensures) ∙ c .if1 .left))
+    kept-said (sending k) (k .before .before .before .begin .result) _ (start k .pre .0) (start k .pre .1) (unposted (sending k) _ _ (known k) (sym (k .is-unstopped .ensures) ∙ c .if1 .left))
 
 pub send-lot-total-spec : {M : Type 1} → statement M
 send-lot-total-spec =
@@ -113,7 +113,7 @@ send-lot-total-spec =
     lot-sequence-requires
     add-begin
     begin-requires
-    is-begun-requires
+    is-unstopped-requires
     stated-requires
     sub-write-lot-total
     part-write-lot-total-start

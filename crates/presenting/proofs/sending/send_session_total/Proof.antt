@@ -32,23 +32,23 @@ add-begin c = search needs
 begin-requires : tie.Need-begin-requires
 begin-requires c κs = search needs
 
-is-begun-requires : tie.Need-is-begun-requires
-is-begun-requires c κs = search needs
+is-unstopped-requires : tie.Need-is-unstopped-requires
+is-unstopped-requires c κs = search needs
 
-abbrev start : tie.After-is-begun → tie.Start
+abbrev start : tie.After-is-unstopped → tie.Start
 start k = k .before .before .before .before .before .before .before .before .before .before
 
-abbrev content : tie.After-is-begun → Body
+abbrev content : tie.After-is-unstopped → Body
 content k = sessionTotalBody (start k .args .session .presenting .counters)
 
 -- what the line buffer holds once the send has begun
-abbrev first : tie.After-is-begun → List ℕ
+abbrev first : tie.After-is-unstopped → List ℕ
 first k = k .before .before .before .begin .last .1 .1 .1 .1 .1 .0
 
-abbrev sending : tie.After-is-begun → Running → Sending
+abbrev sending : tie.After-is-unstopped → Running → Sending
 sending k u = let a = start k .args in record { time = a .time; message = Send.sessionTotal; lent = held (a .session) u (a .line .now) }
 
-known : (k : tie.After-is-begun) (u : Running) → Beginning (sending k u) (first k) (k .before .before .before .begin .result)
+known : (k : tie.After-is-unstopped) (u : Running) → Beginning (sending k u) (first k) (k .before .before .before .begin .result)
 unfolding sessionTotalStop
 known k u =
     record {
@@ -62,7 +62,7 @@ known k u =
     }
 
 some : (t : tie.Then1) → unstopped (t .before .before .before .before .begin .result .answer) ≡ true
-some t = sym (t .before .is-begun .ensures) ∙ t .if1 .taken
+some t = sym (t .before .is-unstopped .ensures) ∙ t .if1 .taken
 
 cast-t16 : tie.Need-cast-t16
 cast-t16 c = omega (arith, start (c .before .before) .pre .presenting .lots)
@@ -106,7 +106,7 @@ returns-2 : tie.Need-returns-2
 returns-2 c =
     let k = c .before in
     kept-unlent (sending k) (k .before .before .before .begin .result) _ (λ e. tt) (λ (t : Running). tt) (start k .pre)
-    (λ (u : Running). unposted (sending k u) _ _ (known k u) (sym (k .is-begun .ensures) ∙ c .if1 .left))
+    (λ (u : Running). unposted (sending k u) _ _ (known k u) (sym (k .is-unstopped .ensures) ∙ c .if1 .left))
 
 pub send-session-total-spec : {M : Type 1} → statement M
 send-session-total-spec =
@@ -115,7 +115,7 @@ send-session-total-spec =
     session-total-sequence-requires
     add-begin
     begin-requires
-    is-begun-requires
+    is-unstopped-requires
     cast-t16
     stated-requires
     sub-write-session-total
