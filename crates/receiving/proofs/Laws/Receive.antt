@@ -19,7 +19,7 @@ use Rattle.session.specs.declared.session.Session.{Session}
 use Rattle.session.specs.Parties.{receivingRoute}
 use Rattle.session.specs.declared.running.Running.{Running}
 use Rattle.session.specs.Outcome.{Held, held, seenAt, withReceiving}
-use Rattle.session.specs.Receiving.{earnedCode, receivingCourse, receivingAfter, isNext, isExpected, afterNew, afterRepeat, receiveRefusal, replying, receive}
+use Rattle.session.specs.Receiving.{receivingAfter, isNext, isExpected, afterNew, afterRepeat, receiveRefusal, replying, receive}
 use Rattle.session.proofs.Laws.Refusals.{ReceiveTold, receive-told, last-told}
 use Rattle.calls.proofs.Laws.Said.{said-done}
 use Rattle.receiving.specs.Inner.Handled.{newReceiving, newRunning}

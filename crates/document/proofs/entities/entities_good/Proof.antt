@@ -1,6 +1,6 @@
 -- `entities_good`: too many are refused by their number; else the represented ones are passed over. The invariant: good so far, and those
 -- left good, is the whole test. The measure is what is left.
-use mathlib.Core.Path.{_≡_, refl, ap, sym, _∙_}
+use mathlib.Core.Path.{_≡_, ap, sym, _∙_}
 use mathlib.Core.Bool.{Bool, true, false, _&&_, and-true, and-false}
 use mathlib.Core.List.{List}
 use Prim.Native.Nat.{ℕ, _-_, _≤_}
