@@ -60,6 +60,7 @@ bodies =
     ∷ bodyCode (header day) (headed day 21000000 0) is 1
     ∷ bodyCode (header day) (headed other-day 21000000 7) is 1
     ∷ bodyCode (header day) (headed way-back 21000000 7) is 1
+    ∷ bodyCode (header day) (with-byte 14 0x73 plain) is 1
     ∷ bodyCode (header day) (with-byte 1 0xFF plain) is 0
     ∷ bodyCode (header day) (with-byte 2 0x50 plain) is 1
     ∷ bodyCode (header day) (with-byte 15 0x0A plain) is 1
