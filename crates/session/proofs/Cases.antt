@@ -278,6 +278,8 @@ every-number :
     -- 01 and 07 of a presenter's own calls
     ∷ numberOf presenter (Call.send 80000 (Send.header 24000000 1 7)) is Answer.number 1
     ∷ numberOf presenter (Call.send 80000 (Send.header moment 1 0)) is Answer.number 1
+    ∷ numberOf presenter (Call.send 80000 (Send.header moment 9999 7)) is Answer.number 0
+    ∷ numberOf presenter (Call.send 80000 (Send.header moment 10000 7)) is Answer.number 1
     ∷ numberOf presenter (Call.send 80000 (Send.detail 31 (drop headBytes printed))) is Answer.number 1
     ∷ numberOf openPresenter (sending 80000 (Sent.header 8)) is Answer.number (headerSequence false sevenOpen)
     ∷ numberOf presenter (sending 80000 detail) is Answer.number (lotSequence false noneOpen)
