@@ -1,7 +1,8 @@
 /*
  * For C and C++ callers: the detail check, link with libdetail.a; a whole
- * evening of two engines over trays, and scripts of evenings, link with
- * libentries.a. Both libraries may be linked into one program.
+ * evening of two engines over trays, scripts of evenings, next working days
+ * and compensation dates, link with libentries.a. Both libraries may be linked
+ * into one program.
  *
  * They are built for x86-64 Linux, with the System V calling convention, and
  * may be linked into a program or a shared object. libdetail.a needs nothing
@@ -160,6 +161,51 @@ line_played line_play_script(const uint8_t *script, size_t script_len,
                              uint8_t *output, size_t output_len,
                              uint8_t *wire, size_t wire_len);
 
+/* The places that line_next_days fills: the days of a leap year. */
+#define LINE_YEAR 366
+
+/*
+ * Makes the table of next working days from a list of unworked days. Days are
+ * numbered from 1, 1 January, to 366. Place d - 1 of days gets the number of
+ * the first day after day d that is not in the list, or 0 if there is none.
+ * Link with libentries.a.
+ *
+ * The list has all unworked days, Saturdays and Sundays too; it may be empty.
+ *
+ * Returns 0, or the first of these that applies, with nothing written:
+ *   40  the list is not strictly ascending, or has a day outside 1 to 366
+ *   23  days has fewer than 366 places
+ *
+ * Lengths: each counts days, not bytes, and any length may be passed as long
+ * as its bytes fit in PTRDIFF_MAX. The list is read up to the first day that
+ * breaks the rule, so no more than 367 of its days are read.
+ *
+ * Pointers: unworked must be valid for reading its whole length, days for
+ * writing its own; both must be aligned as uint16_t, and they must not
+ * overlap. A null pointer is allowed with length 0.
+ *
+ * The call changes the first 366 places of days, nothing else, and keeps
+ * nothing. There is no global state, so several threads may call at once,
+ * each with its own days.
+ */
+uint8_t line_next_days(const uint16_t *unworked, size_t unworked_len,
+                       uint16_t *days, size_t days_len);
+
+/* The compensation date of a session's date. */
+typedef struct line_compensation {
+    uint8_t found; /* 0 the date; 1 the year has no later working day; 2 the
+                      session's date is no day of 2028 */
+    uint32_t date; /* DDMM28 as a number, 0 unless found is 0 */
+} line_compensation;
+
+/*
+ * Gives the compensation date of a session of 2028: the first working day
+ * after `date`, which is the number DDMM28 without leading zeros (50128 is 5
+ * January). Not worked are Saturdays, Sundays, 1 and 6 January, 1 May, 12
+ * October and 25 December. Any number may be passed. Link with libentries.a.
+ */
+line_compensation line_compensation_date(uint32_t date);
+
 /*
  * The functions of the libraries themselves take no null pointer. So in C and
  * C++ their names stand for the inline functions below, which hand on the
@@ -172,11 +218,11 @@ static inline const uint8_t *line_lent_bytes(const uint8_t *bytes, size_t len)
     return len == 0 ? &nothing : bytes;
 }
 
-static inline const uint16_t *line_lent_entities(const uint16_t *entities,
-                                                 size_t len)
+static inline const uint16_t *line_lent_numbers(const uint16_t *numbers,
+                                                size_t len)
 {
     static const uint16_t nothing = 0;
-    return len == 0 ? &nothing : entities;
+    return len == 0 ? &nothing : numbers;
 }
 
 static inline uint8_t *line_lent_room(uint8_t *room, size_t len)
@@ -185,12 +231,18 @@ static inline uint8_t *line_lent_room(uint8_t *room, size_t len)
     return len == 0 ? &nothing : room;
 }
 
+static inline uint16_t *line_lent_places(uint16_t *places, size_t len)
+{
+    static uint16_t nothing = 0;
+    return len == 0 ? &nothing : places;
+}
+
 static inline line_checked
 line_check_detail_inline(const uint8_t *body, size_t body_len, uint32_t own,
                          const uint16_t *represented, size_t represented_len)
 {
     return line_check_detail(line_lent_bytes(body, body_len), body_len, own,
-                             line_lent_entities(represented, represented_len),
+                             line_lent_numbers(represented, represented_len),
                              represented_len);
 }
 
@@ -221,9 +273,19 @@ line_play_script_inline(const uint8_t *script, size_t script_len,
                             line_lent_room(wire, wire_len), wire_len);
 }
 
+static inline uint8_t
+line_next_days_inline(const uint16_t *unworked, size_t unworked_len,
+                      uint16_t *days, size_t days_len)
+{
+    return line_next_days(line_lent_numbers(unworked, unworked_len),
+                          unworked_len,
+                          line_lent_places(days, days_len), days_len);
+}
+
 #define line_check_detail line_check_detail_inline
 #define line_exchange line_exchange_inline
 #define line_play_script line_play_script_inline
+#define line_next_days line_next_days_inline
 
 #ifdef __cplusplus
 }

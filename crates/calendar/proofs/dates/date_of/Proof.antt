@@ -1,0 +1,104 @@
+-- `date_of` goes through the months. The invariant: counted from the present month on, the days that are left give the date. The measure is how
+-- many months are left.
+use mathlib.Core.Path.{_≡_, refl, ap, sym, _∙_}
+use mathlib.Core.List.{List}
+use Prim.Native.Nat.{ℕ, suc, _-_, _≤_}
+use native.Mathlib.Numerals.{add-one}
+use native.Mathlib.Omega.{arith}
+use borrow.Author.Needs.{needs}
+use lib.ListN.{length, drop, getD, drop-of-length-le}
+use lib.Seq.{drop-cons}
+use Rattle.document.specs.Rules.{monthDays}
+use Rattle.calendar.specs.Dates.{countedFrom, dateOf}
+use Rattle.calendar.proofs.Laws.Dates.{in-month, after-month}
+use Rattle.calendar.proofs.dates.date_of.Statement.{statement}
+use Rattle.calendar.proofs.dates.date_of.Tie as tie
+
+abbrev Inv-loop : tie.InvT-loop
+Inv-loop number day₀ month₀ day month = (month ≤ length monthDays) × (countedFrom month (drop month monthDays) day ≡ dateOf number)
+
+abbrev μ-loop : tie.MeasureT-loop
+μ-loop number day₀ month₀ day month = length monthDays - month
+
+loop-holds : tie.Need-loop-holds Inv-loop μ-loop
+unfolding dateOf
+loop-holds c = (omega arith, refl)
+
+month-days-requires : tie.Need-month-days-requires Inv-loop μ-loop
+month-days-requires c κs = search needs
+
+cast-result : tie.Need-cast-result Inv-loop μ-loop
+cast-result c = search needs
+
+mul-result : tie.Need-mul-result Inv-loop μ-loop
+mul-result c = omega arith
+
+cast-result-2 : tie.Need-cast-result-2 Inv-loop μ-loop
+cast-result-2 c = omega arith
+
+add-result : tie.Need-add-result Inv-loop μ-loop
+add-result c = omega arith
+
+mul-result-2 : tie.Need-mul-result-2 Inv-loop μ-loop
+mul-result-2 c = omega arith
+
+add-result-2 : tie.Need-add-result-2 Inv-loop μ-loop
+add-result-2 c = omega arith
+
+returns : tie.Need-returns Inv-loop μ-loop
+unfolding monthDays
+returns c =
+    let t = c .before .before .before in
+    let month = t .loop .month in
+    let day = t .loop .day in
+    sym (in-month month (getD monthDays month 0) (drop (suc month) monthDays) day (omega (arith, c .before .month-days .ensures .0, c .if1 .taken)))
+    ∙ ap (λ (l : List ℕ). countedFrom month l day) (sym (drop-cons monthDays month 0 (omega arith)))
+    ∙ t .loop .inv .1
+
+sub-day : tie.Need-sub-day Inv-loop μ-loop
+sub-day c = omega arith
+
+add-month : tie.Need-add-month Inv-loop μ-loop
+add-month c = search needs
+
+loop-less : tie.Need-loop-less Inv-loop μ-loop
+unfolding monthDays
+loop-less c = omega arith
+
+loop-again : tie.Need-loop-again Inv-loop μ-loop
+unfolding monthDays
+loop-again c =
+    let t = c .before .before .before in
+    let month = t .loop .month in
+    let day = t .loop .day in (
+      omega arith,
+      rw (add-one, c .before .month-days .ensures .0)
+          (sym (after-month month (getD monthDays month 0) (drop (suc month) monthDays) day (omega (arith, c .before .month-days .ensures .0)))
+          ∙ ap (λ (l : List ℕ). countedFrom month l day) (sym (drop-cons monthDays month 0 (omega arith)))
+          ∙ t .loop .inv .1),
+    )
+
+returns-2 : tie.Need-returns-2 Inv-loop μ-loop
+unfolding monthDays countedFrom
+returns-2 c = let t = c .before in ap (λ (l : List ℕ). countedFrom (t .loop .month) l (t .loop .day)) (sym (drop-of-length-le monthDays {i = t .loop .month} (omega arith))) ∙ t .loop .inv .1
+
+pub date-of-spec : {M : Type 1} → statement M
+date-of-spec =
+    tie.close
+    (tie.spec
+    Inv-loop
+    μ-loop
+    loop-holds
+    month-days-requires
+    cast-result
+    mul-result
+    cast-result-2
+    add-result
+    mul-result-2
+    add-result-2
+    returns
+    sub-day
+    add-month
+    loop-less
+    loop-again
+    returns-2)

@@ -1,0 +1,105 @@
+-- `fill` goes back through the year and the list. The invariant: from the present day on the table stands, `next` is its entry, and of the list
+-- the first `left` days are not above the present day, the others are. The measure is the day.
+use mathlib.Core.Path.{_≡_, refl, ap, sym, _∙_}
+use mathlib.Core.Logic.{⊎-elim}
+use mathlib.Core.List.{List, _∷_, _++_, map}
+use Prim.Native.Nat.{ℕ, _-_, _≤_}
+use native.Mathlib.Omega.{arith}
+use borrow.Author.Needs.{needs}
+use lib.ListN.{length, drop, getD, length-set}
+use Rattle.calendar.specs.Rule.{yearDays, later, nextDay, tableOf}
+use Rattle.calendar.proofs.Laws.Rule.{none-later}
+use Rattle.calendar.proofs.Laws.Ascending.{ascends}
+use Rattle.calendar.proofs.Laws.Walk.{Walked, at-last, some-left, over-listed, over-worked, entry-written}
+use Rattle.calendar.proofs.generator.fill.Statement.{statement}
+use Rattle.calendar.proofs.generator.fill.Tie as tie
+
+abbrev Inv-loop : tie.InvT-loop
+Inv-loop unworked days₀ left₀ next₀ day₀ days left next day =
+    (day ≤ yearDays)
+    × (length days ≡ length days₀)
+    × (drop day days ≡ map (nextDay unworked) (later day) ++ drop yearDays days₀)
+    × Walked unworked day next left
+
+abbrev μ-loop : tie.MeasureT-loop
+μ-loop unworked days₀ left₀ next₀ day₀ days left next day = day
+
+loop-holds : tie.Need-loop-holds Inv-loop μ-loop
+loop-holds c =
+    let s = c .before .before in (omega arith, refl, ap (λ (ds : List ℕ). map (nextDay (s .args .unworked .now)) ds ++ drop yearDays (s .args .days .now)) (sym (none-later yearDays (omega arith))), at-last (s .args .unworked .now) (s .pre .0))
+
+cast-days : tie.Need-cast-days Inv-loop μ-loop
+cast-days c = search needs
+
+sub-days : tie.Need-sub-days Inv-loop μ-loop
+sub-days c = search needs
+
+mul-days : tie.Need-mul-days Inv-loop μ-loop
+mul-days c = omega arith
+
+slice-write-days : tie.Need-slice-write-days Inv-loop μ-loop
+slice-write-days c = omega arith
+
+last-of-requires : tie.Need-last-of-requires Inv-loop μ-loop
+last-of-requires c κs = search needs
+
+sub-left : tie.Need-sub-left Inv-loop μ-loop
+sub-left c = let t = c .before .before .before in some-left (t .before .before .before .args .unworked .now) (t .loop .left) (t .loop .day) (omega arith) (sym (c .before .last-of .ensures) ∙ c .if1 .taken)
+
+sub-day : tie.Need-sub-day Inv-loop μ-loop
+sub-day c = search needs
+
+loop-less : tie.Need-loop-less Inv-loop μ-loop
+loop-less c = omega arith
+
+loop-again : tie.Need-loop-again Inv-loop μ-loop
+loop-again c =
+    let t = c .before .before .before in
+    let s = t .before .before .before in
+    let u = s .args .unworked .now in
+    let day = t .loop .day in
+    let asc = ascends u (s .pre .0) in
+    let w = t .loop .inv .3 in (
+      omega arith,
+      length-set (t .loop .days) (day - 1) (t .loop .next) ∙ t .loop .inv .1,
+      entry-written u (t .loop .days) (drop yearDays (s .args .days .now)) (day - 1) day (t .loop .next) (omega arith) (omega arith) (omega arith) (w .entry) (t .loop .inv .2),
+      ⊎-elim
+          (λ e.
+          let found : getD (0 ∷ u) (t .loop .left) 0 ≡ day = sym (c .before .last-of .ensures) ∙ e .0 .taken in
+          let less : c .if1 .left ≡ t .loop .left - 1 = e .1 in
+          over-listed u (day - 1) day (t .loop .next) (c .if1 .next) (c .if1 .left) (t .loop .left) (omega arith) (omega (arith, less, some-left u (t .loop .left) day (omega arith) found)) (e .2) (omega arith) asc w found)
+          (λ e. over-worked u (day - 1) day (t .loop .next) (c .if1 .next) (c .if1 .left) (t .loop .left) (omega arith) (e .1) (e .2) (omega arith) asc w (λ found. e .0 .left (c .before .last-of .ensures ∙ found)))
+          (c .if1 .came),
+    )
+
+same-length : tie.Need-same-length Inv-loop μ-loop
+same-length c = search needs
+
+returns : tie.Need-returns Inv-loop μ-loop
+unfolding tableOf
+returns c =
+    let t = c .before in
+    let day0 : t .loop .day ≡ 0 = omega arith in
+    let s = t .before .before .before in
+    ap (λ (k : ℕ). drop k (t .loop .days)) (sym day0)
+    ∙ t .loop .inv .2
+    ∙ ap (λ (k : ℕ). map (nextDay (s .args .unworked .now)) (later k) ++ drop yearDays (s .args .days .now)) day0
+
+pub fill-spec : {M : Type 1} → statement M
+fill-spec =
+    tie.close
+    (tie.spec
+    Inv-loop
+    μ-loop
+    loop-holds
+    cast-days
+    sub-days
+    mul-days
+    slice-write-days
+    last-of-requires
+    sub-left
+    sub-day
+    loop-less
+    loop-again
+    same-length
+    returns)

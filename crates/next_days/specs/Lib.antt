@@ -1,0 +1,2 @@
+-- The text of a table.
+pub mod Text
