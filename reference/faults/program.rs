@@ -1,7 +1,9 @@
-//! The engine and the script interpreter, meant to have one fault in them. Plays the scripts of
-//! the file named as argument and tells the first whose answers differ from those noted there,
-//! or that makes the player panic.
+//! The engine, the script interpreter and the calendar, meant to have one fault in them. Plays
+//! the scripts of the files named as arguments and tells the first whose answers differ from those
+//! noted there, or that makes the player panic.
 
+mod calendar;
+mod calendar_script;
 mod checked;
 mod packed;
 mod plain;
@@ -18,12 +20,21 @@ use checked::Checked;
 use std::panic::catch_unwind;
 use std::process::ExitCode;
 
+fn main() -> ExitCode {
+    for path in std::env::args().skip(1) {
+        let corpus = std::fs::read(path).expect("the corpus can be read");
+        if let Some(name) = first_that_differs(&corpus) {
+            println!("{name}");
+            return ExitCode::from(1);
+        }
+    }
+    ExitCode::SUCCESS
+}
+
 /// Each script has a line with its name and the lengths of its text and of its answers, parted
 /// by tabs; text and answers follow.
-fn main() -> ExitCode {
-    let path = std::env::args().nth(1).expect("the corpus is named");
-    let corpus = std::fs::read(path).expect("the corpus can be read");
-    let mut rest = corpus.as_slice();
+fn first_that_differs(corpus: &[u8]) -> Option<String> {
+    let mut rest = corpus;
     while let Some(end) = rest.iter().position(|&byte| byte == b'\n') {
         let head = String::from_utf8_lossy(&rest[..end]);
         let words: Vec<&str> = head.split('\t').collect();
@@ -32,13 +43,13 @@ fn main() -> ExitCode {
         let (answers, after) = after.split_at(length(2));
         let play = match words[0] {
             "trays" => tray_script::play,
+            name if name.starts_with("calendar") => calendar_script::play,
             _ => script::play,
         };
         if !catch_unwind(|| play(text)).is_ok_and(|played| played == answers) {
-            println!("{}", words[0]);
-            return ExitCode::from(1);
+            return Some(words[0].into());
         }
         rest = after;
     }
-    ExitCode::SUCCESS
+    None
 }

@@ -1,9 +1,12 @@
 //! A second implementation of the cheque exchange, the measure for the first in answers and speed.
 //! The detail check stands here four times: written plainly, tuned, by columns, and as the line's
-//! exported function. The session and the script interpreter are built on the plain check.
+//! exported function. The session and the script interpreter are built on the plain check. The
+//! calendar uses nothing of them.
 
 pub mod bodies;
 pub mod books;
+pub mod calendar;
+pub mod calendar_script;
 pub mod columns;
 pub mod compare;
 pub mod corpus;
@@ -15,6 +18,7 @@ pub mod packed;
 pub mod plain;
 pub mod random;
 pub mod script;
+pub mod seeds;
 pub mod session;
 pub mod timing;
 pub mod tray_script;

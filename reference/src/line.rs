@@ -1,6 +1,7 @@
 //! The bindings to what the line exports for C: the detail check that its driver calls, the
-//! script player for the comparison, and the evening for measurements.
+//! script player and the calendar for the comparison, and the evening for measurements.
 
+use crate::calendar::compensation::Compensation;
 use crate::session::report::{AwaitedTotal, Report};
 use crate::session::totals::{SessionTotals, Totals};
 use crate::session::Close;
@@ -123,6 +124,15 @@ unsafe extern "C" {
         far_returns: *const u8,
         far_returns_len: usize,
     ) -> Evening;
+
+    fn line_next_days(
+        unworked: *const u16,
+        unworked_len: usize,
+        days: *mut u16,
+        days_len: usize,
+    ) -> u8;
+
+    fn line_compensation_date(date: u32) -> Compensation;
 }
 
 pub fn check(body: &[u8], own: u16, represented: &[u16]) -> Checked {
@@ -155,6 +165,26 @@ pub fn exchange(near: [&[u8]; 2], far: [&[u8]; 2]) -> Evening {
             far[1].len(),
         )
     }
+}
+
+/// Fills the first 366 places, or gives a code and changes none.
+pub fn next_days(unworked: &[u16], days: &mut [u16]) -> u8 {
+    // SAFETY: the pointers are aligned, not null even where a slice is empty, and good for the
+    // stated number of items during the call, the second also for writing; the two stretches lie
+    // apart, and the function keeps neither of them.
+    unsafe {
+        line_next_days(
+            unworked.as_ptr(),
+            unworked.len(),
+            days.as_mut_ptr(),
+            days.len(),
+        )
+    }
+}
+
+pub fn compensation_date(date: u32) -> Compensation {
+    // SAFETY: a number goes in and numbers come out.
+    unsafe { line_compensation_date(date) }
 }
 
 /// Plays as far as the answers fit in `output`. `wire` is where written bytes are remembered.

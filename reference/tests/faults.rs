@@ -1,8 +1,8 @@
 //! Faulty variants of the reference, each compiled and played over the corpus: every fault must
 //! show in the answers. The unmodified reference says what the answers should be.
 
-use reference::corpus::{corpus, generated, tray_corpus, Script};
-use reference::{script, tray_script};
+use reference::corpus::{calendar_corpus, corpus, generated, tray_corpus, Script};
+use reference::{calendar_script, script, tray_script};
 use std::collections::HashSet;
 use std::fs;
 use std::path::{Path, PathBuf};
@@ -13,11 +13,18 @@ use std::thread;
 
 const COMPILERS: usize = 2;
 /// The sources that the small program is made of, and where it starts.
-const SOURCES: [&str; 4] = ["checked.rs", "packed.rs", "plain.rs", "tray_script.rs"];
-const FOLDERS: [&str; 2] = ["script", "session"];
+const SOURCES: [&str; 5] = [
+    "calendar_script.rs",
+    "checked.rs",
+    "packed.rs",
+    "plain.rs",
+    "tray_script.rs",
+];
+const FOLDERS: [&str; 3] = ["calendar", "script", "session"];
 const PROGRAM: &str = "faults/program.rs";
-/// No call of a script reaches what is in it.
+/// No call of a script reaches what is in these.
 const TRAYS: &str = "src/session/trays.rs";
+const CALENDAR: &str = "src/calendar/";
 
 struct Fault {
     what: String,
@@ -73,8 +80,8 @@ fn every_fault_is_caught() {
     let (generated, others) = (tally.by_generated, tally.by_others);
     println!("caught by generated scripts alone: {generated}, by others only: {others}");
     assert!(tally.failures.is_empty(), "{}", tally.failures.join("\n"));
-    let reached = faults.iter().filter(|fault| fault.file != TRAYS).count();
-    assert!(10 * generated >= 9 * reached, "{generated} are few");
+    let reached = faults.iter().filter(|fault| fault.is_reached_by_scripts());
+    assert!(10 * generated >= 9 * reached.count(), "{generated} are few");
 }
 
 impl Tally {
@@ -110,6 +117,8 @@ impl Workshop {
         let mut text = noted(&tray_corpus(), tray_script::play);
         text.extend(noted(&corpus(), script::play));
         fs::write(place.join("corpus"), text).unwrap();
+        let text = noted(&calendar_corpus(), calendar_script::play);
+        fs::write(place.join("calendar"), text).unwrap();
         let package = PathBuf::from(env!("CARGO_MANIFEST_DIR"));
         let generated = generated().into_iter().map(|script| script.name);
         Workshop {
@@ -128,7 +137,7 @@ impl Workshop {
             }
         }
         match compiled(&bench) {
-            Ok(program) => self.played(&program),
+            Ok(program) => self.played(&program, corpora(fault)),
             Err(why) => Outcome::NoProgram(why),
         }
     }
@@ -149,15 +158,24 @@ impl Workshop {
         }
     }
 
-    fn played(&self, program: &Path) -> Outcome {
-        let corpus = self.place.join("corpus");
-        let run = Command::new(program).arg(corpus).output().unwrap();
+    fn played(&self, program: &Path, corpora: &[&str]) -> Outcome {
+        let paths = corpora.iter().map(|name| self.place.join(name));
+        let run = Command::new(program).args(paths).output().unwrap();
         let script = String::from_utf8_lossy(&run.stdout).trim().to_string();
         match run.status.code() {
             Some(0) => Outcome::Missed,
             Some(1) => Outcome::Caught(script),
             _ => Outcome::NoProgram(format!("it ended with {}", run.status)),
         }
+    }
+}
+
+/// The files with what can show the fault: the calendar and all else do not use each other.
+fn corpora(fault: Option<&Fault>) -> &'static [&'static str] {
+    match fault {
+        None => &["calendar", "corpus"],
+        Some(fault) if fault.is_of_calendar() => &["calendar"],
+        Some(_) => &["corpus"],
     }
 }
 
@@ -200,6 +218,14 @@ fn compiled(bench: &Path) -> Result<PathBuf, String> {
 }
 
 impl Fault {
+    fn is_of_calendar(&self) -> bool {
+        self.file.starts_with(CALENDAR)
+    }
+
+    fn is_reached_by_scripts(&self) -> bool {
+        self.file != TRAYS && !self.is_of_calendar()
+    }
+
     fn put_in(&self, bench: &Path) -> Result<(), String> {
         let name = self.file.strip_prefix("src/").unwrap_or(&self.file);
         let path = bench.join(name);

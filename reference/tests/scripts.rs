@@ -6,9 +6,9 @@
 use reference::generate::{self, Kind};
 use reference::line::play as engine;
 use reference::script::play as reference;
+use reference::seeds::seeds;
 use reference::{books, compare};
 use std::collections::BTreeMap;
-use std::env;
 use std::sync::atomic::{AtomicUsize, Ordering};
 use std::sync::Mutex;
 use std::thread;
@@ -61,19 +61,8 @@ fn the_engine_answers_like_the_reference() {
 }
 
 fn tasks() -> Vec<Task> {
-    let first = number_from("SEED").unwrap_or(0);
-    let times = number_from("LONG").unwrap_or(1);
-    let seeds = |kind: Kind| first..first + times * kind.scripts();
-    let of_kind = |kind| seeds(kind).map(move |seed| Task { kind, seed });
+    let of_kind = |kind: Kind| seeds(kind.scripts()).map(move |seed| Task { kind, seed });
     Kind::ALL.into_iter().flat_map(of_kind).collect()
-}
-
-fn number_from(name: &str) -> Option<u64> {
-    let text = env::var(name).ok()?;
-    Some(
-        text.parse()
-            .unwrap_or_else(|_| panic!("{name}={text} is no number")),
-    )
 }
 
 fn work(tasks: &[Task], next: &AtomicUsize, outcome: &Mutex<Outcome>) {

@@ -1,7 +1,8 @@
 //! Scripts to compare players with: generated ones in the main, then the blocks of the open
-//! points, lines about the format itself and the memory of written bytes; and tray calls. What
-//! the answers must be, the reference says.
+//! points, lines about the format itself and the memory of written bytes; tray calls; and calendar
+//! questions. What the answers must be, the reference says.
 
+pub mod calendar;
 pub mod format;
 pub mod memory;
 pub mod trays;
@@ -25,6 +26,14 @@ impl Script {
 /// Tray calls, which are not lines of a session script.
 pub fn tray_corpus() -> Vec<Script> {
     vec![Script::new("trays", trays::text())]
+}
+
+/// Calendar questions, which are none either. The generated ones come first.
+pub fn calendar_corpus() -> Vec<Script> {
+    let seeds = 0..generate::calendar::SEEDS;
+    let mut scripts: Vec<Script> = seeds.map(calendar::of_seed).collect();
+    scripts.extend(calendar::fixed());
+    scripts
 }
 
 /// The generated ones come first.

@@ -1,5 +1,8 @@
 //! Session scripts made from a kind and a seed, to be played by two implementations. While a
 //! script grows the reference answers it, so a seed's script changes only if these answers do.
+//! Questions about the calendar are made from a seed alone.
+
+pub mod calendar;
 
 mod calls;
 mod centre;
