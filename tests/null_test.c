@@ -72,11 +72,22 @@ static void try_play(void)
     judge_play("no script", line_play_script(NULL, 0, output, answer, NULL, 0), 0, 0, 0);
 }
 
+static void try_days(void)
+{
+    static const uint16_t one = 1;
+    uint16_t days[LINE_YEAR] = { 0 };
+
+    judge("no list", line_next_days(NULL, 0, days, LINE_YEAR) == 0 && days[0] == 2);
+    judge("no places", line_next_days(&one, 1, NULL, 0) == 23);
+    judge("no list, no places", line_next_days(NULL, 0, NULL, 0) == 23);
+}
+
 int main(void)
 {
     try_check();
     try_exchange();
     try_play();
+    try_days();
     printf("%u calls, %u failed\n", tried, failed);
     return failed > 0;
 }
