@@ -1,12 +1,12 @@
 -- Days of 2028, a leap year, as dates DDMM28 and as numbers from 1 to 366, over one table of the lengths of the months.
-use Prim.Native.Nat.{ℕ, suc, _+_, _-_, _*_, _/_, _%_, _≤_}
+use Prim.Native.Nat.{ℕ, suc, _+_, _*_, _/_, _%_, _≤_}
 use mathlib.Core.Path.{_≡_}
-use mathlib.Core.Bool.{Bool, true, _&&_, cond}
-use mathlib.Core.List.{List, [], _∷_}
-use lib.Dec.{eqb, leb}
+use mathlib.Core.Bool.{Bool, true, _&&_}
+use mathlib.Core.List.{List, [], _∷_, _++_, map}
+use lib.Dec.{eqb}
 use lib.ListN.{take}
 use Rattle.document.specs.Rules.{monthDays, dayAndMonth}
-use Rattle.calendar.specs.Rule.{yearDays}
+use Rattle.calendar.specs.Rule.{yearDays, from, entryOf}
 
 -- the last two digits of the year
 abbrev pub year : ℕ
@@ -35,13 +35,17 @@ total (n ∷ ns) = n + total ns
 unfoldable pub dayNumber : (date : ℕ) → ℕ
 dayNumber date = total (take (monthIn date) monthDays) + dayIn date
 
--- back: a day that counts from the first of a month on lies in it or in one of those after it; 0 where there is no such day
-unfoldable pub countedFrom : (month : ℕ) (lengths : List ℕ) (day : ℕ) → ℕ
-countedFrom month [] day = 0
-countedFrom month (n ∷ ns) day = cond (leb day n) (dated day month) (countedFrom (suc month) ns (day - n))
+-- the dates of some months, in order, and of all
+unfoldable pub datesFrom : (month : ℕ) (lengths : List ℕ) → List ℕ
+datesFrom month [] = []
+datesFrom month (n ∷ ns) = map (λ (day : ℕ). dated day month) (from 1 n) ++ datesFrom (suc month) ns
 
+abbrev pub dates2028 : List ℕ
+dates2028 = datesFrom 0 monthDays
+
+-- the date of a number: the dates are counted from 1
 unfoldable pub dateOf : (number : ℕ) → ℕ
-dateOf number = countedFrom 0 monthDays number
+dateOf number = entryOf dates2028 number
 
 -- claimed, and proved in proofs/Laws/Dates: each date has its number and each day of the year its date
 pub record NumberedDates : Type 0 where

@@ -33,6 +33,10 @@ from first (suc n) = first ∷ from (suc first) n
 unfoldable pub later : (day : ℕ) → List ℕ
 later day = from (suc day) (yearDays - day)
 
+-- all days of the year
+abbrev pub allDays : List ℕ
+allDays = later 0
+
 -- a day that is not in the list is worked
 abbrev pub worked : (unworked : List ℕ) → ℕ → Bool
 worked unworked day = not (member day unworked)
@@ -51,10 +55,11 @@ firstOf (d ∷ ds) = d
 unfoldable pub nextDay : (unworked : List ℕ) (day : ℕ) → ℕ
 nextDay unworked day = firstOf (those (worked unworked) (later day))
 
--- the table: an entry for each day of the year, read from 1 on; no other number has one
+-- the table has an entry for each day of the year
 unfoldable pub tableOf : (unworked : List ℕ) → List ℕ
-tableOf unworked = map (nextDay unworked) (later 0)
+tableOf unworked = map (nextDay unworked) allDays
 
+-- the entry of a day, counted from 1; 0 where there is none
 abbrev pub entryOf : (table : List ℕ) (day : ℕ) → ℕ
 entryOf table day = getD (0 ∷ table) day 0
 

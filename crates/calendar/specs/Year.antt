@@ -4,7 +4,7 @@ use mathlib.Core.Bool.{Bool, _||_}
 use mathlib.Core.List.{List, [], _∷_, map}
 use lib.Dec.{eqb}
 use Rattle.packed.specs.Every.{member}
-use Rattle.calendar.specs.Rule.{later, those, tableOf, entryOf}
+use Rattle.calendar.specs.Rule.{allDays, those, tableOf, entryOf}
 use Rattle.calendar.specs.Dates.{dated, dayNumber}
 
 -- 'Day 1 is a Saturday': the days of the week, counted from 0 for a Saturday
@@ -30,7 +30,7 @@ isUnworked day = eqb (weekday day) saturday || eqb (weekday day) sunday || isHol
 
 -- all of them, in order
 unfoldable pub unworked2028 : List ℕ
-unworked2028 = those isUnworked (later 0)
+unworked2028 = those isUnworked allDays
 
 -- the table's entry of a day, 0 for a number that is no day of the year
 unfoldable pub nextIn2028 : (day : ℕ) → ℕ

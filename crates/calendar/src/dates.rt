@@ -2,7 +2,7 @@
 use document::rules::MONTH_DAYS;
 ghost use mathlib.Core.Path.{_≡_};
 ghost use mathlib.Core.Bool.{true};
-ghost use Prim.Native.Nat.{_≤_};
+ghost use Prim.Native.Nat.{_≤_, _<_};
 ghost use lib.ListN.{getD};
 ghost use Rattle.document.specs.Rules.{monthDays};
 ghost use Rattle.calendar.specs.Rule.{yearDays};
@@ -51,6 +51,7 @@ pub fn day_number(date: u32) -> u16
 
 // The date of a number, 0 where the year has no such day.
 pub fn date_of(number: u16) -> u32
+    requires { ⌜ 0 < number ⌝ }
     ensures { λ r. ⌜ r ≡ dateOf number ⌝ }
 {
     let mut day = number;

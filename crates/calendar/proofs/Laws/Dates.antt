@@ -2,20 +2,21 @@
 use mathlib.Core.Path.{_≡_, refl, ap, sym, _∙_}
 use mathlib.Core.Bool.{Bool, true, _&&_}
 use mathlib.Core.Logic.{⊎-elim}
-use mathlib.Core.List.{List, [], _∷_}
+use mathlib.Core.List.{List, [], _∷_, _++_, map}
 use Prim.Native.Nat.{ℕ, zero, suc, _+_, _-_, _/_, _%_, _≤_, _<_}
 use native.Mathlib.Nat.{zero-add, add-zero, not-suc-le-zero, eq-or-lt-of-le}
 use native.Mathlib.Omega.{arith}
 use borrow.Author.Tests.{leb-true, le-leb, lt-leb, eqb-true}
 use lib.Dec.{eqb, leb}
-use lib.ListN.{length, take, drop, getD}
-use lib.Seq.{drop-cons}
+use lib.ListN.{length, take, drop, getD, length-map, List·getD-append}
+use lib.Seq.{drop-cons, getD-append-add}
 use Rattle.packed.specs.Every.{every}
 use Rattle.packed.proofs.Laws.Every.{every-cons}
 use Rattle.packed.proofs.Laws.Told.{both}
 use Rattle.document.specs.Rules.{monthDays, dayAndMonth}
-use Rattle.calendar.specs.Rule.{yearDays, from}
-use Rattle.calendar.specs.Dates.{year, dated, dayIn, monthIn, isDay2028, total, dayNumber, countedFrom, dateOf, NumberedDates}
+use Rattle.calendar.specs.Rule.{yearDays, from, entryOf}
+use Rattle.calendar.proofs.Laws.Rule.{length-from, entry-from}
+use Rattle.calendar.specs.Dates.{year, dated, dayIn, monthIn, isDay2028, total, dayNumber, datesFrom, dateOf, NumberedDates}
 
 -- one month more
 pub total-step : (ns : List ℕ) (k : ℕ) → total (take (suc k) ns) ≡ total (take k ns) + getD ns k 0
@@ -53,24 +54,45 @@ pub day-short : (date : ℕ) → isDay2028 date ≡ true → dayIn date ≤ year
 day-short date e = omega (arith, in-table date e .2, month-short (monthIn date))
 
 -- a day lies in the first of some months, or in those after it
-pub in-month : (month n : ℕ) (ns : List ℕ) (day : ℕ) → day ≤ n → countedFrom month (n ∷ ns) day ≡ dated day month
-unfolding countedFrom
-in-month month n ns day h = rw (le-leb day n h)
+dates-in : (month n : ℕ) → List ℕ
+dates-in month n = map (λ (day : ℕ). dated day month) (from 1 n)
 
-pub after-month : (month n : ℕ) (ns : List ℕ) (day : ℕ) → n < day → countedFrom month (n ∷ ns) day ≡ countedFrom (suc month) ns (day - n)
-unfolding countedFrom
-after-month month n ns day h = rw (lt-leb day n h)
+length-dates : (month n : ℕ) → length (dates-in month n) ≡ n
+unfolding dates-in
+length-dates month n = length-map (from 1 n) (λ (day : ℕ). dated day month) ∙ length-from 1 n
+
+pub in-month : (month n : ℕ) (ns : List ℕ) (day : ℕ) → 0 < day → day ≤ n → entryOf (datesFrom month (n ∷ ns)) day ≡ dated day month
+unfolding datesFrom dates-in
+in-month month n ns (suc k) h g =
+    List·getD-append (dates-in month n) (datesFrom (suc month) ns) 0 k (omega (arith, length-dates month n))
+    ∙ entry-from (λ (day : ℕ). dated day month) 1 n k (omega arith)
+    ∙ ap (λ (day : ℕ). dated day month) {x = 1 + k} {y = suc k} (omega arith)
+in-month month n ns zero h g = absurd (not-suc-le-zero h)
+
+pub after-month : (month n : ℕ) (ns : List ℕ) (day : ℕ) → n < day → entryOf (datesFrom month (n ∷ ns)) day ≡ entryOf (datesFrom (suc month) ns) (day - n)
+unfolding datesFrom dates-in
+after-month month n ns (suc k) g =
+    let past : length (dates-in month n) + (k - n) ≡ k = omega (arith, length-dates month n) in
+    ap (λ (i : ℕ). getD (dates-in month n ++ datesFrom (suc month) ns) i 0) (sym past)
+    ∙ getD-append-add (dates-in month n) (datesFrom (suc month) ns) (k - n) 0
+    ∙ ap (entryOf (datesFrom (suc month) ns)) {x = suc (k - n)} {y = suc k - n} (omega arith)
+after-month month n ns zero g = absurd (not-suc-le-zero g)
+
+pub no-month : (month day : ℕ) → entryOf (datesFrom month []) day ≡ 0
+unfolding datesFrom
+no-month month zero = refl
+no-month month (suc k) = refl
 
 -- the days of some months lead past them
-counted-on : (month : ℕ) (ns : List ℕ) (k day : ℕ) → 0 < day → countedFrom month ns (total (take k ns) + day) ≡ countedFrom (month + k) (drop k ns) day
-unfolding total countedFrom
+counted-on : (month : ℕ) (ns : List ℕ) (k day : ℕ) → 0 < day → entryOf (datesFrom month ns) (total (take k ns) + day) ≡ entryOf (datesFrom (month + k) (drop k ns)) day
+unfolding total
 counted-on month ns zero day h = rw (zero-add day, add-zero month)
-counted-on month [] (suc k) day h = refl
+counted-on month [] (suc k) day h = no-month month (0 + day) ∙ sym (no-month (month + suc k) day)
 counted-on month (n ∷ ns) (suc k) day h =
     after-month month n ns (n + total (take k ns) + day) (omega arith)
-    ∙ ap (countedFrom (suc month) ns) {x = n + total (take k ns) + day - n} {y = total (take k ns) + day} (omega arith)
+    ∙ ap (entryOf (datesFrom (suc month) ns)) {x = n + total (take k ns) + day - n} {y = total (take k ns) + day} (omega arith)
     ∙ counted-on (suc month) ns k day h
-    ∙ ap (λ (m : ℕ). countedFrom m (drop k ns) day) {x = suc month + k} {y = month + suc k} (omega arith)
+    ∙ ap (λ (m : ℕ). entryOf (datesFrom m (drop k ns)) day) {x = suc month + k} {y = month + suc k} (omega arith)
 
 -- no entry stands past the end
 within : (ns : List ℕ) (k : ℕ) → 1 ≤ getD ns k 0 → k < length ns
@@ -85,9 +107,9 @@ back date e =
     let month = monthIn date in
     let again : dated (dayIn date) month ≡ date = omega (arith, t .0) in
     counted-on 0 monthDays month (dayIn date) (t .1)
-    ∙ ap (λ (m : ℕ). countedFrom m (drop month monthDays) (dayIn date)) (zero-add month)
-    ∙ ap (λ (ns : List ℕ). countedFrom month ns (dayIn date)) (drop-cons monthDays month 0 (within monthDays month (omega (arith, t .1, t .2))))
-    ∙ in-month month (getD monthDays month 0) (drop (suc month) monthDays) (dayIn date) (t .2)
+    ∙ ap (λ (m : ℕ). entryOf (datesFrom m (drop month monthDays)) (dayIn date)) (zero-add month)
+    ∙ ap (λ (ns : List ℕ). entryOf (datesFrom month ns) (dayIn date)) (drop-cons monthDays month 0 (within monthDays month (omega (arith, t .1, t .2))))
+    ∙ in-month month (getD monthDays month 0) (drop (suc month) monthDays) (dayIn date) (t .1) (t .2)
     ∙ again
 
 -- and each day of the year has a date: a test that antt computes for all of them
@@ -102,7 +124,7 @@ numbered : ℕ → Bool
 numbered n = isDay2028 (dateOf n) && eqb (dayNumber (dateOf n)) n
 
 forth : (n : ℕ) → 1 ≤ n → n ≤ yearDays → (isDay2028 (dateOf n) ≡ true) × (dayNumber (dateOf n) ≡ n)
-unfolding numbered every from isDay2028 dateOf countedFrom dayNumber total monthDays
+unfolding numbered every from isDay2028 dateOf datesFrom dayNumber total monthDays
 forth n h g =
     let t = both (isDay2028 (dateOf n)) (eqb (dayNumber (dateOf n)) n) (every-from numbered 1 yearDays refl n h (omega arith)) in
     (t .0, eqb-true (dayNumber (dateOf n)) n (t .1))

@@ -44,16 +44,17 @@ pub length-table : (unworked : List ℕ) → length (tableOf unworked) ≡ yearD
 unfolding tableOf later
 length-table unworked = length-map (from 1 yearDays) (nextDay unworked) ∙ length-from 1 yearDays
 
--- and this is it
-entry-from : (unworked : List ℕ) (a k i : ℕ) → i < k → getD (map (nextDay unworked) (from a k)) i 0 ≡ nextDay unworked (a + i)
+-- what is made of numbers in a row, one by one
+pub entry-from : (f : ℕ → ℕ) (a k i : ℕ) → i < k → getD (map f (from a k)) i 0 ≡ f (a + i)
 unfolding from
-entry-from unworked a (suc k) zero h = ap (nextDay unworked) (sym (add-zero a))
-entry-from unworked a (suc k) (suc i) h = entry-from unworked (suc a) k i (omega arith) ∙ ap (nextDay unworked) {x = suc a + i} {y = a + suc i} (omega arith)
-entry-from unworked a zero i h = absurd (not-suc-le-zero h)
+entry-from f a (suc k) zero h = ap f (sym (add-zero a))
+entry-from f a (suc k) (suc i) h = entry-from f (suc a) k i (omega arith) ∙ ap f {x = suc a + i} {y = a + suc i} (omega arith)
+entry-from f a zero i h = absurd (not-suc-le-zero h)
 
+-- so each entry of the table is its day's
 pub entry : (unworked : List ℕ) (day : ℕ) → 1 ≤ day → day ≤ yearDays → entryOf (tableOf unworked) day ≡ nextDay unworked day
 unfolding tableOf later
-entry unworked (suc n) h g = entry-from unworked 1 yearDays n (omega arith) ∙ ap (nextDay unworked) {x = 1 + n} {y = suc n} (omega arith)
+entry unworked (suc n) h g = entry-from (nextDay unworked) 1 yearDays n (omega arith) ∙ ap (nextDay unworked) {x = 1 + n} {y = suc n} (omega arith)
 entry unworked zero h g = absurd (not-suc-le-zero h)
 
 -- a list made of those days that pass a test has a day where the test says so

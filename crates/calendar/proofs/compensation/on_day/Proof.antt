@@ -1,7 +1,7 @@
 -- `on_day`: 0 is no day.
 use mathlib.Core.Path.{_≡_, refl, ap, sym, _∙_}
 use Prim.Native.Nat.{ℕ, zero, suc}
-use borrow.Author.Needs.{needs}
+use native.Mathlib.Omega.{arith}
 use Rattle.calendar.specs.Dates.{dateOf}
 use Rattle.calendar.specs.declared.compensation.Compensation.{Compensation}
 use Rattle.calendar.specs.Compensation.{onDay}
@@ -18,7 +18,7 @@ unfolding onDay
 returns c = ap onDay (sym (c .if1 .taken))
 
 date-of-requires : tie.Need-date-of-requires
-date-of-requires c κs = search needs
+date-of-requires c κs = omega arith
 
 returns-2 : tie.Need-returns-2
 returns-2 c = ap Compensation.On (c .date-of .ensures) ∙ some-day (c .before .before .args .next) (c .before .if1 .left)

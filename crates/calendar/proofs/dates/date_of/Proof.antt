@@ -2,27 +2,28 @@
 -- many months are left.
 use mathlib.Core.Path.{_≡_, refl, ap, sym, _∙_}
 use mathlib.Core.List.{List}
-use Prim.Native.Nat.{ℕ, suc, _-_, _≤_}
+use Prim.Native.Nat.{ℕ, suc, _-_, _≤_, _<_}
 use native.Mathlib.Numerals.{add-one}
 use native.Mathlib.Omega.{arith}
 use borrow.Author.Needs.{needs}
 use lib.ListN.{length, drop, getD, drop-of-length-le}
 use lib.Seq.{drop-cons}
 use Rattle.document.specs.Rules.{monthDays}
-use Rattle.calendar.specs.Dates.{countedFrom, dateOf}
-use Rattle.calendar.proofs.Laws.Dates.{in-month, after-month}
+use Rattle.calendar.specs.Rule.{entryOf}
+use Rattle.calendar.specs.Dates.{datesFrom, dateOf}
+use Rattle.calendar.proofs.Laws.Dates.{in-month, after-month, no-month}
 use Rattle.calendar.proofs.dates.date_of.Statement.{statement}
 use Rattle.calendar.proofs.dates.date_of.Tie as tie
 
 abbrev Inv-loop : tie.InvT-loop
-Inv-loop number day₀ month₀ day month = (month ≤ length monthDays) × (countedFrom month (drop month monthDays) day ≡ dateOf number)
+Inv-loop number day₀ month₀ day month = (month ≤ length monthDays) × (entryOf (datesFrom month (drop month monthDays)) day ≡ dateOf number) × (0 < day)
 
 abbrev μ-loop : tie.MeasureT-loop
 μ-loop number day₀ month₀ day month = length monthDays - month
 
 loop-holds : tie.Need-loop-holds Inv-loop μ-loop
 unfolding dateOf
-loop-holds c = (omega arith, refl)
+loop-holds c = (omega arith, refl, c .pre)
 
 month-days-requires : tie.Need-month-days-requires Inv-loop μ-loop
 month-days-requires c κs = search needs
@@ -51,8 +52,8 @@ returns c =
     let t = c .before .before .before in
     let month = t .loop .month in
     let day = t .loop .day in
-    sym (in-month month (getD monthDays month 0) (drop (suc month) monthDays) day (omega (arith, c .before .month-days .ensures .0, c .if1 .taken)))
-    ∙ ap (λ (l : List ℕ). countedFrom month l day) (sym (drop-cons monthDays month 0 (omega arith)))
+    sym (in-month month (getD monthDays month 0) (drop (suc month) monthDays) day (t .loop .inv .2) (omega (arith, c .before .month-days .ensures .0, c .if1 .taken)))
+    ∙ ap (λ (l : List ℕ). entryOf (datesFrom month l) day) (sym (drop-cons monthDays month 0 (omega arith)))
     ∙ t .loop .inv .1
 
 sub-day : tie.Need-sub-day Inv-loop μ-loop
@@ -74,13 +75,20 @@ loop-again c =
       omega arith,
       rw (add-one, c .before .month-days .ensures .0)
           (sym (after-month month (getD monthDays month 0) (drop (suc month) monthDays) day (omega (arith, c .before .month-days .ensures .0)))
-          ∙ ap (λ (l : List ℕ). countedFrom month l day) (sym (drop-cons monthDays month 0 (omega arith)))
+          ∙ ap (λ (l : List ℕ). entryOf (datesFrom month l) day) (sym (drop-cons monthDays month 0 (omega arith)))
           ∙ t .loop .inv .1),
+      omega arith,
     )
 
 returns-2 : tie.Need-returns-2 Inv-loop μ-loop
-unfolding monthDays countedFrom
-returns-2 c = let t = c .before in ap (λ (l : List ℕ). countedFrom (t .loop .month) l (t .loop .day)) (sym (drop-of-length-le monthDays {i = t .loop .month} (omega arith))) ∙ t .loop .inv .1
+unfolding monthDays
+returns-2 c =
+    let t = c .before in
+    let month = t .loop .month in
+    let day = t .loop .day in
+    sym (no-month month day)
+    ∙ ap (λ (l : List ℕ). entryOf (datesFrom month l) day) (sym (drop-of-length-le monthDays {i = month} (omega arith)))
+    ∙ t .loop .inv .1
 
 pub date-of-spec : {M : Type 1} → statement M
 date-of-spec =
