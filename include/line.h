@@ -162,7 +162,7 @@ line_played line_play_script(const uint8_t *script, size_t script_len,
                              uint8_t *wire, size_t wire_len);
 
 /* The places that line_next_days fills: the days of a leap year. */
-#define LINE_YEAR 366
+#define LINE_YEAR_DAYS 366
 
 /*
  * Makes the table of next working days from a list of unworked days. Days are
@@ -171,6 +171,7 @@ line_played line_play_script(const uint8_t *script, size_t script_len,
  * Link with libentries.a.
  *
  * The list has all unworked days, Saturdays and Sundays too; it may be empty.
+ * For a year of 365 days it ends with 366, else day 365 gives 366.
  *
  * Returns 0, or the first of these that applies, with nothing written:
  *   40  the list is not strictly ascending, or has a day outside 1 to 366
@@ -193,9 +194,9 @@ uint8_t line_next_days(const uint16_t *unworked, size_t unworked_len,
 
 /* The compensation date of a session's date. */
 typedef struct line_compensation {
-    uint8_t found; /* 0 the date; 1 the year has no later working day; 2 the
-                      session's date is no day of 2028 */
-    uint32_t date; /* DDMM28 as a number, 0 unless found is 0 */
+    uint8_t found; /* 0 where the date was found; 1 the year has no later
+                      working day; 2 the session's date is no day of 2028 */
+    uint32_t date; /* DDMM28 as a number; 0 where found is 1 or 2 */
 } line_compensation;
 
 /*
@@ -203,6 +204,8 @@ typedef struct line_compensation {
  * after `date`, which is the number DDMM28 without leading zeros (50128 is 5
  * January). Not worked are Saturdays, Sundays, 1 and 6 January, 1 May, 12
  * October and 25 December. Any number may be passed. Link with libentries.a.
+ *
+ * There is no global state, so several threads may call at once.
  */
 line_compensation line_compensation_date(uint32_t date);
 

@@ -39,7 +39,7 @@ static void try_list(const char *what, const uint16_t *list, size_t count,
     for (i = 0; i < MORE; i++)
         days[i] = UNTOUCHED;
     same(what, line_next_days(list, count, days, places), wanted);
-    for (i = kept = wanted == 0 ? LINE_YEAR : 0; i < MORE; i++)
+    for (i = kept = wanted == 0 ? LINE_YEAR_DAYS : 0; i < MORE; i++)
         kept += days[i] == UNTOUCHED;
     same(what, (uint32_t)kept, MORE);
 }
@@ -47,8 +47,8 @@ static void try_list(const char *what, const uint16_t *list, size_t count,
 /* A list with 365, 366 and 400 places; the table of the last is left. */
 static void try_places(const char *what, const uint16_t *list, size_t count)
 {
-    try_list(what, list, count, LINE_YEAR - 1, 23);
-    try_list(what, list, count, LINE_YEAR, 0);
+    try_list(what, list, count, LINE_YEAR_DAYS - 1, 23);
+    try_list(what, list, count, LINE_YEAR_DAYS, 0);
     try_list(what, list, count, MORE, 0);
 }
 
@@ -70,7 +70,7 @@ static size_t unworked_2028(uint16_t *list)
     size_t count = 0, i;
     uint16_t day;
 
-    for (day = 1; day <= LINE_YEAR; day++) {
+    for (day = 1; day <= LINE_YEAR_DAYS; day++) {
         int unworked = day % 7 == 1 || day % 7 == 2;
         for (i = 0; i < COUNT(holidays); i++)
             unworked |= day == holidays[i];
@@ -82,7 +82,7 @@ static size_t unworked_2028(uint16_t *list)
 
 static void try_good_lists(void)
 {
-    uint16_t list[LINE_YEAR];
+    uint16_t list[LINE_YEAR_DAYS];
     size_t count = unworked_2028(list), i;
 
     same("unworked days of 2028", (uint32_t)count, 110);
@@ -92,17 +92,17 @@ static void try_good_lists(void)
     try_places("no day", list, 0);
     same_days("no day", 2, 6, 364, 365, 0);
 
-    for (i = 0; i < LINE_YEAR; i++)
+    for (i = 0; i < LINE_YEAR_DAYS; i++)
         list[i] = (uint16_t)(i + 1);
-    try_places("all days", list, LINE_YEAR);
-    for (i = 0; i < LINE_YEAR; i++)
+    try_places("all days", list, LINE_YEAR_DAYS);
+    for (i = 0; i < LINE_YEAR_DAYS; i++)
         same("all days", days[i], 0);
 }
 
 static void try_bad_list(const char *what, const uint16_t *list, size_t count)
 {
-    try_list(what, list, count, LINE_YEAR - 1, 40);
-    try_list(what, list, count, LINE_YEAR, 40);
+    try_list(what, list, count, LINE_YEAR_DAYS - 1, 40);
+    try_list(what, list, count, LINE_YEAR_DAYS, 40);
     try_list(what, list, count, MORE, 40);
 }
 

@@ -75,9 +75,9 @@ static void try_play(void)
 static void try_days(void)
 {
     static const uint16_t one = 1;
-    uint16_t days[LINE_YEAR] = { 0 };
+    uint16_t days[LINE_YEAR_DAYS] = { 0 };
 
-    judge("no list", line_next_days(NULL, 0, days, LINE_YEAR) == 0 && days[0] == 2);
+    judge("no list", line_next_days(NULL, 0, days, LINE_YEAR_DAYS) == 0 && days[0] == 2);
     judge("no places", line_next_days(&one, 1, NULL, 0) == 23);
     judge("no list, no places", line_next_days(NULL, 0, NULL, 0) == 23);
 }

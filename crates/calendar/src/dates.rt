@@ -1,5 +1,4 @@
 // Days of 2028 as dates and as numbers, over the table of the lengths of the months.
-use document::rules::MONTH_DAYS;
 ghost use mathlib.Core.Path.{_≡_};
 ghost use mathlib.Core.Bool.{true};
 ghost use Prim.Native.Nat.{_≤_, _<_};
@@ -8,8 +7,11 @@ ghost use Rattle.document.specs.Rules.{monthDays};
 ghost use Rattle.calendar.specs.Rule.{yearDays};
 ghost use Rattle.calendar.specs.Dates.{isDay2028, dayNumber, dateOf};
 
-// The months of the table, with 00, which has no day.
+// The months, with 00, which has no day.
 const MONTHS: usize = 13;
+
+// The days of each.
+const MONTH_DAYS: [u16; MONTHS] = [0, 31, 29, 31, 30, 31, 30, 31, 31, 30, 31, 30, 31];
 
 // The last two digits of every date here.
 const YEAR: u32 = 28;

@@ -30,7 +30,7 @@ fn identification(v: u16) -> bool
 }
 
 // The days of each month from 00, which has none, to 12.
-pub const MONTH_DAYS: [u16; 13] = [0, 31, 29, 31, 30, 31, 30, 31, 31, 30, 31, 30, 31];
+const MONTH_DAYS: [u16; 13] = [0, 31, 29, 31, 30, 31, 30, 31, 31, 30, 31, 30, 31];
 
 pub fn day_and_month(v: u16) -> bool
     ensures { λ r. ⌜ r ≡ dayAndMonth v ⌝ }

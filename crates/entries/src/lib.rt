@@ -1,10 +1,7 @@
-// What C calls beside the detail check: a script is played, an evening is run over the trays of two ends, a table of next
-// working days is made, a compensation date is given. include/line.h says how each is called.
-use calendar::compensation::compensation_date;
-use calendar::generator::next_days;
-use calendar::generator::table_number;
-use calendar::shown::CompensationShown;
-use calendar::shown::shown;
+// What C calls beside the detail check: a script is played, an evening is run over the trays of two ends, and in files of
+// their own what was asked for since. include/line.h says how each is called.
+pub mod days;
+
 use exchange::evening::exchange;
 use exchange::shown::Evening;
 use script::play::Stop;
@@ -14,9 +11,6 @@ ghost use mathlib.Core.Path.{_≡_};
 ghost use Prim.Native.Nat.{_≤_};
 ghost use lib.ListN.{length, drop};
 ghost use Rattle.exchange.specs.Evening.{exchanged};
-ghost use Rattle.calendar.specs.Generator.{tableRefusal, placesLeft};
-ghost use Rattle.calendar.specs.Compensation.{compensation};
-ghost use Rattle.calendar.specs.Shown.{shown};
 
 // How many bytes of the script were played, how many bytes answer them, and why it stopped: 0 where all was played, 1 where
 // the answer to the next line does not fit.
@@ -71,21 +65,4 @@ pub extern "C" fn line_exchange<'a>(
         far_presentations,
         far_returns,
     )
-}
-
-// Makes the table of next working days from a list of unworked days, in the first of the lent places.
-#[no_mangle]
-pub extern "C" fn line_next_days(unworked: &[u16], days: &mut [u16]) -> u8
-    ensures answer { λ r. ⌜ r ≡ tableRefusal (now (unworked .entry)) (length (now (days .entry))) ⌝ }
-    ensures left { λ r. ⌜ now (days .exit) ≡ placesLeft (now (unworked .entry)) (now (days .entry)) ⌝ }
-{
-    table_number(next_days(unworked, days))
-}
-
-// The compensation date of a date of 2028.
-#[no_mangle]
-pub extern "C" fn line_compensation_date(date: u32) -> CompensationShown
-    ensures { λ r. ⌜ r ≡ shown (compensation date) ⌝ }
-{
-    shown(compensation_date(date))
 }

@@ -30,4 +30,6 @@ made unworked days good room = rw (good, le-ltb (length days) yearDays room) (re
 -- where there is room for the table and no more, it fills the places
 pub whole-table : (unworked days : List ℕ) → goodList unworked ≡ true → length days ≡ yearDays → placesLeft unworked days ≡ tableOf unworked
 whole-table unworked days good full =
-    sym (made unworked days good (omega arith) .1) ∙ ap (λ (rest : List ℕ). tableOf unworked ++ rest) (drop-of-length-le days {i = yearDays} (omega arith)) ∙ append-nil (tableOf unworked)
+    sym (made unworked days good (omega arith) .1)
+    ∙ ap (λ (rest : List ℕ). tableOf unworked ++ rest) (drop-of-length-le days {i = yearDays} (omega arith))
+    ∙ append-nil (tableOf unworked)

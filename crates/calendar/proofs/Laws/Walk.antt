@@ -69,7 +69,13 @@ over-worked unworked e day next after l left de same it h asc w missed =
 pub entry-written : (unworked days tail : List ℕ) (e day next : ℕ) → suc e ≡ day → day ≤ yearDays → e < length days → next ≡ nextDay unworked day
     → drop day days ≡ map (nextDay unworked) (later day) ++ tail → drop e (set days e next) ≡ map (nextDay unworked) (later e) ++ tail
 entry-written unworked days tail e day next de h room entry rest =
-    drop-cons (set days e next) e 0 (subst (λ (n : ℕ). e < n) (sym (length-set days e next)) room)
-    ∙ ap (λ (x : ℕ). x ∷ drop (suc e) (set days e next)) (getD-set-same days e next 0 room ∙ entry ∙ ap (nextDay unworked) (sym de))
-    ∙ ap {B = List ℕ} (λ r. nextDay unworked (suc e) ∷ r) (drop-set-lt (suc e) days e next (omega arith) ∙ ap (λ (k : ℕ). drop k days) de ∙ rest ∙ ap (λ (k : ℕ). map (nextDay unworked) (later k) ++ tail) (sym de))
+    let after : List ℕ = set days e next in
+    let behind : drop (suc e) after ≡ map (nextDay unworked) (later (suc e)) ++ tail =
+    drop-set-lt (suc e) days e next (omega arith)
+    ∙ ap (λ (k : ℕ). drop k days) de
+    ∙ rest
+    ∙ ap (λ (k : ℕ). map (nextDay unworked) (later k) ++ tail) (sym de) in
+    drop-cons after e 0 (subst (λ (n : ℕ). e < n) (sym (length-set days e next)) room)
+    ∙ ap (λ (x : ℕ). x ∷ drop (suc e) after) (getD-set-same days e next 0 room ∙ entry ∙ ap (nextDay unworked) (sym de))
+    ∙ ap {B = List ℕ} (λ r. nextDay unworked (suc e) ∷ r) behind
     ∙ sym (ap (λ (ds : List ℕ). map (nextDay unworked) ds ++ tail) (later-step e (omega arith)))

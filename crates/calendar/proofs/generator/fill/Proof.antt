@@ -3,7 +3,7 @@
 use mathlib.Core.Path.{_≡_, refl, ap, sym, _∙_}
 use mathlib.Core.Logic.{⊎-elim}
 use mathlib.Core.List.{List, _∷_, _++_, map}
-use Prim.Native.Nat.{ℕ, _-_, _≤_}
+use Prim.Native.Nat.{ℕ, suc, _-_, _≤_}
 use native.Mathlib.Omega.{arith}
 use borrow.Author.Needs.{needs}
 use lib.ListN.{length, drop, getD, length-set}
@@ -26,7 +26,13 @@ abbrev μ-loop : tie.MeasureT-loop
 
 loop-holds : tie.Need-loop-holds Inv-loop μ-loop
 loop-holds c =
-    let s = c .before .before in (omega arith, refl, ap (λ (ds : List ℕ). map (nextDay (s .args .unworked .now)) ds ++ drop yearDays (s .args .days .now)) (sym (none-later yearDays (omega arith))), at-last (s .args .unworked .now) (s .pre .0))
+    let s = c .before .before in
+    let u = s .args .unworked .now in (
+      omega arith,
+      refl,
+      ap (λ (later : List ℕ). map (nextDay u) later ++ drop yearDays (s .args .days .now)) (sym (none-later yearDays (omega arith))),
+      at-last u (s .pre .0),
+    )
 
 cast-days : tie.Need-cast-days Inv-loop μ-loop
 cast-days c = search needs
@@ -44,7 +50,9 @@ last-of-requires : tie.Need-last-of-requires Inv-loop μ-loop
 last-of-requires c κs = search needs
 
 sub-left : tie.Need-sub-left Inv-loop μ-loop
-sub-left c = let t = c .before .before .before in some-left (t .before .before .before .args .unworked .now) (t .loop .left) (t .loop .day) (omega arith) (sym (c .before .last-of .ensures) ∙ c .if1 .taken)
+sub-left c =
+    let t = c .before .before .before in
+    some-left (t .before .before .before .args .unworked .now) (t .loop .left) (t .loop .day) (omega arith) (sym (c .before .last-of .ensures) ∙ c .if1 .taken)
 
 sub-day : tie.Need-sub-day Inv-loop μ-loop
 sub-day c = search needs
@@ -58,17 +66,23 @@ loop-again c =
     let s = t .before .before .before in
     let u = s .args .unworked .now in
     let day = t .loop .day in
+    let next = t .loop .next in
+    let left = t .loop .left in
     let asc = ascends u (s .pre .0) in
-    let w = t .loop .inv .3 in (
+    let w = t .loop .inv .3 in
+    let last = c .before .last-of .ensures in (
       omega arith,
-      length-set (t .loop .days) (day - 1) (t .loop .next) ∙ t .loop .inv .1,
-      entry-written u (t .loop .days) (drop yearDays (s .args .days .now)) (day - 1) day (t .loop .next) (omega arith) (omega arith) (omega arith) (w .entry) (t .loop .inv .2),
+      length-set (t .loop .days) (day - 1) next ∙ t .loop .inv .1,
+      entry-written u (t .loop .days) (drop yearDays (s .args .days .now)) (day - 1) day next (omega arith) (omega arith) (omega arith) (w .entry) (t .loop .inv .2),
       ⊎-elim
           (λ e.
-          let found : getD (0 ∷ u) (t .loop .left) 0 ≡ day = sym (c .before .last-of .ensures) ∙ e .0 .taken in
-          let less : c .if1 .left ≡ t .loop .left - 1 = e .1 in
-          over-listed u (day - 1) day (t .loop .next) (c .if1 .next) (c .if1 .left) (t .loop .left) (omega arith) (omega (arith, less, some-left u (t .loop .left) day (omega arith) found)) (e .2) (omega arith) asc w found)
-          (λ e. over-worked u (day - 1) day (t .loop .next) (c .if1 .next) (c .if1 .left) (t .loop .left) (omega arith) (e .1) (e .2) (omega arith) asc w (λ found. e .0 .left (c .before .last-of .ensures ∙ found)))
+          let found : getD (0 ∷ u) left 0 ≡ day = sym last ∙ e .0 .taken in
+          let less : c .if1 .left ≡ left - 1 = e .1 in
+          let counted : suc (c .if1 .left) ≡ left = omega (arith, less, some-left u left day (omega arith) found) in
+          over-listed u (day - 1) day next (c .if1 .next) (c .if1 .left) left (omega arith) counted (e .2) (omega arith) asc w found)
+          (λ e.
+          over-worked u (day - 1) day next (c .if1 .next) (c .if1 .left) left (omega arith) (e .1) (e .2) (omega arith) asc w
+          (λ found. e .0 .left (last ∙ found)))
           (c .if1 .came),
     )
 

@@ -2,8 +2,8 @@
 use mathlib.Core.Path.{ap, _∙_}
 use borrow.Author.Needs.{needs}
 use Rattle.calendar.specs.Shown.{shown}
-use Rattle.entries.proofs.line_compensation_date.Statement.{statement}
-use Rattle.entries.proofs.line_compensation_date.Tie as tie
+use Rattle.entries.proofs.days.line_compensation_date.Statement.{statement}
+use Rattle.entries.proofs.days.line_compensation_date.Tie as tie
 
 compensation-date-requires : tie.Need-compensation-date-requires
 compensation-date-requires c κs = search needs
