@@ -1,13 +1,13 @@
 -- 02, card 1: the values that it prints, lists and dates at the edges, and every holiday, computed from the definitions.
 use mathlib.Core.Path.{_≡_, refl}
-use mathlib.Core.List.{[], _∷_}
+use mathlib.Core.List.{[], _∷_, _++_}
 use Prim.Native.Nat.{ℕ}
 use Rattle.packed.specs.Every.{every, member}
 use Rattle.codes.specs.Chain.{_when_, _orelse_}
 use Rattle.codes.proofs.Cases.{_is_, AllDue}
 use Rattle.document.specs.Rules.{monthDays}
 use Rattle.calendar.specs.Rule.{allDays, from, later, those, nextDay, tableOf}
-use Rattle.calendar.specs.Generator.{ascending, goodList, tableRefusal}
+use Rattle.calendar.specs.Generator.{ascending, goodList, tableRefusal, placesLeft}
 use Rattle.calendar.specs.Dates.{isDay2028, total, dayNumber, datesFrom, dateOf}
 use Rattle.calendar.specs.Year.{holidays, isHoliday, unworked2028, nextIn2028}
 use Rattle.calendar.specs.Compensation.{onDay, compensation}
@@ -26,6 +26,9 @@ all-due : AllDue
     ∷ nextDay unworked2028 5 is 7
     ∷ nextDay unworked2028 363 is 364
     ∷ nextDay unworked2028 364 is 0
+    -- numbers that are no day of the year
+    ∷ nextIn2028 0 is 0
+    ∷ nextIn2028 367 is 0
     -- every day worked, and none
     ∷ nextDay [] 1 is 2
     ∷ nextDay [] 365 is 366
@@ -73,3 +76,12 @@ all-due = refl
 holidays-numbered : those isHoliday allDays ≡ 1 ∷ 6 ∷ 122 ∷ 286 ∷ 360 ∷ []
 unfolding those later from member holidays dayNumber total monthDays
 holidays-numbered = refl
+
+-- what is left in lent places: behind the table all is kept, and where the call is refused everywhere
+places-left : AllDue
+    (placesLeft [] (allDays ++ 7 ∷ 9 ∷ []) is (tableOf [] ++ 7 ∷ 9 ∷ [])
+    ∷ placesLeft [] (7 ∷ 9 ∷ []) is (7 ∷ 9 ∷ [])
+    ∷ placesLeft (0 ∷ []) allDays is allDays
+    ∷ [])
+unfolding placesLeft tableRefusal goodList ascending every _when_ _orelse_ later from
+places-left = refl

@@ -20,11 +20,11 @@ ascending (a ∷ b ∷ ds) = ltb a b && ascending (b ∷ ds)
 unfoldable pub goodList : List ℕ → Bool
 goodList ds = ascending ds && every (between 1 yearDays) ds
 
--- the paper's number of each answer
+-- the paper's number of each answer; 23 as for every lent buffer that is too short
 abbrev pub tableNumber : TableAnswer → ℕ
 tableNumber TableAnswer.Made = 0
 tableNumber TableAnswer.WrongList = 40
-tableNumber TableAnswer.ShortTable = 23
+tableNumber TableAnswer.ShortBuffer = 23
 
 -- the first that applies
 unfoldable pub tableRefusal : (unworked : List ℕ) (places : ℕ) → ℕ

@@ -2,7 +2,7 @@
 -- as a list.
 use Prim.Native.Nat.{ℕ, zero, suc, _-_, _<_, _≤_}
 use mathlib.Core.Path.{_≡_}
-use mathlib.Core.Bool.{Bool, false, not, cond}
+use mathlib.Core.Bool.{Bool, true, not, cond}
 use mathlib.Core.List.{List, [], _∷_, map}
 use lib.ListN.{getD}
 use Rattle.packed.specs.Every.{member}
@@ -11,11 +11,15 @@ use Rattle.packed.specs.Every.{member}
 abbrev pub yearDays : ℕ
 yearDays = 366
 
--- a working day of the year after a day: one that is not in the list
+-- a day that is not in the list is worked
+abbrev pub worked : (unworked : List ℕ) → ℕ → Bool
+worked unworked day = not (member day unworked)
+
+-- a working day of the year after a day
 pub record WorkedAfter (unworked : List ℕ) (day n : ℕ) : Type 0 where
   pub after : day < n
   pub inYear : n ≤ yearDays
-  pub unlisted : member n unworked ≡ false
+  pub works : worked unworked n ≡ true
 
 -- 'the number of the first later working day, or 0 if the year has none'
 pub data FirstLater (unworked : List ℕ) (day n : ℕ) : Type 0 where
@@ -36,10 +40,6 @@ later day = from (suc day) (yearDays - day)
 -- all days of the year
 abbrev pub allDays : List ℕ
 allDays = later 0
-
--- a day that is not in the list is worked
-abbrev pub worked : (unworked : List ℕ) → ℕ → Bool
-worked unworked day = not (member day unworked)
 
 -- those of some days that pass a test, in their order
 unfoldable pub those : (ℕ → Bool) → List ℕ → List ℕ

@@ -21,6 +21,7 @@ sunday = 1
 unfoldable pub holidays : List ℕ
 holidays = dated 1 1 ∷ dated 6 1 ∷ dated 1 5 ∷ dated 12 10 ∷ dated 25 12 ∷ []
 
+-- whether a day is one of them
 abbrev pub isHoliday : (day : ℕ) → Bool
 isHoliday day = member day (map dayNumber holidays)
 

@@ -16,7 +16,7 @@ pub const PLACES: usize = 366;
 pub enum TableAnswer {
     Made,
     WrongList,
-    ShortTable,
+    ShortBuffer,
 }
 
 // The paper's number.
@@ -26,7 +26,7 @@ pub fn table_number(a: TableAnswer) -> u8
     match a {
         TableAnswer::Made => 0,
         TableAnswer::WrongList => 40,
-        TableAnswer::ShortTable => 23,
+        TableAnswer::ShortBuffer => 23,
     }
 }
 
@@ -88,7 +88,7 @@ pub fn next_days(unworked: &[u16], days: &mut [u16]) -> TableAnswer
 {
     if good_list(unworked) {
         if days.len() < PLACES {
-            return TableAnswer::ShortTable;
+            return TableAnswer::ShortBuffer;
         }
         fill(unworked, days);
         return TableAnswer::Made;

@@ -8,9 +8,11 @@ use Rattle.decimal.specs.Decimal.{decimal, mostDigits}
 abbrev pub lineFeed : ℕ
 lineFeed = 0x0A
 
+-- a number and its line feed
 abbrev pub lineOf : ℕ → List ℕ
 lineOf n = decimal n ++ lineFeed ∷ []
 
+-- a line for each entry
 unfoldable pub tableText : List ℕ → List ℕ
 tableText [] = []
 tableText (n ∷ ns) = lineOf n ++ tableText ns

@@ -1,6 +1,6 @@
 -- Laws of a good list: how it is tested from the front, and what it tells of a day that lies between two neighbours. A list that begins with
 -- a number below all its days, as 0 is, is read from there.
-use mathlib.Core.Path.{_≡_, refl, sym, _∙_}
+use mathlib.Core.Path.{_≡_, refl, ap, sym, _∙_}
 use mathlib.Core.Bool.{Bool, true, false, _&&_, or-true, and-false}
 use mathlib.Core.List.{List, [], _∷_}
 use Prim.Native.Nat.{ℕ, zero, suc, _≤_, _<_}
@@ -8,7 +8,8 @@ use native.Mathlib.Nat.{not-suc-le-zero}
 use native.Mathlib.Omega.{arith}
 use borrow.Author.Tests.{ltb-true, lt-ltb, le-ltb, le-leb, lt-leb, leb-true, eq-eqb, ne-eqb}
 use lib.Dec.{ltb, leb, eqb}
-use lib.ListN.{length, getD}
+use lib.ListN.{length, drop, getD, drop-of-length-le}
+use lib.Seq.{drop-cons}
 use Rattle.codes.specs.Field.{between}
 use Rattle.packed.specs.Every.{every, member}
 use Rattle.packed.proofs.Laws.Told.{both}
@@ -26,22 +27,35 @@ behind-nothing [] = refl
 behind-nothing (zero ∷ ds) = sym (and-false (ascending (zero ∷ ds)))
 behind-nothing (suc d ∷ ds) = rw (lt-ltb 0 (suc d) (omega arith))
 
-pub none-behind : (last : ℕ) → goodBehind last [] ≡ true
+pub none-behind : (last : ℕ) (ds : List ℕ) (i : ℕ) → length ds ≤ i → goodBehind last (drop i ds) ≡ true
 unfolding goodBehind ascending every
-none-behind last = refl
+none-behind last ds i h = rw (drop-of-length-le ds {i = i} h)
 
--- one day of it
-pub not-above : (last d : ℕ) (ds : List ℕ) → d ≤ last → goodBehind last (d ∷ ds) ≡ false
+-- a day of it, at its place: not above the one before, past the year, or neither
+not-above : (last d : ℕ) (ds : List ℕ) → d ≤ last → goodBehind last (d ∷ ds) ≡ false
 unfolding goodBehind ascending
 not-above last d ds h = rw (le-ltb last d h)
 
-pub past-year : (last d : ℕ) (ds : List ℕ) → yearDays < d → goodBehind last (d ∷ ds) ≡ false
+past-year : (last d : ℕ) (ds : List ℕ) → yearDays < d → goodBehind last (d ∷ ds) ≡ false
 unfolding goodBehind every
 past-year last d ds h = rw (lt-leb d yearDays h, and-false (leb 1 d), and-false (ascending (last ∷ d ∷ ds)))
 
-pub good-day : (last d : ℕ) (ds : List ℕ) → last < d → d ≤ yearDays → goodBehind last (d ∷ ds) ≡ goodBehind d ds
+good-day : (last d : ℕ) (ds : List ℕ) → last < d → d ≤ yearDays → goodBehind last (d ∷ ds) ≡ goodBehind d ds
 unfolding goodBehind ascending every
 good-day last d ds h k = rw (lt-ltb last d h, le-leb 1 d (omega arith), le-leb d yearDays k)
+
+module _ (last : ℕ) (ds : List ℕ) (i : ℕ) (h : i < length ds) where
+  at-place : goodBehind last (drop i ds) ≡ goodBehind last (getD ds i 0 ∷ drop (suc i) ds)
+  at-place = ap (goodBehind last) (drop-cons ds i 0 h)
+
+  pub not-above-at : getD ds i 0 ≤ last → goodBehind last (drop i ds) ≡ false
+  not-above-at k = at-place ∙ not-above last (getD ds i 0) (drop (suc i) ds) k
+
+  pub past-year-at : yearDays < getD ds i 0 → goodBehind last (drop i ds) ≡ false
+  past-year-at k = at-place ∙ past-year last (getD ds i 0) (drop (suc i) ds) k
+
+  pub good-day-at : last < getD ds i 0 → getD ds i 0 ≤ yearDays → goodBehind last (drop i ds) ≡ goodBehind (getD ds i 0) (drop (suc i) ds)
+  good-day-at k w = at-place ∙ good-day last (getD ds i 0) (drop (suc i) ds) k w
 
 -- the days of a good list ascend from 0
 pub ascends : (ds : List ℕ) → goodList ds ≡ true → ascending (0 ∷ ds) ≡ true

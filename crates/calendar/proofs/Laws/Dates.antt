@@ -8,7 +8,7 @@ use native.Mathlib.Nat.{zero-add, add-zero, not-suc-le-zero, eq-or-lt-of-le}
 use native.Mathlib.Omega.{arith}
 use borrow.Author.Tests.{leb-true, eqb-true}
 use lib.Dec.{eqb, leb}
-use lib.ListN.{length, take, drop, getD, length-map, List·getD-append}
+use lib.ListN.{length, take, drop, getD, length-map, drop-of-length-le, List·getD-append}
 use lib.Seq.{drop-cons, getD-append-add}
 use Rattle.packed.specs.Every.{every}
 use Rattle.packed.proofs.Laws.Every.{every-cons}
@@ -46,11 +46,17 @@ in-table date e =
     let d = both (leb 1 (dayIn date)) (leb (dayIn date) days) (t .1) in
     (eqb-true (date % 100) year (t .0), leb-true 1 (dayIn date) (d .0), leb-true (dayIn date) days (d .1))
 
--- so no month is longer, and no day of one is later
-pub month-short : (month : ℕ) → getD monthDays month 0 ≤ yearDays
-month-short month = omega (arith, total-step monthDays month, within-year (suc month))
+-- no month is longer than 31 days, and no day of one is later
+at-most : (most : ℕ) (ns : List ℕ) (k : ℕ) → every (λ (n : ℕ). leb n most) ns ≡ true → getD ns k 0 ≤ most
+at-most most [] k e = omega arith
+at-most most (n ∷ ns) zero e = leb-true n most (every-cons (λ (n : ℕ). leb n most) n ns e .0)
+at-most most (n ∷ ns) (suc k) e = at-most most ns k (every-cons (λ (n : ℕ). leb n most) n ns e .1)
 
-pub day-short : (date : ℕ) → isDay2028 date ≡ true → dayIn date ≤ yearDays
+pub month-short : (month : ℕ) → getD monthDays month 0 ≤ 31
+unfolding monthDays every
+month-short month = at-most 31 monthDays month refl
+
+pub day-short : (date : ℕ) → isDay2028 date ≡ true → dayIn date ≤ 31
 day-short date e = omega (arith, in-table date e .2, month-short (monthIn date))
 
 -- a day lies in the first of some months, or in those after it
@@ -61,7 +67,7 @@ length-dates : (month n : ℕ) → length (dates-in month n) ≡ n
 unfolding dates-in
 length-dates month n = length-map (from 1 n) (λ (day : ℕ). dated day month) ∙ length-from 1 n
 
-pub in-month : (month n : ℕ) (ns : List ℕ) (day : ℕ) → 0 < day → day ≤ n → entryOf (datesFrom month (n ∷ ns)) day ≡ dated day month
+in-month : (month n : ℕ) (ns : List ℕ) (day : ℕ) → 0 < day → day ≤ n → entryOf (datesFrom month (n ∷ ns)) day ≡ dated day month
 unfolding datesFrom dates-in
 in-month month n ns (suc k) h g =
     List·getD-append (dates-in month n) (datesFrom (suc month) ns) 0 k (omega (arith, length-dates month n))
@@ -69,7 +75,7 @@ in-month month n ns (suc k) h g =
     ∙ ap (λ (day : ℕ). dated day month) {x = 1 + k} {y = suc k} (omega arith)
 in-month month n ns zero h g = absurd (not-suc-le-zero h)
 
-pub after-month : (month n : ℕ) (ns : List ℕ) (day : ℕ) → n < day → entryOf (datesFrom month (n ∷ ns)) day ≡ entryOf (datesFrom (suc month) ns) (day - n)
+after-month : (month n : ℕ) (ns : List ℕ) (day : ℕ) → n < day → entryOf (datesFrom month (n ∷ ns)) day ≡ entryOf (datesFrom (suc month) ns) (day - n)
 unfolding datesFrom dates-in
 after-month month n ns (suc k) g =
     let past : length (dates-in month n) + (k - n) ≡ k = omega (arith, length-dates month n) in
@@ -78,7 +84,7 @@ after-month month n ns (suc k) g =
     ∙ ap (entryOf (datesFrom (suc month) ns)) {x = suc (k - n)} {y = suc k - n} (omega arith)
 after-month month n ns zero g = absurd (not-suc-le-zero g)
 
-pub no-month : (month day : ℕ) → entryOf (datesFrom month []) day ≡ 0
+no-month : (month day : ℕ) → entryOf (datesFrom month []) day ≡ 0
 unfolding datesFrom
 no-month month zero = refl
 no-month month (suc k) = refl
@@ -94,6 +100,20 @@ counted-on month (n ∷ ns) (suc k) day h =
     ∙ counted-on (suc month) ns k day h
     ∙ ap (λ (m : ℕ). entryOf (datesFrom m (drop k ns)) day) {x = suc month + k} {y = month + suc k} (omega arith)
 
+-- and a day of a month of the table, at its place there
+module _ (month day : ℕ) (h : month < length monthDays) where
+  at-place : entryOf (datesFrom month (drop month monthDays)) day ≡ entryOf (datesFrom month (getD monthDays month 0 ∷ drop (suc month) monthDays)) day
+  at-place = ap (λ (ns : List ℕ). entryOf (datesFrom month ns) day) (drop-cons monthDays month 0 h)
+
+  pub in-month-at : 0 < day → day ≤ getD monthDays month 0 → entryOf (datesFrom month (drop month monthDays)) day ≡ dated day month
+  in-month-at g k = at-place ∙ in-month month (getD monthDays month 0) (drop (suc month) monthDays) day g k
+
+  pub after-month-at : getD monthDays month 0 < day → entryOf (datesFrom month (drop month monthDays)) day ≡ entryOf (datesFrom (suc month) (drop (suc month) monthDays)) (day - getD monthDays month 0)
+  after-month-at g = at-place ∙ after-month month (getD monthDays month 0) (drop (suc month) monthDays) day g
+
+pub past-months : (month day : ℕ) → length monthDays ≤ month → entryOf (datesFrom month (drop month monthDays)) day ≡ 0
+past-months month day h = ap (λ (ns : List ℕ). entryOf (datesFrom month ns) day) (drop-of-length-le monthDays {i = month} h) ∙ no-month month day
+
 -- no entry stands past the end
 within : (ns : List ℕ) (k : ℕ) → 1 ≤ getD ns k 0 → k < length ns
 within [] k h = absurd (not-suc-le-zero h)
@@ -108,8 +128,7 @@ back date e =
     let again : dated (dayIn date) month ≡ date = omega (arith, t .0) in
     counted-on 0 monthDays month (dayIn date) (t .1)
     ∙ ap (λ (m : ℕ). entryOf (datesFrom m (drop month monthDays)) (dayIn date)) (zero-add month)
-    ∙ ap (λ (ns : List ℕ). entryOf (datesFrom month ns) (dayIn date)) (drop-cons monthDays month 0 (within monthDays month (omega (arith, t .1, t .2))))
-    ∙ in-month month (getD monthDays month 0) (drop (suc month) monthDays) (dayIn date) (t .1) (t .2)
+    ∙ in-month-at month (dayIn date) (within monthDays month (omega (arith, t .1, t .2))) (t .1) (t .2)
     ∙ again
 
 -- and each day of the year has a date: a test that antt computes for all of them

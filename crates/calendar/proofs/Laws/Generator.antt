@@ -19,7 +19,7 @@ pub wrong-list : (unworked days : List ℕ) → goodList unworked ≡ false → 
 unfolding tableRefusal placesLeft _when_ _orelse_
 wrong-list unworked days bad = rw bad (refl, refl)
 
-pub short-table : (unworked days : List ℕ) → goodList unworked ≡ true → length days < yearDays → Answered unworked days days TableAnswer.ShortTable
+pub short-table : (unworked days : List ℕ) → goodList unworked ≡ true → length days < yearDays → Answered unworked days days TableAnswer.ShortBuffer
 unfolding tableRefusal placesLeft _when_ _orelse_
 short-table unworked days good short = rw (good, lt-ltb (length days) yearDays short) (refl, refl)
 

@@ -1,6 +1,6 @@
 -- Laws of the rule: one day more in front of the later ones; which days a list made by a test has; and that the function is the rule.
 use mathlib.Core.Path.{_≡_, refl, ap, sym, subst, _∙_}
-use mathlib.Core.Bool.{Bool, true, false, cond, true≢false}
+use mathlib.Core.Bool.{Bool, true, false, not, cond, true≢false}
 use mathlib.Core.Logic.{⊎-elim}
 use mathlib.Core.List.{List, [], _∷_, map}
 use Prim.Native.Nat.{ℕ, zero, suc, _+_, _-_, _≤_, _<_}
@@ -9,7 +9,7 @@ use native.Mathlib.Omega.{arith}
 use borrow.Author.Tests.{eq-eqb, ne-eqb}
 use lib.ListN.{length, getD, length-map}
 use Rattle.packed.specs.Every.{member}
-use Rattle.calendar.specs.Rule.{yearDays, WorkedAfter, FirstLater, found, none, AsTheRule, from, later, those, nextDay, tableOf, entryOf}
+use Rattle.calendar.specs.Rule.{yearDays, WorkedAfter, FirstLater, found, none, AsTheRule, worked, from, later, those, nextDay, tableOf, entryOf}
 
 -- the day after a day is the first of the later ones
 pub later-step : (day : ℕ) → day < yearDays → later day ≡ suc day ∷ later (suc day)
@@ -87,13 +87,13 @@ listed-exactly p n a (suc k) h g =
 passed : (unworked : List ℕ) (day n : ℕ) → member (suc day) unworked ≡ true → WorkedAfter unworked day n → WorkedAfter unworked (suc day) n
 passed unworked day n on w =
     ⊎-elim
-    (λ same. absurd (true≢false (sym on ∙ ap (λ (m : ℕ). member m unworked) same ∙ w .unlisted)))
-    (λ after. record { after = after; inYear = w .inYear; unlisted = w .unlisted })
+    (λ same. absurd (true≢false (sym (w .works) ∙ ap (worked unworked) (sym same) ∙ ap not on)))
+    (λ after. record { after = after; inYear = w .inYear; works = w .works })
     (eq-or-lt-of-le (w .after))
 
 passed-over : (unworked : List ℕ) (day n : ℕ) → member (suc day) unworked ≡ true → FirstLater unworked (suc day) n → FirstLater unworked day n
 passed-over unworked day n on (found w least) =
-    found (record { after = omega (arith, w .after); inYear = w .inYear; unlisted = w .unlisted }) (λ m v. least m (passed unworked day m on v))
+    found (record { after = omega (arith, w .after); inYear = w .inYear; works = w .works }) (λ m v. least m (passed unworked day m on v))
 passed-over unworked day n on (none z nobody) = none z (λ m v. nobody m (passed unworked day m on v))
 
 follows-from : (unworked : List ℕ) (k day : ℕ) → yearDays - day ≡ k → FirstLater unworked day (nextDay unworked day)
@@ -104,7 +104,7 @@ follows-from unworked (suc k) day h = go (member (suc day) unworked) refl (follo
     go true on rest = subst (FirstLater unworked day) (sym (listed-next unworked day (omega arith) on)) (passed-over unworked day (nextDay unworked (suc day)) on rest)
     go false off rest =
         subst (FirstLater unworked day) (sym (unlisted-next unworked day (omega arith) off))
-        (found (record { after = omega arith; inYear = omega arith; unlisted = off }) (λ m w. w .after))
+        (found (record { after = omega arith; inYear = omega arith; works = ap not off }) (λ m w. w .after))
 
 follows : (unworked : List ℕ) (day : ℕ) → FirstLater unworked day (nextDay unworked day)
 follows unworked day = follows-from unworked (yearDays - day) day refl

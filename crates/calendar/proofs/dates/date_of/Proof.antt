@@ -1,17 +1,16 @@
 -- `date_of` goes through the months. The invariant: counted from the present month on, the days that are left give the date. The measure is how
 -- many months are left.
-use mathlib.Core.Path.{_≡_, refl, ap, sym, _∙_}
+use mathlib.Core.Path.{_≡_, refl, sym, _∙_}
 use mathlib.Core.List.{List}
-use Prim.Native.Nat.{ℕ, suc, _-_, _≤_, _<_}
+use Prim.Native.Nat.{_-_, _≤_, _<_}
 use native.Mathlib.Numerals.{add-one}
 use native.Mathlib.Omega.{arith}
 use borrow.Author.Needs.{needs}
-use lib.ListN.{length, drop, getD, drop-of-length-le}
-use lib.Seq.{drop-cons}
+use lib.ListN.{length, drop}
 use Rattle.document.specs.Rules.{monthDays}
 use Rattle.calendar.specs.Rule.{entryOf}
 use Rattle.calendar.specs.Dates.{datesFrom, dateOf}
-use Rattle.calendar.proofs.Laws.Dates.{in-month, after-month, no-month}
+use Rattle.calendar.proofs.Laws.Dates.{in-month-at, after-month-at, past-months}
 use Rattle.calendar.proofs.dates.date_of.Statement.{statement}
 use Rattle.calendar.proofs.dates.date_of.Tie as tie
 
@@ -50,11 +49,7 @@ returns : tie.Need-returns Inv-loop μ-loop
 unfolding monthDays
 returns c =
     let t = c .before .before .before in
-    let month = t .loop .month in
-    let day = t .loop .day in
-    sym (in-month month (getD monthDays month 0) (drop (suc month) monthDays) day (t .loop .inv .2) (omega (arith, c .before .month-days .ensures .0, c .if1 .taken)))
-    ∙ ap (λ (l : List ℕ). entryOf (datesFrom month l) day) (sym (drop-cons monthDays month 0 (omega arith)))
-    ∙ t .loop .inv .1
+    sym (in-month-at (t .loop .month) (t .loop .day) (omega arith) (t .loop .inv .2) (omega (arith, c .before .month-days .ensures .0, c .if1 .taken))) ∙ t .loop .inv .1
 
 sub-day : tie.Need-sub-day Inv-loop μ-loop
 sub-day c = omega arith
@@ -70,25 +65,15 @@ loop-again : tie.Need-loop-again Inv-loop μ-loop
 unfolding monthDays
 loop-again c =
     let t = c .before .before .before in
-    let month = t .loop .month in
-    let day = t .loop .day in (
+    let days = c .before .month-days .ensures .0 in (
       omega arith,
-      rw (add-one, c .before .month-days .ensures .0)
-          (sym (after-month month (getD monthDays month 0) (drop (suc month) monthDays) day (omega (arith, c .before .month-days .ensures .0)))
-          ∙ ap (λ (l : List ℕ). entryOf (datesFrom month l) day) (sym (drop-cons monthDays month 0 (omega arith)))
-          ∙ t .loop .inv .1),
+      rw (add-one, days) (sym (after-month-at (t .loop .month) (t .loop .day) (omega arith) (omega (arith, days))) ∙ t .loop .inv .1),
       omega arith,
     )
 
 returns-2 : tie.Need-returns-2 Inv-loop μ-loop
 unfolding monthDays
-returns-2 c =
-    let t = c .before in
-    let month = t .loop .month in
-    let day = t .loop .day in
-    sym (no-month month day)
-    ∙ ap (λ (l : List ℕ). entryOf (datesFrom month l) day) (sym (drop-of-length-le monthDays {i = month} (omega arith)))
-    ∙ t .loop .inv .1
+returns-2 c = let t = c .before in sym (past-months (t .loop .month) (t .loop .day) (omega arith)) ∙ t .loop .inv .1
 
 pub date-of-spec : {M : Type 1} → statement M
 date-of-spec =

@@ -20,7 +20,7 @@ array-read-result c = search needs
 
 returns-2 : tie.Need-returns-2
 unfolding monthDays
-returns-2 c = (refl, month-short (c .before .args .month))
+returns-2 c = (refl, omega (arith, month-short (c .before .args .month)))
 
 pub month-days-spec : {M : Type 1} → statement M
 month-days-spec = tie.close (tie.spec returns mul-result array-read-result returns-2)

@@ -1,14 +1,13 @@
 -- `good_list` asks of each day whether it is above the one before and within the year. The invariant: the rest decides. The measure is what is
 -- left of the list.
-use mathlib.Core.Path.{_≡_, ap, sym, _∙_}
-use Prim.Native.Nat.{suc, _-_, _≤_}
+use mathlib.Core.Path.{_≡_, sym, _∙_}
+use Prim.Native.Nat.{_-_, _≤_}
 use native.Mathlib.Numerals.{add-one}
 use native.Mathlib.Omega.{arith}
 use borrow.Author.Needs.{needs}
-use lib.ListN.{length, drop, getD, drop-of-length-le}
-use lib.Seq.{drop-cons}
+use lib.ListN.{length, drop}
 use Rattle.calendar.specs.Generator.{goodList}
-use Rattle.calendar.proofs.Laws.Ascending.{goodBehind, behind-nothing, none-behind, not-above, past-year, good-day}
+use Rattle.calendar.proofs.Laws.Ascending.{goodBehind, behind-nothing, none-behind, not-above-at, past-year-at, good-day-at}
 use Rattle.calendar.proofs.generator.good_list.Statement.{statement}
 use Rattle.calendar.proofs.generator.good_list.Tie as tie
 
@@ -30,20 +29,12 @@ shared-slice-read-day c = search needs
 returns : tie.Need-returns Inv-loop μ-loop
 returns c =
     let t = c .before .before .before in
-    let u = t .before .args .unworked .now in
-    let i = t .loop .i in
-    sym (not-above (t .loop .last) (getD u i 0) (drop (suc i) u) (c .if1 .taken))
-    ∙ ap (goodBehind (t .loop .last)) (sym (drop-cons u i 0 (omega arith)))
-    ∙ t .loop .inv .1
+    sym (not-above-at (t .loop .last) (t .before .args .unworked .now) (t .loop .i) (omega arith) (c .if1 .taken)) ∙ t .loop .inv .1
 
 returns-2 : tie.Need-returns-2 Inv-loop μ-loop
 returns-2 c =
     let t = c .before .before .before .before in
-    let u = t .before .args .unworked .now in
-    let i = t .loop .i in
-    sym (past-year (t .loop .last) (getD u i 0) (drop (suc i) u) (c .if2 .taken))
-    ∙ ap (goodBehind (t .loop .last)) (sym (drop-cons u i 0 (omega arith)))
-    ∙ t .loop .inv .1
+    sym (past-year-at (t .loop .last) (t .before .args .unworked .now) (t .loop .i) (omega arith) (c .if2 .taken)) ∙ t .loop .inv .1
 
 add-i : tie.Need-add-i Inv-loop μ-loop
 add-i c = search needs
@@ -55,19 +46,10 @@ loop-again : tie.Need-loop-again Inv-loop μ-loop
 loop-again c =
     let t = c .before .before .before .before in
     let u = t .before .args .unworked .now in
-    let i = t .loop .i in (
-      omega arith,
-      rw add-one
-          (sym (good-day (t .loop .last) (getD u i 0) (drop (suc i) u) (omega arith) (omega arith))
-          ∙ ap (goodBehind (t .loop .last)) (sym (drop-cons u i 0 (omega arith)))
-          ∙ t .loop .inv .1),
-    )
+    (omega arith, rw add-one (sym (good-day-at (t .loop .last) u (t .loop .i) (omega arith) (omega arith) (omega arith)) ∙ t .loop .inv .1))
 
 returns-3 : tie.Need-returns-3 Inv-loop μ-loop
-returns-3 c =
-    let t = c .before in
-    let u = t .before .args .unworked .now in
-    sym (none-behind (t .loop .last)) ∙ ap (goodBehind (t .loop .last)) (sym (drop-of-length-le u {i = t .loop .i} (omega arith))) ∙ t .loop .inv .1
+returns-3 c = let t = c .before in sym (none-behind (t .loop .last) (t .before .args .unworked .now) (t .loop .i) (omega arith)) ∙ t .loop .inv .1
 
 pub good-list-spec : {M : Type 1} → statement M
 good-list-spec =

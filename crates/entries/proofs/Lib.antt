@@ -1,0 +1,2 @@
+-- What the calendar and the session have in common.
+pub mod Dates
