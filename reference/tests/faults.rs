@@ -1,7 +1,7 @@
 //! Faulty variants of the reference, each compiled and played over the corpus: every fault must
 //! show in the answers. The unmodified reference says what the answers should be.
 
-use reference::corpus::{calendar_corpus, corpus, generated, tray_corpus, Script};
+use reference::corpus::{calendar, calendar_corpus, corpus, generated, tray_corpus, Script};
 use reference::{calendar_script, script, tray_script};
 use std::collections::HashSet;
 use std::fs;
@@ -25,6 +25,8 @@ const PROGRAM: &str = "faults/program.rs";
 /// No call of a script reaches what is in these.
 const TRAYS: &str = "src/session/trays.rs";
 const CALENDAR: &str = "src/calendar/";
+/// So many faults of the calendar the generated questions must catch.
+const LEAST_OF_CALENDAR: usize = 19;
 
 struct Fault {
     what: String,
@@ -46,12 +48,19 @@ enum Outcome {
     NoProgram(String),
 }
 
-/// What all faults have come to.
+/// What all faults have come to, those of the calendar apart.
 #[derive(Default)]
 struct Tally {
+    of_calendar: Caught,
+    of_others: Caught,
+    failures: Vec<String>,
+}
+
+/// By others only if no generated script or question catches the fault.
+#[derive(Default)]
+struct Caught {
     by_generated: usize,
     by_others: usize,
-    failures: Vec<String>,
 }
 
 #[test]
@@ -77,27 +86,51 @@ fn every_fault_is_caught() {
         }
     });
     let tally = tally.into_inner().unwrap();
-    let (generated, others) = (tally.by_generated, tally.by_others);
-    println!("caught by generated scripts alone: {generated}, by others only: {others}");
+    tally.print();
     assert!(tally.failures.is_empty(), "{}", tally.failures.join("\n"));
+    let generated = tally.of_others.by_generated;
     let reached = faults.iter().filter(|fault| fault.is_reached_by_scripts());
     assert!(10 * generated >= 9 * reached.count(), "{generated} are few");
+    let generated = tally.of_calendar.by_generated;
+    let enough = generated >= LEAST_OF_CALENDAR;
+    assert!(enough, "{generated} of the calendar are few");
 }
 
 impl Tally {
+    fn print(&self) {
+        let (generated, others) = (self.of_others.by_generated, self.of_others.by_others);
+        println!("caught by generated scripts alone: {generated}, by others only: {others}");
+        let (generated, fixed) = (self.of_calendar.by_generated, self.of_calendar.by_others);
+        println!("of the calendar, by generated questions: {generated}, by fixed only: {fixed}");
+    }
+
     fn add(&mut self, fault: &Fault, outcome: Outcome, workshop: &Workshop) {
         let what = &fault.what;
         match outcome {
             Outcome::Caught(script) => {
                 println!("{script:24} {what}");
-                if workshop.generated.contains(&script) {
-                    self.by_generated += 1;
-                } else {
-                    self.by_others += 1;
-                }
+                self.of(fault).add(workshop.generated.contains(&script));
             }
             Outcome::Missed => self.failures.push(format!("not caught: {what}")),
             Outcome::NoProgram(why) => self.failures.push(format!("no program: {what}\n{why}")),
+        }
+    }
+
+    fn of(&mut self, fault: &Fault) -> &mut Caught {
+        if fault.is_of_calendar() {
+            &mut self.of_calendar
+        } else {
+            &mut self.of_others
+        }
+    }
+}
+
+impl Caught {
+    fn add(&mut self, is_generated: bool) {
+        if is_generated {
+            self.by_generated += 1;
+        } else {
+            self.by_others += 1;
         }
     }
 }
@@ -106,7 +139,8 @@ impl Tally {
 struct Workshop {
     package: PathBuf,
     place: PathBuf,
-    /// The names of the generated scripts, which are played before the hand-made ones.
+    /// The names of the generated scripts and calendar questions, which are played before the
+    /// others.
     generated: HashSet<String>,
 }
 
@@ -120,11 +154,11 @@ impl Workshop {
         let text = noted(&calendar_corpus(), calendar_script::play);
         fs::write(place.join("calendar"), text).unwrap();
         let package = PathBuf::from(env!("CARGO_MANIFEST_DIR"));
-        let generated = generated().into_iter().map(|script| script.name);
+        let generated = generated().into_iter().chain(calendar::generated());
         Workshop {
             package,
             place,
-            generated: generated.collect(),
+            generated: generated.map(|script| script.name).collect(),
         }
     }
 

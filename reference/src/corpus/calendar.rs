@@ -4,11 +4,16 @@ use super::Script;
 use crate::calendar::next_days::{DAYS, LAST_DAY};
 use crate::calendar::year_2028;
 use crate::calendar_script::list;
-use crate::generate::calendar::{questions, with_all_places};
+use crate::generate::calendar::{questions, with_all_places, SEEDS};
 use std::fmt::Write;
 
 pub fn of_seed(seed: u64) -> Script {
     Script::new(&format!("calendar, seed {seed}"), questions(seed))
+}
+
+/// Those of as many seeds as a usual run takes.
+pub fn generated() -> Vec<Script> {
+    (0..SEEDS).map(of_seed).collect()
 }
 
 pub fn fixed() -> Vec<Script> {

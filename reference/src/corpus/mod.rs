@@ -30,8 +30,7 @@ pub fn tray_corpus() -> Vec<Script> {
 
 /// Calendar questions, which are none either. The generated ones come first.
 pub fn calendar_corpus() -> Vec<Script> {
-    let seeds = 0..generate::calendar::SEEDS;
-    let mut scripts: Vec<Script> = seeds.map(calendar::of_seed).collect();
+    let mut scripts = calendar::generated();
     scripts.extend(calendar::fixed());
     scripts
 }

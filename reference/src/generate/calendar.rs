@@ -1,7 +1,9 @@
 //! Calendar questions made from a seed: a good list with every number of places, the same list
-//! spoiled in every way, and large numbers as dates.
+//! spoiled in every way, and as dates large numbers, days of 2028 and what lies near their limits.
 
+use crate::calendar::date::Date;
 use crate::calendar::next_days::{DAYS, LAST_DAY};
+use crate::calendar::year_2028;
 use crate::calendar_script::list;
 use crate::random::Random;
 use std::fmt::Write;
@@ -20,11 +22,8 @@ pub fn questions(seed: u64) -> Vec<u8> {
         text += &list(random.one_of(&TOO_FEW), &spoiled);
         text += &list(random.one_of(&ENOUGH), &spoiled);
     }
-    for _ in 0..10 {
-        let number = random.below(1 << 32);
-        let of_year = number / 100 * 100 + 28;
-        let _ = write!(text, "date {number}\ndate {of_year}\n");
-    }
+    text += &large_numbers(&mut random);
+    text += &dates(&mut random);
     text.into_bytes()
 }
 
@@ -32,6 +31,37 @@ pub fn questions(seed: u64) -> Vec<u8> {
 pub fn with_all_places(unworked: &[u16]) -> String {
     let places = TOO_FEW.into_iter().chain(ENOUGH);
     places.map(|places| list(places, unworked)).collect()
+}
+
+/// Half of them end like days of 2028.
+fn large_numbers(random: &mut Random) -> String {
+    let mut text = String::new();
+    for _ in 0..10 {
+        let number = random.below(1 << 32);
+        let of_year = number / 100 * 100 + 28;
+        let _ = write!(text, "date {number}\ndate {of_year}\n");
+    }
+    text
+}
+
+/// In turn any day of 2028 and one near the limits.
+fn dates(random: &mut Random) -> String {
+    let year: Vec<Date> = year_2028::dates().collect();
+    let mut text = String::new();
+    for _ in 0..20 {
+        let (any, near) = (random.one_of(&year), near_the_limits(random));
+        let _ = write!(text, "date {}\ndate {}\n", any.number(), near.number());
+    }
+    text
+}
+
+/// Day, month and year are drawn apart, so many are no date at all.
+fn near_the_limits(random: &mut Random) -> Date {
+    let day = random.one_of(&[0, 1, 28, 29, 30, 31, 32]);
+    let any_month = random.within(1, 12) as u32;
+    let month = random.one_of(&[0, 1, 2, 11, 12, 13, any_month]);
+    let year = random.one_of(&[2027, 2028, 2028, 2028, 2029]);
+    Date::new(day, month, year)
 }
 
 /// Of any density, the empty list and that of all days among them.
