@@ -11,8 +11,9 @@ ghost use Rattle.calendar.specs.Generator.{goodList, tableNumber, tableR
 pub const YEAR_DAYS: u16 = 366;
 
 // The places of its table.
-pub const PLACES: usize = 366;
+pub const PLACES: usize = YEAR_DAYS as usize;
 
+// What the generator answers.
 pub enum TableAnswer {
     Made,
     WrongList,

@@ -500,7 +500,7 @@ pub fn unworked_days() -> [u16; UNWORKED_COUNT]
 }
 
 // The table.
-pub fn next_days() -> [u16; PLACES]
+pub fn table() -> [u16; PLACES]
     ensures { λ r. ⌜ r ≡ tableOf unworked2028 ⌝ }
 {
     NEXT_DAYS
@@ -516,6 +516,6 @@ pub fn next_day(day: u16) -> u16
     if YEAR_DAYS < day {
         return 0;
     }
-    let table = next_days();
-    table[day as usize - 1]
+    let days = table();
+    days[day as usize - 1]
 }

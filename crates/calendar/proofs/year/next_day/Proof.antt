@@ -20,8 +20,8 @@ returns-2 : tie.Need-returns-2
 unfolding nextIn2028
 returns-2 c = sym (List·getD-eq-default (0 ∷ tableOf unworked2028) 0 {n = c .before .before .args .day} (omega (arith, length-table unworked2028)))
 
-next-days-requires : tie.Need-next-days-requires
-next-days-requires c κs = search needs
+table-requires : tie.Need-table-requires
+table-requires c κs = search needs
 
 sub-result : tie.Need-sub-result
 sub-result c = search needs
@@ -36,7 +36,7 @@ returns-3 : tie.Need-returns-3
 unfolding nextIn2028
 returns-3 c =
     let day = c .before .before .before .args .day in
-    ap (λ (table : List ℕ). getD table (day - 1) 0) (c .next-days .ensures) ∙ place-before (tableOf unworked2028) day (omega arith)
+    ap (λ (table : List ℕ). getD table (day - 1) 0) (c .table .ensures) ∙ place-before (tableOf unworked2028) day (omega arith)
 
 pub next-day-spec : {M : Type 1} → statement M
-next-day-spec = tie.close (tie.spec returns returns-2 next-days-requires sub-result mul-result array-read-result returns-3)
+next-day-spec = tie.close (tie.spec returns returns-2 table-requires sub-result mul-result array-read-result returns-3)
