@@ -176,6 +176,7 @@ line_played line_play_script(const uint8_t *script, size_t script_len,
  * Returns 0, or the first of these that applies, with nothing written:
  *   40  the list is not strictly ascending, or has a day outside 1 to 366
  *   23  days has fewer than 366 places
+ * They are plain numbers: 40 is forty.
  *
  * Lengths: each counts days, not bytes, and any length may be passed as long
  * as its bytes fit in PTRDIFF_MAX. The list is read up to the first day that
@@ -187,23 +188,24 @@ line_played line_play_script(const uint8_t *script, size_t script_len,
  *
  * The call changes the first 366 places of days, nothing else, and keeps
  * nothing. There is no global state, so several threads may call at once,
- * each with its own days.
+ * each with its own days, and on the same list while nobody writes it.
  */
 uint8_t line_next_days(const uint16_t *unworked, size_t unworked_len,
                        uint16_t *days, size_t days_len);
 
-/* The compensation date of a session's date. */
+/* The compensation date of a day. */
 typedef struct line_compensation {
     uint8_t found; /* 0 where the date was found; 1 the year has no later
-                      working day; 2 the session's date is no day of 2028 */
+                      working day; 2 the number asked for is no day of 2028 */
     uint32_t date; /* DDMM28 as a number; 0 where found is 1 or 2 */
 } line_compensation;
 
 /*
- * Gives the compensation date of a session of 2028: the first working day
- * after `date`, which is the number DDMM28 without leading zeros (50128 is 5
- * January). Not worked are Saturdays, Sundays, 1 and 6 January, 1 May, 12
- * October and 25 December. Any number may be passed. Link with libentries.a.
+ * Gives the compensation date of a day of 2028: the first working day after
+ * it, which is the date that a session held on that day starts from. `date` is
+ * the day's own, the number DDMM28 without leading zeros (50128 is 5 January).
+ * Not worked are Saturdays, Sundays, 1 and 6 January, 1 May, 12 October and 25
+ * December. Any number may be passed. Link with libentries.a.
  *
  * There is no global state, so several threads may call at once.
  */

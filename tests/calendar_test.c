@@ -29,19 +29,19 @@ static void same(const char *what, uint32_t got, uint32_t wanted)
 
 static uint16_t days[MORE];
 
-/* The answer with so many places; from the first place that must keep its
-   value on, none may have changed. */
+/* The answer with so many places; all those of the table have changed then and
+   no other, or none where the call is refused. */
 static void try_list(const char *what, const uint16_t *list, size_t count,
                      size_t places, uint8_t wanted)
 {
-    size_t i, kept;
+    size_t i, table = wanted == 0 ? LINE_YEAR_DAYS : 0, right = 0;
 
     for (i = 0; i < MORE; i++)
         days[i] = UNTOUCHED;
     same(what, line_next_days(list, count, days, places), wanted);
-    for (i = kept = wanted == 0 ? LINE_YEAR_DAYS : 0; i < MORE; i++)
-        kept += days[i] == UNTOUCHED;
-    same(what, (uint32_t)kept, MORE);
+    for (i = 0; i < MORE; i++)
+        right += (days[i] != UNTOUCHED) == (i < table);
+    same(what, (uint32_t)right, MORE);
 }
 
 /* A list with 365, 366 and 400 places; the table of the last is left. */

@@ -104,16 +104,16 @@ fn the_values_of_the_papers() {
 #[test]
 fn the_dates_of_those_values() {
     for calendar in [Calendar::REFERENCE, ENGINE] {
-        for (session, date) in [(10_128, 30_128), (50_128, 70_128), (281_228, 291_228)] {
+        for (asked, date) in [(10_128, 30_128), (50_128, 70_128), (281_228, 291_228)] {
             let expected = Compensation { found: 0, date };
-            assert_eq!((calendar.compensation_date)(session), expected);
+            assert_eq!((calendar.compensation_date)(asked), expected);
         }
-        for session in [291_228, 301_228, 311_228] {
-            let none_left = (calendar.compensation_date)(session);
+        for asked in [291_228, 301_228, 311_228] {
+            let none_left = (calendar.compensation_date)(asked);
             assert_eq!(none_left, Compensation::NONE_LEFT);
         }
-        for session in [0, 10_127, 300_228, 1_010_128, u32::MAX] {
-            let no_day = (calendar.compensation_date)(session);
+        for asked in [0, 10_127, 300_228, 1_010_128, u32::MAX] {
+            let no_day = (calendar.compensation_date)(asked);
             assert_eq!(no_day, Compensation::NO_DAY);
         }
     }

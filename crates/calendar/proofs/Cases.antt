@@ -7,7 +7,7 @@ use Rattle.codes.specs.Chain.{_when_, _orelse_}
 use Rattle.codes.proofs.Cases.{_is_, AllDue}
 use Rattle.document.specs.Rules.{monthDays}
 use Rattle.calendar.specs.Rule.{allDays, from, later, those, nextDay, tableOf}
-use Rattle.calendar.specs.Generator.{ascending, goodList, tableRefusal, placesLeft}
+use Rattle.calendar.specs.Generator.{ascending, goodList, tableRefusal, placesAfter}
 use Rattle.calendar.specs.Dates.{isDay2028, total, dayNumber, datesFrom, dateOf}
 use Rattle.calendar.specs.Year.{holidays, isHoliday, unworked2028, nextIn2028}
 use Rattle.calendar.specs.Compensation.{onDay, compensation}
@@ -78,10 +78,10 @@ unfolding those later from member holidays dayNumber total monthDays
 holidays-numbered = refl
 
 -- what is left in lent places: behind the table all is kept, and where the call is refused everywhere
-places-left : AllDue
-    (placesLeft [] (allDays ++ 7 ∷ 9 ∷ []) is (tableOf [] ++ 7 ∷ 9 ∷ [])
-    ∷ placesLeft [] (7 ∷ 9 ∷ []) is (7 ∷ 9 ∷ [])
-    ∷ placesLeft (0 ∷ []) allDays is allDays
+places-after : AllDue
+    (placesAfter [] (allDays ++ 7 ∷ 9 ∷ []) is (tableOf [] ++ 7 ∷ 9 ∷ [])
+    ∷ placesAfter [] (7 ∷ 9 ∷ []) is (7 ∷ 9 ∷ [])
+    ∷ placesAfter (0 ∷ []) allDays is allDays
     ∷ [])
-unfolding placesLeft tableRefusal goodList ascending every _when_ _orelse_ later from
-places-left = refl
+unfolding placesAfter tableRefusal goodList ascending every _when_ _orelse_ later from
+places-after = refl

@@ -5,3 +5,4 @@ pub mod Generator
 pub mod Table
 pub mod Year
 pub mod Dates
+pub mod Compensation

@@ -31,5 +31,5 @@ unfoldable pub tableRefusal : (unworked : List ℕ) (places : ℕ) → ℕ
 tableRefusal unworked places = 40 when not (goodList unworked) orelse 23 when ltb places yearDays
 
 -- the table in the first places and the others as they were; all as they were where the call is refused
-unfoldable pub placesLeft : (unworked days : List ℕ) → List ℕ
-placesLeft unworked days = cond (eqb (tableRefusal unworked (length days)) 0) (tableOf unworked ++ drop yearDays days) days
+unfoldable pub placesAfter : (unworked days : List ℕ) → List ℕ
+placesAfter unworked days = cond (eqb (tableRefusal unworked (length days)) 0) (tableOf unworked ++ drop yearDays days) days

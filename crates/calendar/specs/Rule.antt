@@ -28,7 +28,7 @@ pub data FirstLater (unworked : List ℕ) (day n : ℕ) : Type 0 where
 
 -- The same as a function.
 
--- so many numbers from one on
+-- numbers in a row, `count` of them, from `first` on
 unfoldable pub from : (first count : ℕ) → List ℕ
 from first zero = []
 from first (suc n) = first ∷ from (suc first) n
@@ -59,9 +59,9 @@ nextDay unworked day = firstOf (those (worked unworked) (later day))
 unfoldable pub tableOf : (unworked : List ℕ) → List ℕ
 tableOf unworked = map (nextDay unworked) allDays
 
--- the entry of a day, counted from 1; 0 where there is none
-abbrev pub entryOf : (table : List ℕ) (day : ℕ) → ℕ
-entryOf table day = getD (0 ∷ table) day 0
+-- an entry of a list, counted from 1 as days are; 0 where there is none
+abbrev pub entryOf : (list : List ℕ) (number : ℕ) → ℕ
+entryOf list number = getD (0 ∷ list) number 0
 
 -- claimed, and proved in proofs/Laws/Rule: the function and the table give what the rule says, and the rule says nothing else
 pub record AsTheRule : Type 0 where

@@ -1,4 +1,4 @@
-// The compensation date of a session's date: the first working day after it.
+// The compensation date of a day: the first working day after it.
 use crate::dates::date_of;
 use crate::dates::day_number;
 use crate::dates::is_day;

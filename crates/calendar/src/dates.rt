@@ -1,10 +1,9 @@
 // Days of 2028 as dates and as numbers, over the table of the lengths of the months.
 ghost use mathlib.Core.Path.{_≡_};
 ghost use mathlib.Core.Bool.{true};
-ghost use Prim.Native.Nat.{_≤_, _<_};
+ghost use Prim.Native.Nat.{_<_};
 ghost use lib.ListN.{getD};
 ghost use Rattle.document.specs.Rules.{monthDays};
-ghost use Rattle.calendar.specs.Rule.{yearDays};
 ghost use Rattle.calendar.specs.Dates.{isDay2028, dayNumber, dateOf};
 
 // The months, with 00, which has no day.
@@ -18,8 +17,7 @@ const YEAR: u32 = 28;
 
 // The days of a month, 0 where there is no such month.
 fn month_days(month: usize) -> u16
-    ensures days { λ r. ⌜ r ≡ getD monthDays month 0 ⌝ }
-    ensures short { λ r. ⌜ r ≤ yearDays ⌝ }
+    ensures { λ r. ⌜ r ≡ getD monthDays month 0 ⌝ }
 {
     if MONTHS <= month {
         return 0;

@@ -1,11 +1,11 @@
 // The table of next working days, made from a list of unworked days.
 ghost use mathlib.Core.Path.{_≡_};
 ghost use mathlib.Core.Bool.{true};
-ghost use mathlib.Core.List.{_∷_, _++_};
+ghost use mathlib.Core.List.{_++_};
 ghost use Prim.Native.Nat.{_≤_};
-ghost use lib.ListN.{length, drop, getD};
-ghost use Rattle.calendar.specs.Rule.{yearDays, tableOf};
-ghost use Rattle.calendar.specs.Generator.{goodList, tableNumber, tableRefusal, placesLeft};
+ghost use lib.ListN.{length, drop};
+ghost use Rattle.calendar.specs.Rule.{yearDays, tableOf, entryOf};
+ghost use Rattle.calendar.specs.Generator.{goodList, tableNumber, tableRefusal, placesAfter};
 
 // The days of a leap year, the longest.
 pub const YEAR_DAYS: u16 = 366;
@@ -54,7 +54,7 @@ fn good_list(unworked: &[u16]) -> bool
 // The last of the first `left` days of the list, 0 where there is none.
 fn last_of(unworked: &[u16], left: usize) -> u16
     requires { ⌜ left ≤ length (now unworked) ⌝ }
-    ensures { λ r. ⌜ r ≡ getD (0 ∷ now (unworked .entry)) left 0 ⌝ }
+    ensures { λ r. ⌜ r ≡ entryOf (now (unworked .entry)) left ⌝ }
 {
     if left == 0 {
         return 0;
@@ -85,7 +85,7 @@ fn fill(unworked: &[u16], days: &mut [u16])
 // Writes the table into the first places, for each day the first later working day or 0.
 pub fn next_days(unworked: &[u16], days: &mut [u16]) -> TableAnswer
     ensures answer { λ r. ⌜ tableNumber r ≡ tableRefusal (now (unworked .entry)) (length (now (days .entry))) ⌝ }
-    ensures left { λ r. ⌜ now (days .exit) ≡ placesLeft (now (unworked .entry)) (now (days .entry)) ⌝ }
+    ensures after { λ r. ⌜ now (days .exit) ≡ placesAfter (now (unworked .entry)) (now (days .entry)) ⌝ }
 {
     if good_list(unworked) {
         if days.len() < PLACES {

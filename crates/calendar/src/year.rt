@@ -10,6 +10,7 @@ pub const UNWORKED_COUNT: usize = 110;
 
 // Saturdays, Sundays and the five holidays.
 pub const UNWORKED_DAYS: [u16; UNWORKED_COUNT] = [
+    // January
     1,
     2,
     6,
@@ -21,6 +22,7 @@ pub const UNWORKED_DAYS: [u16; UNWORKED_COUNT] = [
     23,
     29,
     30,
+    // February
     36,
     37,
     43,
@@ -29,6 +31,7 @@ pub const UNWORKED_DAYS: [u16; UNWORKED_COUNT] = [
     51,
     57,
     58,
+    // March
     64,
     65,
     71,
@@ -37,6 +40,7 @@ pub const UNWORKED_DAYS: [u16; UNWORKED_COUNT] = [
     79,
     85,
     86,
+    // April
     92,
     93,
     99,
@@ -47,6 +51,7 @@ pub const UNWORKED_DAYS: [u16; UNWORKED_COUNT] = [
     114,
     120,
     121,
+    // May
     122,
     127,
     128,
@@ -56,6 +61,7 @@ pub const UNWORKED_DAYS: [u16; UNWORKED_COUNT] = [
     142,
     148,
     149,
+    // June
     155,
     156,
     162,
@@ -64,6 +70,7 @@ pub const UNWORKED_DAYS: [u16; UNWORKED_COUNT] = [
     170,
     176,
     177,
+    // July
     183,
     184,
     190,
@@ -74,6 +81,7 @@ pub const UNWORKED_DAYS: [u16; UNWORKED_COUNT] = [
     205,
     211,
     212,
+    // August
     218,
     219,
     225,
@@ -82,6 +90,7 @@ pub const UNWORKED_DAYS: [u16; UNWORKED_COUNT] = [
     233,
     239,
     240,
+    // September
     246,
     247,
     253,
@@ -91,6 +100,7 @@ pub const UNWORKED_DAYS: [u16; UNWORKED_COUNT] = [
     267,
     268,
     274,
+    // October
     275,
     281,
     282,
@@ -101,6 +111,7 @@ pub const UNWORKED_DAYS: [u16; UNWORKED_COUNT] = [
     296,
     302,
     303,
+    // November
     309,
     310,
     316,
@@ -109,6 +120,7 @@ pub const UNWORKED_DAYS: [u16; UNWORKED_COUNT] = [
     324,
     330,
     331,
+    // December
     337,
     338,
     344,
@@ -124,6 +136,7 @@ pub const UNWORKED_DAYS: [u16; UNWORKED_COUNT] = [
 
 // For each day of the year the number of the first later working day, 0 where there is none.
 pub const NEXT_DAYS: [u16; PLACES] = [
+    // January
     3,
     3,
     4,
@@ -155,6 +168,7 @@ pub const NEXT_DAYS: [u16; PLACES] = [
     31,
     31,
     32,
+    // February
     33,
     34,
     35,
@@ -184,6 +198,7 @@ pub const NEXT_DAYS: [u16; PLACES] = [
     59,
     60,
     61,
+    // March
     62,
     63,
     66,
@@ -215,6 +230,7 @@ pub const NEXT_DAYS: [u16; PLACES] = [
     90,
     91,
     94,
+    // April
     94,
     94,
     95,
@@ -245,6 +261,7 @@ pub const NEXT_DAYS: [u16; PLACES] = [
     123,
     123,
     123,
+    // May
     123,
     124,
     125,
@@ -276,6 +293,7 @@ pub const NEXT_DAYS: [u16; PLACES] = [
     151,
     152,
     153,
+    // June
     154,
     157,
     157,
@@ -306,6 +324,7 @@ pub const NEXT_DAYS: [u16; PLACES] = [
     181,
     182,
     185,
+    // July
     185,
     185,
     186,
@@ -337,6 +356,7 @@ pub const NEXT_DAYS: [u16; PLACES] = [
     213,
     213,
     214,
+    // August
     215,
     216,
     217,
@@ -368,6 +388,7 @@ pub const NEXT_DAYS: [u16; PLACES] = [
     243,
     244,
     245,
+    // September
     248,
     248,
     248,
@@ -398,6 +419,7 @@ pub const NEXT_DAYS: [u16; PLACES] = [
     273,
     276,
     276,
+    // October
     276,
     277,
     278,
@@ -429,6 +451,7 @@ pub const NEXT_DAYS: [u16; PLACES] = [
     304,
     305,
     306,
+    // November
     307,
     308,
     311,
@@ -459,6 +482,7 @@ pub const NEXT_DAYS: [u16; PLACES] = [
     334,
     335,
     336,
+    // December
     339,
     339,
     339,

@@ -6,7 +6,7 @@ use calendar::shown::CompensationShown;
 use calendar::shown::shown;
 ghost use mathlib.Core.Path.{_≡_};
 ghost use lib.ListN.{length};
-ghost use Rattle.calendar.specs.Generator.{tableRefusal, placesLeft};
+ghost use Rattle.calendar.specs.Generator.{tableRefusal, placesAfter};
 ghost use Rattle.calendar.specs.Compensation.{compensation};
 ghost use Rattle.calendar.specs.Shown.{shown};
 
@@ -14,7 +14,7 @@ ghost use Rattle.calendar.specs.Shown.{shown};
 #[no_mangle]
 pub extern "C" fn line_next_days(unworked: &[u16], days: &mut [u16]) -> u8
     ensures answer { λ r. ⌜ r ≡ tableRefusal (now (unworked .entry)) (length (now (days .entry))) ⌝ }
-    ensures left { λ r. ⌜ now (days .exit) ≡ placesLeft (now (unworked .entry)) (now (days .entry)) ⌝ }
+    ensures after { λ r. ⌜ now (days .exit) ≡ placesAfter (now (unworked .entry)) (now (days .entry)) ⌝ }
 {
     table_number(next_days(unworked, days))
 }

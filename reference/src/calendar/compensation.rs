@@ -1,5 +1,5 @@
-//! The compensation date of a session of 2028. It is found by going on from date to date; the
-//! table has no part in it.
+//! The compensation date of a day of 2028. It is found by going on from date to date; the table
+//! has no part in it.
 
 use super::date::Date;
 use super::year_2028::{dates, is_worked};
@@ -8,7 +8,7 @@ use super::year_2028::{dates, is_worked};
 #[repr(C)]
 #[derive(Clone, Copy, Debug, PartialEq, Eq)]
 pub struct Compensation {
-    /// 0 the date, 1 none left in the year, 2 the session's date is no day of 2028.
+    /// 0 the date, 1 none left in the year, 2 what was asked for is no day of 2028.
     pub found: u8,
     pub date: u32,
 }
@@ -18,12 +18,12 @@ impl Compensation {
     pub const NO_DAY: Compensation = Compensation { found: 2, date: 0 };
 }
 
-/// Of the session's date, the number DDMM28.
+/// Of the day with this date, the number DDMM28.
 pub fn compensation_date(date: u32) -> Compensation {
-    let Some(session) = day_of_2028(date) else {
+    let Some(asked) = day_of_2028(date) else {
         return Compensation::NO_DAY;
     };
-    let mut later = dates().skip_while(|date| *date != session).skip(1);
+    let mut later = dates().skip_while(|date| *date != asked).skip(1);
     match later.find(|date| is_worked(*date)) {
         None => Compensation::NONE_LEFT,
         Some(day) => Compensation {

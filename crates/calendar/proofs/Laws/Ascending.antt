@@ -12,8 +12,9 @@ use lib.ListN.{length, drop, getD, drop-of-length-le}
 use lib.Seq.{drop-cons}
 use Rattle.codes.specs.Field.{between}
 use Rattle.packed.specs.Every.{every, member}
+use Rattle.packed.proofs.Laws.Every.{every-cons, every-then}
 use Rattle.packed.proofs.Laws.Told.{both}
-use Rattle.calendar.specs.Rule.{yearDays}
+use Rattle.calendar.specs.Rule.{yearDays, entryOf}
 use Rattle.calendar.specs.Generator.{ascending, goodList}
 
 -- the rest of a list is good behind a day
@@ -62,17 +63,19 @@ pub ascends : (ds : List ℕ) → goodList ds ≡ true → ascending (0 ∷ ds) 
 unfolding goodBehind
 ascends ds e = both (ascending (0 ∷ ds)) (every (between 1 yearDays) ds) (behind-nothing ds ∙ e) .0
 
--- and all of them lie within the year
-within : (ds : List ℕ) (k : ℕ) → every (between 1 yearDays) ds ≡ true → getD ds k 0 ≤ yearDays
-unfolding every
-within [] k e = omega arith
-within (d ∷ ds) zero e = leb-true d yearDays (both (leb 1 d) (leb d yearDays) (both (between 1 yearDays d) (every (between 1 yearDays) ds) e .0) .1)
-within (d ∷ ds) (suc k) e = within ds k (both (between 1 yearDays d) (every (between 1 yearDays) ds) e .1)
+-- where no number of a list is above a bound, no place has one that is
+pub at-most : (most : ℕ) (ns : List ℕ) (k : ℕ) → every (λ (n : ℕ). leb n most) ns ≡ true → getD ns k 0 ≤ most
+at-most most [] k e = omega arith
+at-most most (n ∷ ns) zero e = leb-true n most (every-cons (λ (n : ℕ). leb n most) n ns e .0)
+at-most most (n ∷ ns) (suc k) e = at-most most ns k (every-cons (λ (n : ℕ). leb n most) n ns e .1)
 
-pub all-within : (ds : List ℕ) → goodList ds ≡ true → (k : ℕ) → getD (0 ∷ ds) k 0 ≤ yearDays
+-- and all days of a good list lie within the year
+pub all-within : (ds : List ℕ) → goodList ds ≡ true → (k : ℕ) → entryOf ds k ≤ yearDays
 unfolding goodList
 all-within ds e zero = omega arith
-all-within ds e (suc k) = within ds k (both (ascending ds) (every (between 1 yearDays) ds) e .1)
+all-within ds e (suc k) =
+    let days = both (ascending ds) (every (between 1 yearDays) ds) e .1 in
+    at-most yearDays ds k (every-then (between 1 yearDays) (λ (n : ℕ). leb n yearDays) (λ n t. both (leb 1 n) (leb n yearDays) t .1) ds days)
 
 rest : (a b : ℕ) (ds : List ℕ) → ascending (a ∷ b ∷ ds) ≡ true → (a < b) × (ascending (b ∷ ds) ≡ true)
 unfolding ascending

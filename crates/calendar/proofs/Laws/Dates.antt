@@ -1,4 +1,4 @@
--- Laws of the months: they make up the year; and of counting days through them.
+-- Laws of the months: together they are no longer than the year; and of counting days through them.
 use mathlib.Core.Path.{_≡_, refl, ap, sym, _∙_}
 use mathlib.Core.Bool.{Bool, true, _&&_}
 use mathlib.Core.Logic.{⊎-elim}
@@ -16,6 +16,7 @@ use Rattle.packed.proofs.Laws.Told.{both}
 use Rattle.document.specs.Rules.{monthDays, dayAndMonth}
 use Rattle.calendar.specs.Rule.{yearDays, from, entryOf}
 use Rattle.calendar.proofs.Laws.Rule.{length-from, entry-from}
+use Rattle.calendar.proofs.Laws.Ascending.{at-most}
 use Rattle.calendar.specs.Dates.{year, dated, dayIn, monthIn, isDay2028, total, dayNumber, datesFrom, dateOf, NumberedDates}
 
 -- one month more
@@ -47,17 +48,20 @@ in-table date e =
     (eqb-true (date % 100) year (t .0), leb-true 1 (dayIn date) (d .0), leb-true (dayIn date) days (d .1))
 
 -- no month is longer than 31 days, and no day of one is later
-at-most : (most : ℕ) (ns : List ℕ) (k : ℕ) → every (λ (n : ℕ). leb n most) ns ≡ true → getD ns k 0 ≤ most
-at-most most [] k e = omega arith
-at-most most (n ∷ ns) zero e = leb-true n most (every-cons (λ (n : ℕ). leb n most) n ns e .0)
-at-most most (n ∷ ns) (suc k) e = at-most most ns k (every-cons (λ (n : ℕ). leb n most) n ns e .1)
-
 pub month-short : (month : ℕ) → getD monthDays month 0 ≤ 31
 unfolding monthDays every
 month-short month = at-most 31 monthDays month refl
 
 pub day-short : (date : ℕ) → isDay2028 date ≡ true → dayIn date ≤ 31
 day-short date e = omega (arith, in-table date e .2, month-short (monthIn date))
+
+-- its number is one of the year's
+pub number-within : (date : ℕ) → isDay2028 date ≡ true → (1 ≤ dayNumber date) × (dayNumber date ≤ yearDays)
+unfolding dayNumber
+number-within date e =
+    let t = in-table date e in
+    let month = monthIn date in
+    (omega (arith, t .1), omega (arith, t .2, total-step monthDays month, within-year (suc month)))
 
 -- a day lies in the first of some months, or in those after it
 dates-in : (month n : ℕ) → List ℕ

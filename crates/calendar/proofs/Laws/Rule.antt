@@ -44,6 +44,11 @@ pub length-table : (unworked : List ℕ) → length (tableOf unworked) ≡ yearD
 unfolding tableOf later
 length-table unworked = length-map (from 1 yearDays) (nextDay unworked) ∙ length-from 1 yearDays
 
+-- entries are counted from 1, places from 0
+pub place-of : (list : List ℕ) (number : ℕ) → 0 < number → getD list (number - 1) 0 ≡ entryOf list number
+place-of list (suc n) h = ap (λ (k : ℕ). getD list k 0) {x = suc n - 1} {y = n} (omega arith)
+place-of list zero h = omega arith
+
 -- what is made of numbers in a row, one by one
 pub entry-from : (f : ℕ → ℕ) (a k i : ℕ) → i < k → getD (map f (from a k)) i 0 ≡ f (a + i)
 unfolding from

@@ -14,33 +14,33 @@ use Rattle.calendar.specs.Rule.{yearDays, later, nextDay}
 use Rattle.calendar.proofs.Laws.Rule.{later-step, none-later, listed-next, unlisted-next, none-next}
 
 -- the entry that stands before the others: that of the day before `next`
-abbrev pub entryBefore : (unworked : ℕ → Bool) (next : ℕ) → List ℕ → ℕ
-entryBefore unworked next [] = 0
-entryBefore unworked next (y ∷ ys) = cond (unworked next) y next
+abbrev pub entryBefore : (rests : ℕ → Bool) (next : ℕ) → List ℕ → ℕ
+entryBefore rests next [] = 0
+entryBefore rests next (y ∷ ys) = cond (rests next) y next
 
 -- the entries of the days after a day
-abbrev pub right : (unworked : ℕ → Bool) (day : ℕ) → List ℕ → Bool
-right unworked day [] = true
-right unworked day (x ∷ xs) = eqb x (entryBefore unworked (suc (suc day)) xs) && right unworked (suc day) xs
+abbrev pub right : (rests : ℕ → Bool) (day : ℕ) → List ℕ → Bool
+right rests day [] = true
+right rests day (x ∷ xs) = eqb x (entryBefore rests (suc (suc day)) xs) && right rests (suc day) xs
 
-module _ (unworked : ℕ → Bool) (list : List ℕ) (just : (n : ℕ) → 1 ≤ n → n ≤ yearDays → member n list ≡ unworked n) where
-  before : (day : ℕ) (xs : List ℕ) → day + length xs ≡ yearDays → xs ≡ map (nextDay list) (later day) → entryBefore unworked (suc day) xs ≡ nextDay list day
+module _ (rests : ℕ → Bool) (list : List ℕ) (just : (n : ℕ) → 1 ≤ n → n ≤ yearDays → member n list ≡ rests n) where
+  before : (day : ℕ) (xs : List ℕ) → day + length xs ≡ yearDays → xs ≡ map (nextDay list) (later day) → entryBefore rests (suc day) xs ≡ nextDay list day
   before day [] h e = sym (none-next list day (omega arith))
-  before day (y ∷ ys) h e = go (unworked (suc day)) refl
+  before day (y ∷ ys) h e = go (rests (suc day)) refl
     where
-      told : member (suc day) list ≡ unworked (suc day)
+      told : member (suc day) list ≡ rests (suc day)
       told = just (suc day) (omega arith) (omega arith)
 
-      go : (t : Bool) → unworked (suc day) ≡ t → cond t y (suc day) ≡ nextDay list day
+      go : (t : Bool) → rests (suc day) ≡ t → cond t y (suc day) ≡ nextDay list day
       go true on = ap (λ (l : List ℕ). getD l 0 0) (e ∙ ap (map (nextDay list)) (later-step day (omega arith))) ∙ sym (listed-next list day (omega arith) (told ∙ on))
       go false off = sym (unlisted-next list day (omega arith) (told ∙ off))
 
-  pub by-test : (day : ℕ) (xs : List ℕ) → day + length xs ≡ yearDays → right unworked day xs ≡ true → xs ≡ map (nextDay list) (later day)
+  pub by-test : (day : ℕ) (xs : List ℕ) → day + length xs ≡ yearDays → right rests day xs ≡ true → xs ≡ map (nextDay list) (later day)
   by-test day [] h e = ap (map (nextDay list)) (sym (none-later day (omega arith)))
   by-test day (x ∷ xs) h e =
-      let t = both (eqb x (entryBefore unworked (suc (suc day)) xs)) (right unworked (suc day) xs) e in
+      let t = both (eqb x (entryBefore rests (suc (suc day)) xs)) (right rests (suc day) xs) e in
       let rest = by-test (suc day) xs (omega arith) (t .1) in
-      let entry = eqb-true x (entryBefore unworked (suc (suc day)) xs) (t .0) ∙ before (suc day) xs (omega arith) rest in
+      let entry = eqb-true x (entryBefore rests (suc (suc day)) xs) (t .0) ∙ before (suc day) xs (omega arith) rest in
       ap (λ (n : ℕ). n ∷ xs) entry
       ∙ ap {B = List ℕ} (λ r. nextDay list (suc day) ∷ r) rest
       ∙ sym (ap (map (nextDay list)) (later-step day (omega arith)))

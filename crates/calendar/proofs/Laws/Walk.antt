@@ -8,7 +8,7 @@ use native.Mathlib.Omega.{arith}
 use lib.ListN.{length, getD, drop, set, length-set}
 use lib.Seq.{drop-cons, getD-set-same, drop-set-lt}
 use Rattle.packed.specs.Every.{member}
-use Rattle.calendar.specs.Rule.{yearDays, later, nextDay}
+use Rattle.calendar.specs.Rule.{yearDays, later, nextDay, entryOf}
 use Rattle.calendar.specs.Generator.{ascending, goodList}
 use Rattle.calendar.proofs.Laws.Rule.{later-step, listed-next, unlisted-next, none-next}
 use Rattle.calendar.proofs.Laws.Ascending.{above, listed, between-two, all-within}
@@ -17,7 +17,7 @@ use Rattle.calendar.proofs.Laws.Ascending.{above, listed, between-two, 
 pub record Walked (unworked : List ℕ) (day next left : ℕ) : Type 0 where
   pub entry : next ≡ nextDay unworked day
   pub room : left ≤ length unworked
-  pub under : getD (0 ∷ unworked) left 0 ≤ day
+  pub under : entryOf unworked left ≤ day
   pub over : left < length unworked → day < getD unworked left 0
 
 -- at the last day nothing is passed
@@ -30,20 +30,16 @@ at-last unworked good =
       over = λ h. omega arith;
     }
 
--- the day before a place is counted from the place before; the first place has no day
-pub place-before : (unworked : List ℕ) (left : ℕ) → 0 < left → getD unworked (left - 1) 0 ≡ getD (0 ∷ unworked) left 0
-place-before unworked (suc l) h = ap (λ (k : ℕ). getD unworked k 0) {x = suc l - 1} {y = l} (omega arith)
-place-before unworked zero h = omega arith
-
-pub some-left : (unworked : List ℕ) (left day : ℕ) → 0 < day → getD (0 ∷ unworked) left 0 ≡ day → 1 ≤ left
+-- a day of the list is not its entry 0
+pub some-left : (unworked : List ℕ) (left day : ℕ) → 0 < day → entryOf unworked left ≡ day → 1 ≤ left
 some-left unworked zero day h e = omega arith
 some-left unworked (suc l) day h e = omega arith
 
 -- one day back, where the day is in the list, and where it is not
 pub over-listed : (unworked : List ℕ) (e day next after l left : ℕ) → suc e ≡ day → suc l ≡ left → after ≡ next → day ≤ yearDays → ascending (0 ∷ unworked) ≡ true
-    → Walked unworked day next left → getD (0 ∷ unworked) left 0 ≡ day → Walked unworked e after l
+    → Walked unworked day next left → entryOf unworked left ≡ day → Walked unworked e after l
 over-listed unworked e day next after l left de ll same h asc w found =
-    let there : getD unworked l 0 ≡ suc e = ap (λ (k : ℕ). getD (0 ∷ unworked) k 0) ll ∙ found ∙ sym de in
+    let there : getD unworked l 0 ≡ suc e = ap (λ (k : ℕ). entryOf unworked k) ll ∙ found ∙ sym de in
     let short : l < length unworked = omega (arith, w .room) in
     let inList : member (suc e) unworked ≡ true = ap (λ (d : ℕ). member d unworked) (sym there) ∙ listed unworked l short in
     record {
@@ -54,14 +50,14 @@ over-listed unworked e day next after l left de ll same h asc w found =
     }
 
 pub over-worked : (unworked : List ℕ) (e day next after l left : ℕ) → suc e ≡ day → l ≡ left → after ≡ day → day ≤ yearDays → ascending (0 ∷ unworked) ≡ true
-    → Walked unworked day next left → (getD (0 ∷ unworked) left 0 ≡ day → ⊥) → Walked unworked e after l
+    → Walked unworked day next left → (entryOf unworked left ≡ day → ⊥) → Walked unworked e after l
 over-worked unworked e day next after l left de same it h asc w missed =
-    let gone : getD (0 ∷ unworked) left 0 < day = omega (arith, w .under) in
+    let gone : entryOf unworked left < day = omega (arith, w .under) in
     let notIn : member (suc e) unworked ≡ false = ap (λ (d : ℕ). member d unworked) de ∙ between-two 0 unworked left day asc (w .room) gone (w .over) in
     record {
       entry = it ∙ sym de ∙ sym (unlisted-next unworked e (omega arith) notIn);
       room = omega (arith, w .room);
-      under = subst (λ (k : ℕ). getD (0 ∷ unworked) k 0 ≤ e) (sym same) (omega arith);
+      under = subst (λ (k : ℕ). entryOf unworked k ≤ e) (sym same) (omega arith);
       over = subst (λ (k : ℕ). k < length unworked → e < getD unworked k 0) (sym same) (λ k. omega (arith, w .over k));
     }
 

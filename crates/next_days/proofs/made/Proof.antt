@@ -5,7 +5,7 @@ use Prim.Native.Nat.{ℕ}
 use borrow.Author.Needs.{needs}
 use lib.ListN.{replicate}
 use Rattle.calendar.specs.Rule.{yearDays}
-use Rattle.calendar.specs.Generator.{placesLeft}
+use Rattle.calendar.specs.Generator.{placesAfter}
 use Rattle.calendar.specs.Year.{unworked2028}
 use Rattle.calendar.proofs.Laws.Generator.{whole-table}
 use Rattle.calendar.proofs.Laws.Year.{good-2028}
@@ -28,7 +28,7 @@ returns : tie.Need-returns
 returns c =
     let n = c .before .next-days in
     let u = c .before .before .before .before .unworked-days in
-    n .ensures .1 ∙ ap (λ (list : List ℕ). placesLeft list (replicate yearDays 0)) (u .ensures) ∙ whole-table unworked2028 (replicate yearDays 0) good-2028 refl
+    n .ensures .1 ∙ ap (λ (list : List ℕ). placesAfter list (replicate yearDays 0)) (u .ensures) ∙ whole-table unworked2028 (replicate yearDays 0) good-2028 refl
 
 pub made-spec : {M : Type 1} → statement M
 made-spec =

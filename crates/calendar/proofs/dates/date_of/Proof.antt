@@ -1,7 +1,6 @@
 -- `date_of` goes through the months. The invariant: counted from the present month on, the days that are left give the date. The measure is how
 -- many months are left.
 use mathlib.Core.Path.{_≡_, refl, sym, _∙_}
-use mathlib.Core.List.{List}
 use Prim.Native.Nat.{_-_, _≤_, _<_}
 use native.Mathlib.Numerals.{add-one}
 use native.Mathlib.Omega.{arith}
@@ -49,7 +48,7 @@ returns : tie.Need-returns Inv-loop μ-loop
 unfolding monthDays
 returns c =
     let t = c .before .before .before in
-    sym (in-month-at (t .loop .month) (t .loop .day) (omega arith) (t .loop .inv .2) (omega (arith, c .before .month-days .ensures .0, c .if1 .taken))) ∙ t .loop .inv .1
+    sym (in-month-at (t .loop .month) (t .loop .day) (omega arith) (t .loop .inv .2) (omega (arith, c .before .month-days .ensures, c .if1 .taken))) ∙ t .loop .inv .1
 
 sub-day : tie.Need-sub-day Inv-loop μ-loop
 sub-day c = omega arith
@@ -65,7 +64,7 @@ loop-again : tie.Need-loop-again Inv-loop μ-loop
 unfolding monthDays
 loop-again c =
     let t = c .before .before .before in
-    let days = c .before .month-days .ensures .0 in (
+    let days = c .before .month-days .ensures in (
       omega arith,
       rw (add-one, days) (sym (after-month-at (t .loop .month) (t .loop .day) (omega arith) (omega (arith, days))) ∙ t .loop .inv .1),
       omega arith,

@@ -34,7 +34,7 @@ month-days-requires c κs = search needs
 add-number : tie.Need-add-number Inv-loop μ-loop
 add-number c =
     let t = c .before .before in
-    omega (arith, t .loop .inv .1, c .month-days .ensures .0, total-step monthDays (t .loop .before), within-year (suc (t .loop .before)), day-short (t .before .args .date) (t .before .pre))
+    omega (arith, t .loop .inv .1, c .month-days .ensures, total-step monthDays (t .loop .before), within-year (suc (t .loop .before)), day-short (t .before .args .date) (t .before .pre))
 
 add-before : tie.Need-add-before Inv-loop μ-loop
 add-before c = search needs
@@ -45,7 +45,7 @@ loop-less c = omega arith
 loop-again : tie.Need-loop-again Inv-loop μ-loop
 loop-again c =
     let t = c .before .before in
-    (omega arith, rw add-one (omega (arith, t .loop .inv .1, c .month-days .ensures .0, total-step monthDays (t .loop .before))))
+    (omega arith, rw add-one (omega (arith, t .loop .inv .1, c .month-days .ensures, total-step monthDays (t .loop .before))))
 
 returns : tie.Need-returns Inv-loop μ-loop
 unfolding dayNumber

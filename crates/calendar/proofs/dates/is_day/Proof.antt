@@ -15,7 +15,7 @@ cast-result c = search needs
 
 returns : tie.Need-returns
 unfolding isDay2028
-returns c = rw (c .month-days .ensures .0)
+returns c = rw (c .month-days .ensures)
 
 pub is-day-spec : {M : Type 1} → statement M
 is-day-spec = tie.close (tie.spec cast-month month-days-requires cast-result returns)

@@ -4,13 +4,12 @@ use native.Mathlib.Omega.{arith}
 use borrow.Author.Needs.{needs}
 use lib.ListN.{List·getD-eq-default}
 use Rattle.document.specs.Rules.{monthDays}
-use Rattle.calendar.proofs.Laws.Dates.{month-short}
 use Rattle.calendar.proofs.dates.month_days.Statement.{statement}
 use Rattle.calendar.proofs.dates.month_days.Tie as tie
 
 returns : tie.Need-returns
 unfolding monthDays
-returns c = (sym (List·getD-eq-default monthDays 0 {n = c .before .args .month} (omega arith)), omega arith)
+returns c = sym (List·getD-eq-default monthDays 0 {n = c .before .args .month} (omega arith))
 
 mul-result : tie.Need-mul-result
 mul-result c = search needs
@@ -20,7 +19,7 @@ array-read-result c = search needs
 
 returns-2 : tie.Need-returns-2
 unfolding monthDays
-returns-2 c = (refl, omega (arith, month-short (c .before .args .month)))
+returns-2 c = refl
 
 pub month-days-spec : {M : Type 1} → statement M
 month-days-spec = tie.close (tie.spec returns mul-result array-read-result returns-2)

@@ -2,12 +2,12 @@
 -- the first `left` days are not above the present day, the others are. The measure is the day.
 use mathlib.Core.Path.{_≡_, refl, ap, sym, _∙_}
 use mathlib.Core.Logic.{⊎-elim}
-use mathlib.Core.List.{List, _∷_, _++_, map}
+use mathlib.Core.List.{List, _++_, map}
 use Prim.Native.Nat.{ℕ, suc, _-_, _≤_}
 use native.Mathlib.Omega.{arith}
 use borrow.Author.Needs.{needs}
-use lib.ListN.{length, drop, getD, length-set}
-use Rattle.calendar.specs.Rule.{yearDays, later, nextDay, tableOf}
+use lib.ListN.{length, drop, length-set}
+use Rattle.calendar.specs.Rule.{yearDays, later, nextDay, tableOf, entryOf}
 use Rattle.calendar.proofs.Laws.Rule.{none-later}
 use Rattle.calendar.proofs.Laws.Ascending.{ascends}
 use Rattle.calendar.proofs.Laws.Walk.{Walked, at-last, some-left, over-listed, over-worked, entry-written}
@@ -76,7 +76,7 @@ loop-again c =
       entry-written u (t .loop .days) (drop yearDays (s .args .days .now)) (day - 1) day next (omega arith) (omega arith) (omega arith) (w .entry) (t .loop .inv .2),
       ⊎-elim
           (λ e.
-          let found : getD (0 ∷ u) left 0 ≡ day = sym last ∙ e .0 .taken in
+          let found : entryOf u left ≡ day = sym last ∙ e .0 .taken in
           let less : c .if1 .left ≡ left - 1 = e .1 in
           let counted : suc (c .if1 .left) ≡ left = omega (arith, less, some-left u left day (omega arith) found) in
           over-listed u (day - 1) day next (c .if1 .next) (c .if1 .left) left (omega arith) counted (e .2) (omega arith) asc w found)

@@ -7,8 +7,7 @@ use borrow.Author.Needs.{needs}
 use lib.ListN.{getD, List·getD-eq-default}
 use Rattle.calendar.specs.Rule.{tableOf, entryOf}
 use Rattle.calendar.specs.Year.{unworked2028, nextIn2028}
-use Rattle.calendar.proofs.Laws.Rule.{length-table}
-use Rattle.calendar.proofs.Laws.Walk.{place-before}
+use Rattle.calendar.proofs.Laws.Rule.{length-table, place-of}
 use Rattle.calendar.proofs.year.next_day.Statement.{statement}
 use Rattle.calendar.proofs.year.next_day.Tie as tie
 
@@ -36,7 +35,7 @@ returns-3 : tie.Need-returns-3
 unfolding nextIn2028
 returns-3 c =
     let day = c .before .before .before .args .day in
-    ap (λ (table : List ℕ). getD table (day - 1) 0) (c .table .ensures) ∙ place-before (tableOf unworked2028) day (omega arith)
+    ap (λ (table : List ℕ). getD table (day - 1) 0) (c .table .ensures) ∙ place-of (tableOf unworked2028) day (omega arith)
 
 pub next-day-spec : {M : Type 1} → statement M
 next-day-spec = tie.close (tie.spec returns returns-2 table-requires sub-result mul-result array-read-result returns-3)
