@@ -16,12 +16,12 @@ onDay (suc n) = Compensation.On (dateOf (suc n))
 unfoldable pub compensation : (date : ℕ) → Compensation
 compensation date = cond (isDay2028 date) (onDay (nextIn2028 (dayNumber date))) Compensation.NoDay
 
--- what each answer says of the date that it is given for
+-- what each answer says of the date that was asked for: its next working day is that of d; the year has none; it is no day of 2028
 abbrev pub Says : (date : ℕ) → Compensation → Type 0
 Says date (Compensation.On d) = (isDay2028 date ≡ true) × (isDay2028 d ≡ true) × FirstLater unworked2028 (dayNumber date) (dayNumber d)
 Says date Compensation.NoneLeft = (isDay2028 date ≡ true) × FirstLater unworked2028 (dayNumber date) 0
 Says date Compensation.NoDay = isDay2028 date ≡ false
 
--- claimed, and proved in proofs/Laws/Compensation: so it is
+-- claimed, and proved in proofs/Laws/Compensation: what is answered is so
 abbrev pub EveryAnswerTrue : Type 0
 EveryAnswerTrue = (date : ℕ) → Says date (compensation date)
