@@ -125,8 +125,8 @@ fn main() {
     // The header of lot 7 as 0081 sends it, envelope and body.
     let header =
         b"\x01\x14\x03\x28\x00\x81\x00\x72\x00\x00\x00\x01\x00\x51\x01\x21\x00\x00\x00\x14\x03\x28\x00\x81\x00\x72\x00\x01\x00\x07\x00";
-    receive_case(83_699, header);
-    receive_case(83_700, header);
+    receive_case(83_729, header);
+    receive_case(83_730, header);
     receive_case(84_600, header);
     running_case(header);
 }

@@ -17,7 +17,7 @@ codeNumber Code.WrongDrawee = 6  -- the drawee of a presented document is not se
 codeNumber Code.WrongSequence = 7  -- the message does not fit the course of its direction
 codeNumber Code.WrongTotals = 8  -- the stated totals are not the counters
 codeNumber Code.MixedOperations = 9  -- groups of both operations
-codeNumber Code.TooLate = 10  -- a header at preclose or after it
+codeNumber Code.TooLate = 10  -- a header sent from the preclose on, or received from the cut-off on
 codeNumber Code.TooManyLots = 11  -- the direction has all the lots that it may have
 codeNumber Code.TooManyDocuments = 12  -- the lot would grow past its limit
 

@@ -30,6 +30,7 @@ fn losses() {
 fn hours() {
     evening(b"lost_reply_close.script");
     evening(b"closes_differ.script");
+    evening(b"clocks_margin.script");
     evening(b"clocks_preclose.script");
     evening(b"clocks_close.script");
     evening(b"clock_set_back.script");

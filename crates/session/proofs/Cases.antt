@@ -128,11 +128,11 @@ starred-cases :
     ∷ checkedOf (with-byte 36 0x00 (with-byte 37 0x73 printed)) is shows 6 zeros
     ∷ checkedOf (with-byte 35 0x0A (with-byte 22 0x53 printed)) is shows 1 zeros
     ∷ checkedOf [] is shows 1 zeros
-    -- a header at 83,699 and at 83,700: sent, then received
+    -- a header sent at 83,699 and at 83,700; received at 83,729 and at 83,730
     ∷ numberOf presenter (sending 83699 (Sent.header 7)) is Answer.number 0
     ∷ numberOf presenter (sending 83700 (Sent.header 7)) is Answer.number 10
-    ∷ replyOf receiver (arriving 83699 1 (Sent.header 7)) is Answer.reply 0 86 0 7 0
-    ∷ replyOf receiver (arriving 83700 1 (Sent.header 7)) is Answer.reply 0 86 10 0 0
+    ∷ replyOf receiver (arriving 83729 1 (Sent.header 7)) is Answer.reply 0 86 0 7 0
+    ∷ replyOf receiver (arriving 83730 1 (Sent.header 7)) is Answer.reply 0 86 10 0 0
     -- a detail to 2,600 and to 2,601: sent, then received
     ∷ numberOf (holding 2599 openPresenter) (sending 80000 detail) is Answer.number 0
     ∷ numberOf (holding 2600 openPresenter) (sending 80000 detail) is Answer.number 12

@@ -12,6 +12,7 @@ use Rattle.codes.proofs.Cases.{Case, _is_, AllDue, with-byte}
 use Rattle.document.specs.Operation.{presentedNumber}
 use Rattle.detail.specs.Limits.{headBytes}
 use Rattle.detail.proofs.Cases.{printed}
+use Rattle.session.specs.Hours.{preclose, cutOff}
 use Rattle.session.specs.Limits.{mostLotDocuments, mostLots}
 use Rattle.session.specs.Running.{empty}
 use Rattle.session.specs.Sequence.{headerSequence, lotSequence, lotTotalSequence, sessionTotalSequence}
@@ -55,16 +56,16 @@ in-order :
     ∷ numberOf presenter unknownReply is Answer.number 22
     -- sending: 34, 36, codes, 23
     ∷ numberOf (withSerial 99999999 awaiting) (sending 80000 (Sent.header 7)) is Answer.number 34
-    ∷ numberOf (withSerial 99999999 presenter) (sending 83700 (Sent.header 7)) is Answer.number 36
-    ∷ numberInRoom 30 presenter (sending 83700 (Sent.header 7)) is Answer.number 10
+    ∷ numberOf (withSerial 99999999 presenter) (sending preclose (Sent.header 7)) is Answer.number 36
+    ∷ numberInRoom 30 presenter (sending preclose (Sent.header 7)) is Answer.number 10
     -- a header sent: 01, 07, 10, 11
     ∷ numberOf openPresenter (sending 80000 (Sent.header 0)) is Answer.number 1
-    ∷ numberOf openPresenter (sending 83700 (Sent.header 8)) is Answer.number (headerSequence false sevenOpen)
-    ∷ numberOf (withLots mostLots presenter) (sending 83700 (Sent.header 7)) is Answer.number 10
+    ∷ numberOf openPresenter (sending preclose (Sent.header 8)) is Answer.number (headerSequence false sevenOpen)
+    ∷ numberOf (withLots mostLots presenter) (sending preclose (Sent.header 7)) is Answer.number 10
     -- received: 01, 07, 10, 04, 11
     ∷ replyOf openReceiver (arriving 80000 2 (Sent.header 0)) is Answer.reply 0 86 1 7 0
-    ∷ replyOf openReceiver (arriving 83700 2 (Sent.header 8)) is Answer.reply 0 86 (headerSequence false sevenOpen) 7 0
-    ∷ replyOf onePast (arriving 83700 4 (Sent.header 7)) is Answer.reply 0 86 10 0 0
+    ∷ replyOf openReceiver (arriving cutOff 2 (Sent.header 8)) is Answer.reply 0 86 (headerSequence false sevenOpen) 7 0
+    ∷ replyOf onePast (arriving cutOff 4 (Sent.header 7)) is Answer.reply 0 86 10 0 0
     ∷ replyOf (withLots mostLots onePast) (arriving 80000 4 (Sent.header 7)) is Answer.reply 0 86 4 0 0
     -- a detail sent: its own codes, then 07, 12; no calls lead to documents with no lot open, so 07 before 12 is of the definitions alone
     ∷ numberOf presenter (Call.send 80000 (Send.detail presentedNumber (drop headBytes (with-byte 35 0x0A printed)))) is Answer.number 3

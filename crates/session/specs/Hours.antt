@@ -1,4 +1,4 @@
--- 01, 'Centres and directions': the hours, in seconds of the day.
+-- 01, 'Centres and directions', and 02, card 2: the hours, in seconds of the day.
 use Prim.Native.Nat.{ℕ}
 use mathlib.Core.Bool.{Bool, _&&_}
 use lib.Dec.{leb, ltb}
@@ -8,6 +8,9 @@ opening = 75600  -- 21:00
 
 abbrev pub preclose : ℕ
 preclose = 83700  -- 23:15
+
+abbrev pub cutOff : ℕ
+cutOff = 83730  -- 23:15:30, the preclose and the margin for clocks that differ
 
 abbrev pub close : ℕ
 close = 84600  -- 23:30
@@ -29,7 +32,7 @@ presenterLate time = leb preclose time
 
 -- 10 at the receiver, by its own
 abbrev pub receiverLate : ℕ → Bool
-receiverLate time = leb preclose time
+receiverLate time = leb cutOff time
 
 -- a clock call then closes
 abbrev pub atClose : ℕ → Bool

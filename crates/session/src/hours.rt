@@ -31,7 +31,7 @@ pub fn presenter_late(time: u32) -> bool
 pub fn receiver_late(time: u32) -> bool
     ensures { λ r. ⌜ r ≡ receiverLate time ⌝ }
 {
-    Session::PRECLOSE <= time
+    Session::CUT_OFF <= time
 }
 
 // Whether a clock call closes.

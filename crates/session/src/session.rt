@@ -122,10 +122,13 @@ fn fresh(parties: Parties, close: Close) -> Session
 }
 
 impl Session {
-    // The hours, in seconds of the day: 21:00, 23:15 and 23:30.
+    // The hours, in seconds of the day: 21:00, 23:15, half a minute later, and 23:30. No header is sent from the preclose
+    // on, and none accepted from the cut-off on; between them lies the margin for clocks that differ.
     pub const OPENING: u32 = 75_600;
 
     pub const PRECLOSE: u32 = 83_700;
+
+    pub const CUT_OFF: u32 = 83_730;
 
     pub const CLOSE: u32 = 84_600;
 
