@@ -1,6 +1,7 @@
 //! A second implementation of the cheque exchange, the measure for the first in answers and speed.
 //! The detail check stands here four times: written plainly, tuned, by columns, and as the line's
-//! exported function. The session and the script interpreter are built on the plain check. The
+//! exported function. The session and the script interpreter are built on the plain check, and
+//! know two sets of rules: today's, which hold where none is named, and the circular's. The
 //! calendar uses nothing of them.
 
 pub mod bodies;

@@ -241,8 +241,8 @@ fn which_scripts_the_claim_speaks_of() {
 }
 
 #[test]
-fn ordinary_evenings_and_bad_lines_are_spoken_of() {
-    for kind in [Kind::Ordinary, Kind::BadLine] {
+fn lines_that_alter_nothing_are_spoken_of() {
+    for kind in [Kind::Ordinary, Kind::BadLine, Kind::Clocks] {
         for seed in 0..200 {
             assert!(books::applies(&generate::script(kind, seed)));
         }

@@ -1,9 +1,12 @@
-//! The comparison must find a wrong answer, and the shrinker must leave little of its script.
+//! Both comparisons must find a wrong answer, that with the circular's rules up to the first it
+//! leaves out, and the shrinker must leave little of its script.
 
-use reference::books;
+use reference::compare::circular::{self, Extent};
 use reference::compare::{self, Play};
 use reference::generate::{self, Kind};
-use reference::script;
+use reference::open_points::notation;
+use reference::session::rules::Rules;
+use reference::{books, script};
 
 /// Says 35 where the paper says 34.
 fn takes_34_for_35(text: &[u8]) -> Vec<u8> {
@@ -21,14 +24,38 @@ fn forgets_the_last_line_feed(text: &[u8]) -> Vec<u8> {
     output
 }
 
+fn stops_before_the_preclose(text: &[u8]) -> Vec<u8> {
+    stopping(83_699, text)
+}
+
+fn stops_after_the_cut_off(text: &[u8]) -> Vec<u8> {
+    stopping(83_731, text)
+}
+
+/// Today's rules with another cut-off.
+fn stopping(cut_off: u32, text: &[u8]) -> Vec<u8> {
+    let mut rules = Rules::TODAY;
+    rules.cut_off = cut_off;
+    script::play_by(rules, text)
+}
+
 fn replaced(text: &[u8], from: &str, to: &str) -> Vec<u8> {
     let output = String::from_utf8(script::play(text)).unwrap();
     output.replace(from, to).into_bytes()
 }
 
+fn differs_from_today(text: &[u8], wrong: Play) -> bool {
+    compare::difference(text, script::play, wrong).is_some()
+}
+
+fn differs_from_the_circular(text: &[u8], wrong: Play) -> bool {
+    circular::difference(text, wrong).is_some()
+}
+
+const COMPARISONS: [fn(&[u8], Play) -> bool; 2] = [differs_from_today, differs_from_the_circular];
+
 /// The shortest script for the first seed that shows the fault.
-fn shortest(kind: Kind, wrong: Play) -> String {
-    let differs = |text: &[u8]| compare::difference(text, script::play, wrong).is_some();
+fn shortest(kind: Kind, differs: impl Fn(&[u8]) -> bool) -> String {
     let scripts = (0..200).map(|seed| generate::script(kind, seed));
     let found = scripts.into_iter().find(|text| differs(text));
     let short = compare::shortest(&found.expect("no seed shows the fault"), &differs);
@@ -38,16 +65,20 @@ fn shortest(kind: Kind, wrong: Play) -> String {
 
 #[test]
 fn a_wrong_refusal_needs_a_start_and_two_sends() {
-    let short = shortest(Kind::BadLine, takes_34_for_35);
-    assert_eq!(short.lines().count(), 3, "{short}");
+    for differs in COMPARISONS {
+        let short = shortest(Kind::BadLine, |text| differs(text, takes_34_for_35));
+        assert_eq!(short.lines().count(), 3, "{short}");
+    }
 }
 
 /// Two lots of three messages, and the start of the end that receives them.
 #[test]
 fn a_wrong_code_needs_two_lots() {
-    let short = shortest(Kind::Ordinary, accepts_a_duplicate);
-    println!("{short}");
-    assert!(short.lines().count() <= 7, "{short}");
+    for differs in COMPARISONS {
+        let short = shortest(Kind::Ordinary, |text| differs(text, accepts_a_duplicate));
+        println!("{short}");
+        assert!(short.lines().count() <= 7, "{short}");
+    }
 }
 
 /// Where the bytes must stay numbers, those of an exchange are taken out together.
@@ -63,8 +94,11 @@ fn numbers_move_up() {
 
 #[test]
 fn a_missing_line_feed_is_seen() {
-    let short = shortest(Kind::Text, forgets_the_last_line_feed);
-    assert_eq!(short.lines().count(), 1, "{short}");
+    for differs in COMPARISONS {
+        let wrong = forgets_the_last_line_feed;
+        let short = shortest(Kind::Text, |text| differs(text, wrong));
+        assert_eq!(short.lines().count(), 1, "{short}");
+    }
 }
 
 #[test]
@@ -77,4 +111,108 @@ fn the_first_difference_is_named() {
     let difference = compare::between(b"one\ntwo\n", b"one\n").unwrap();
     assert_eq!((difference.line, difference.engine.len()), (2, 0));
     assert_eq!(compare::between(b"one\n", b"one\n"), None);
+}
+
+/// A call to B of a message in the notation of the open points.
+fn receive(time: &str, message: &str) -> String {
+    let bytes = notation::hex(&notation::bytes(message));
+    format!("receive B {time} {bytes}\n")
+}
+
+const START: &str = "start B 140328 72 81\n";
+const HEADER: &str = "$E(1)+$HDR(7)";
+
+/// How far the answers of a wrong engine are compared with the circular's, or where they differ.
+fn extent(text: &str, wrong: impl Fn(&[u8]) -> Vec<u8>) -> Result<Extent, usize> {
+    let compared = circular::compared(text.as_bytes(), &wrong(text.as_bytes()));
+    compared.map_err(|difference| difference.line)
+}
+
+#[test]
+fn a_header_within_the_margin_is_left_out() {
+    for time in ["83700", "83729", "  0000083715"] {
+        let text = format!("# late\n{START}\n{}report B\n", receive(time, HEADER));
+        assert_eq!(extent(&text, script::play), Ok(Extent::UpTo(2)));
+        let circular = script::play_by(Rules::CIRCULAR, text.as_bytes());
+        assert!(compare::between(&circular, &script::play(text.as_bytes())).is_some());
+    }
+}
+
+#[test]
+fn the_seconds_beside_the_margin_are_compared() {
+    for (time, wrong) in [
+        ("83699", stops_before_the_preclose as Play),
+        ("83730", stops_after_the_cut_off),
+    ] {
+        let text = format!("{START}{}", receive(time, HEADER));
+        assert_eq!(extent(&text, script::play), Ok(Extent::ToTheEnd));
+        assert_eq!(extent(&text, wrong), Err(2));
+    }
+}
+
+#[test]
+fn other_answers_within_the_margin_are_compared() {
+    let open = receive("83699", HEADER);
+    for (message, right, wrong) in [
+        ("$E(2)+$HDR(8)", "8607\n", "8610\n"),
+        ("$E(2)+$HDR(0)", "8601\n", "8610\n"),
+        ("$E(2)+$EX", "8600\n", "8610\n"),
+        ("$E(4)+$HDR(8)", " 35\n", " 21\n"),
+    ] {
+        let text = format!("{START}{open}{}", receive("83700", message));
+        assert_eq!(extent(&text, script::play), Ok(Extent::ToTheEnd));
+        let last = &played(&text)[2];
+        assert!(last.ends_with(right), "{last}");
+        let spoiled = spoiled(&text, 3, &last.replace(right, wrong));
+        assert_eq!(extent(&text, |_| spoiled.clone()), Err(3), "{message}");
+    }
+}
+
+/// What is wrong behind an answer that is left out, only today's rules tell.
+#[test]
+fn a_wrong_answer_counts_up_to_the_one_left_out() {
+    let late = receive("83700", HEADER);
+    let text = format!("{START}clock B 83699\n{late}clock B 83701\nreport B\n");
+    for (at, expected) in [(2, Err(2)), (4, Ok(Extent::UpTo(3)))] {
+        let spoiled = spoiled(&text, at, "clock B 30 open\n");
+        assert_eq!(extent(&text, |_| spoiled.clone()), expected);
+        let right = script::play(text.as_bytes());
+        assert_eq!(compare::between(&right, &spoiled).unwrap().line, at);
+    }
+}
+
+/// The right answers, all but one.
+fn spoiled(text: &str, at: usize, wrong: &str) -> Vec<u8> {
+    let mut lines = played(text);
+    lines[at - 1] = wrong.into();
+    lines.concat().into_bytes()
+}
+
+fn played(text: &str) -> Vec<String> {
+    let output = String::from_utf8(script::play(text.as_bytes())).unwrap();
+    output.split_inclusive('\n').map(str::to_string).collect()
+}
+
+#[test]
+fn an_answer_too_few_or_too_many_is_seen() {
+    let text = format!("{START}{}report B\n", receive("83730", HEADER));
+    let lines = played(&text);
+    let fewer = lines[..2].concat().into_bytes();
+    assert_eq!(extent(&text, |_| fewer.clone()), Err(3));
+    let more = (lines.concat() + "report B none\n").into_bytes();
+    assert_eq!(extent(&text, |_| more.clone()), Err(4));
+    let late = format!("{START}{}", receive("83700", HEADER));
+    assert_eq!(extent(&late, |_| b"start B 00\n".to_vec()), Err(2));
+}
+
+/// The start of the end that receives the header, and the header.
+#[test]
+fn a_second_too_many_is_found_in_generated_scripts() {
+    for differs in COMPARISONS {
+        for kind in [Kind::BadLine, Kind::Clocks, Kind::Edges] {
+            let short = shortest(kind, |text| differs(text, stops_after_the_cut_off));
+            println!("{short}");
+            assert_eq!(short.lines().count(), 2, "{short}");
+        }
+    }
 }

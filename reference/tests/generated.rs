@@ -1,8 +1,10 @@
 //! The generated scripts must reach every reply code, every refusal and every close often
-//! enough, and a seed must give the same script again.
+//! enough, headers must come at the hours that decide on them, and a seed must give the same
+//! script again.
 
 use reference::generate::{self, Kind};
 use reference::{books, script};
+use std::collections::{BTreeMap, BTreeSet, HashMap, HashSet};
 
 /// Among the answers of a usual run.
 struct Counts {
@@ -107,10 +109,101 @@ fn show(what: &str, counts: &[u64]) {
     println!("{what} {}", texts.join(" "));
 }
 
+/// What one script has of headers: texts with the second of a call and its code, where a header
+/// was received the code of the reply.
+#[derive(Default)]
+struct Headers {
+    met: BTreeSet<String>,
+    /// By their numbers, those that were sent: when, and the bytes.
+    sent: HashMap<String, (String, String)>,
+    /// The ends and serials of what was received, which counts only once.
+    received: HashSet<String>,
+}
+
+impl Headers {
+    fn met(script: &[u8]) -> BTreeSet<String> {
+        let output = String::from_utf8(script::play(script)).unwrap();
+        let mut headers = Headers::default();
+        for (call, answer) in script::asked(script).zip(output.lines()) {
+            headers.add(&String::from_utf8_lossy(call), answer);
+        }
+        headers.met
+    }
+
+    fn add(&mut self, call: &str, answer: &str) {
+        let call: Vec<&str> = call.split(' ').collect();
+        let answer: Vec<&str> = answer.split(' ').collect();
+        match (&call[..], &answer[..]) {
+            (["header", _, time, ..], [_, _, code, written @ ..]) => {
+                self.met.insert(format!("sent {time}: {code}"));
+                if let [number, bytes] = written {
+                    let sent = (time.to_string(), bytes.to_string());
+                    self.sent.insert(number.to_string(), sent);
+                }
+            }
+            (["receive", end, time, bytes, ..], [_, _, "00", _, reply]) => {
+                if self.received.insert(format!("{end}{}", &reply[16..24])) {
+                    self.receive(time, bytes, &reply[30..]);
+                }
+            }
+            _ => {}
+        }
+    }
+
+    fn receive(&mut self, time: &str, bytes: &str, code: &str) {
+        if let Some((sent, _)) = self.sent.get(bytes) {
+            let both = format!("sent {sent}, received {time}: {code}");
+            self.met.insert(both);
+        }
+        let bytes = self.sent.get(bytes).map_or(bytes, |(_, bytes)| bytes);
+        if bytes.len() == 62 && &bytes[28..30] == "01" {
+            self.met.insert(format!("received {time}: {code}"));
+        }
+    }
+}
+
+/// With the least number of scripts in a usual run; what is seen of clocks that are three seconds
+/// apart comes last.
+const LIMITS: [(&str, u64); 16] = [
+    ("sent 83699: 00", 250),
+    ("sent 83700: 10", 300),
+    ("sent 83729: 10", 300),
+    ("sent 83730: 10", 300),
+    ("received 83699: 00", 200),
+    ("received 83700: 00", 180),
+    ("received 83729: 00", 120),
+    ("received 83729: 04", 40),
+    ("received 83729: 11", 25),
+    ("received 83730: 10", 150),
+    ("received 83731: 10", 120),
+    ("sent 83699, received 83729: 00", 25),
+    ("sent 83699, received 83730: 10", 30),
+    ("sent 83699, received 83702: 00", 40),
+    ("sent 83699, received 83696: 00", 50),
+    ("sent 83702: 10", 100),
+];
+
+#[test]
+fn headers_come_at_their_limits() {
+    let mut scripts: BTreeMap<String, u64> = BTreeMap::new();
+    for kind in [Kind::BadLine, Kind::Clocks, Kind::Edges, Kind::ManyLots] {
+        for seed in 0..kind.scripts() {
+            for met in Headers::met(&generate::script(kind, seed)) {
+                *scripts.entry(met).or_default() += 1;
+            }
+        }
+    }
+    for (what, least) in LIMITS {
+        let count = scripts.get(what).copied().unwrap_or(0);
+        println!("{what} {count}");
+        assert!(count >= least, "{what}: {count}");
+    }
+}
+
 /// A presenter stops itself with the others, and a lot total is 07 only for want of documents.
 #[test]
 fn few_codes_are_replied_while_the_line_alters_nothing() {
-    for kind in [Kind::Ordinary, Kind::BadLine] {
+    for kind in [Kind::Ordinary, Kind::BadLine, Kind::Clocks] {
         for seed in 0..kind.scripts() {
             let script = generate::script(kind, seed);
             assert!(books::applies(&script));

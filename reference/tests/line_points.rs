@@ -1,6 +1,6 @@
 //! The open points and the other hand-made scripts over the line: its player and its check.
 
-use reference::compare::difference;
+use reference::compare::{circular, difference};
 use reference::open_points::block::Block;
 use reference::{corpus, line, open_points, script};
 
@@ -33,5 +33,7 @@ fn the_hand_made_scripts() {
     for made in corpus::hand_made() {
         let difference = difference(&made.text, script::play, line::play);
         assert_eq!(difference, None, "{}", made.name);
+        let difference = circular::difference(&made.text, line::play);
+        assert_eq!(difference, None, "{}, by the circular's rules", made.name);
     }
 }

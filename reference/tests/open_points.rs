@@ -3,6 +3,7 @@
 
 use reference::open_points::block::{Block, Line};
 use reference::open_points::{self, notation};
+use reference::session::rules::Rules;
 use reference::session::trays::Trays;
 use reference::session::{Close, Session};
 use reference::{bodies, columns, plain, script, tuned};
@@ -201,6 +202,20 @@ fn a_142_the_length_of_what_was_written() {
     assert_eq!(b.receive(OPENING, &line[..34], &mut reply), Ok(16));
     assert_eq!(a.take_reply(OPENING, &reply), Ok(()));
     assert_eq!(a.send_session_total(OPENING, &mut line), Ok(37));
+}
+
+/// The circular's receiver stops with the presenter, today's half a minute later.
+#[test]
+fn a_152_the_receiver_by_both_sets_of_rules() {
+    for (rules, last) in [(Rules::CIRCULAR, 83_699), (Rules::TODAY, 83_729)] {
+        for (time, code) in [(last, 0x00), (last + 1, 0x10)] {
+            let mut b = Session::start_by(rules, 140_328, 72, 81, &[]).expect("a good start");
+            let mut reply = [0; 16];
+            let header = notation::bytes("$E(1)+$HDR(7)");
+            assert_eq!(b.receive(time, &header, &mut reply), Ok(16));
+            assert_eq!(reply[15], code, "{rules:?}, {time}");
+        }
+    }
 }
 
 /// Every refusal of a call that writes leaves the whole buffer.

@@ -48,7 +48,7 @@ impl Pair {
     /// Mostly the common time, which now and then moves on.
     fn time(&mut self) -> u32 {
         self.time += self.random.one_of(&[0, 0, 0, 1, 20]);
-        let odd = [0, 75_599, 83_700, 84_599, 84_600, 86_400, u32::MAX];
+        let odd = [0, 75_599, 83_700, 83_730, 84_599, 84_600, 86_400, u32::MAX];
         match self.random.below(30) {
             0 => self.random.one_of(&odd),
             _ => self.time,

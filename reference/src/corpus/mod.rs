@@ -46,6 +46,7 @@ pub fn corpus() -> Vec<Script> {
 const SEEDS: [(Kind, u64); Kind::ALL.len()] = [
     (Kind::Ordinary, 60),
     (Kind::BadLine, 120),
+    (Kind::Clocks, 60),
     (Kind::Damaged, 120),
     (Kind::Edges, 120),
     (Kind::Calls, 120),

@@ -88,13 +88,18 @@ pub fn lot(evening: &mut Evening, end: End, number: u64, documents: &[Document])
     evening.exchange(end);
 }
 
-/// Brings the direction to its end: what is awaited, the open lot's total, the session total.
-pub fn finish(evening: &mut Evening, presenter: End) {
+/// What is awaited, then the open lot's total: a header fits next, or the session total.
+pub fn settle(evening: &mut Evening, presenter: End) {
     evening.exchange(presenter);
     if evening.at(presenter).open.is_some() {
         evening.lot(presenter);
         evening.exchange(presenter);
     }
+}
+
+/// Brings the direction to its end.
+pub fn finish(evening: &mut Evening, presenter: End) {
+    settle(evening, presenter);
     evening.session(presenter);
     evening.exchange(presenter);
 }

@@ -4,6 +4,7 @@
 use crate::hex;
 use crate::random::Random;
 use crate::script::stage::Stage;
+use crate::session::rules::Rules;
 
 /// Longer lines are bad.
 const LONGEST_LINE: usize = 24_000;
@@ -29,7 +30,7 @@ impl Draft {
             random,
             written: Vec::new(),
             script: Vec::new(),
-            ends: Stage::default(),
+            ends: Stage::new(Rules::TODAY),
         }
     }
 

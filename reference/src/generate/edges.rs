@@ -3,7 +3,7 @@
 
 use super::edged_sends;
 use super::end::End;
-use super::evening::{Evening, PRECLOSE};
+use super::evening::{Evening, HEADER_LIMITS};
 use super::fields;
 use super::foreign::Foreign;
 use super::message;
@@ -31,10 +31,10 @@ pub fn play(evening: &mut Evening) {
     }
 }
 
-/// Both clocks, to an hour that matters.
+/// Each clock, to an hour that matters.
 fn move_on(evening: &mut Evening) {
-    let hour = evening.draft.random.one_of(&[PRECLOSE - 1, PRECLOSE]);
     for end in End::BOTH {
+        let hour = evening.draft.random.one_of(&HEADER_LIMITS);
         evening.at(end).time = hour.max(evening.at(end).time);
     }
 }

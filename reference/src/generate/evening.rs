@@ -9,7 +9,10 @@ use crate::hex;
 
 pub const OPENING: u64 = 75_600;
 pub const PRECLOSE: u64 = 83_700;
+pub const CUT_OFF: u64 = 83_730;
 pub const CLOSE: u64 = 84_600;
+/// At and next to the two hours from which no header is sent and none is taken.
+pub const HEADER_LIMITS: [u64; 5] = [PRECLOSE - 1, PRECLOSE, CUT_OFF - 1, CUT_OFF, CUT_OFF + 1];
 
 #[rustfmt::skip]
 const DATES: [u64; 14] = [

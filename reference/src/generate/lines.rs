@@ -3,7 +3,7 @@
 
 use super::course;
 use super::end::End;
-use super::evening::{Act, Evening, CLOSE, OPENING, PRECLOSE};
+use super::evening::{Act, Evening, CLOSE, CUT_OFF, OPENING, PRECLOSE};
 
 pub fn play(evening: &mut Evening) {
     evening.start_both();
@@ -35,14 +35,16 @@ fn set_clocks(evening: &mut Evening) {
     let hours = [
         OPENING,
         OPENING,
+        OPENING,
         80_000,
         PRECLOSE - 60,
+        PRECLOSE - 5,
         CLOSE - 60,
         OPENING - 5,
     ];
     let common = evening.draft.random.one_of(&hours);
     for end in End::BOTH {
-        let apart = evening.draft.random.one_of(&[0, 0, 1, 30, 600]);
+        let apart = evening.draft.random.one_of(&[0, 0, 1, 3, 30, 600]);
         evening.at(end).time = common + apart;
     }
 }
@@ -126,7 +128,15 @@ fn wrong_time(evening: &mut Evening, end: End) {
 fn jump(evening: &mut Evening, end: End) {
     let now = evening.at(end).time;
     let random = &mut evening.draft.random;
-    let hours = [PRECLOSE - 1, PRECLOSE, CLOSE - 2, now + 600, now + 60];
+    let hours = [
+        PRECLOSE - 1,
+        PRECLOSE,
+        CUT_OFF - 1,
+        CUT_OFF,
+        CLOSE - 2,
+        now + 600,
+        now + 60,
+    ];
     let later = random.one_of(&hours);
     let back = random.once_in(8);
     evening.at(end).time = if back { now - 30 } else { later.max(now) };

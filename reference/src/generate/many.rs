@@ -3,7 +3,7 @@
 
 use super::course;
 use super::end::End;
-use super::evening::{Evening, PRECLOSE};
+use super::evening::{Evening, HEADER_LIMITS};
 use super::foreign::Foreign;
 use super::message;
 use crate::bodies::PRESENTED;
@@ -49,8 +49,10 @@ fn own_lots(evening: &mut Evening) {
     evening.report(end);
     let accepted = evening.at(end).lots[0];
     evening.header(end, accepted);
-    evening.at(end).time = PRECLOSE;
-    evening.header(end, number(at + 2));
+    for hour in HEADER_LIMITS {
+        evening.at(end).time = hour;
+        evening.header(end, number(at + 2));
+    }
     course::finish(evening, end);
     evening.report(end);
     evening.report(end.other());
@@ -88,10 +90,12 @@ fn foreign_lots(evening: &mut Evening) {
         let header = foreign.header(evening, number);
         foreign.hand(evening, &header);
     }
-    evening.at(end).time = PRECLOSE;
-    for number in [number(at + 4), first] {
-        let header = foreign.header(evening, number);
-        foreign.hand(evening, &header);
+    for hour in HEADER_LIMITS {
+        evening.at(end).time = hour;
+        for number in [number(at + 4), first] {
+            let header = foreign.header(evening, number);
+            foreign.hand(evening, &header);
+        }
     }
     end_foreign(evening, &mut foreign);
     evening.report(end);

@@ -1,12 +1,13 @@
 //! Session scripts made from a kind and a seed, to be played by two implementations. While a
-//! script grows the reference answers it, so a seed's script changes only if these answers do.
-//! Questions about the calendar are made from a seed alone.
+//! script grows the reference answers it by today's rules, so a seed's script changes only if
+//! these answers do. Questions about the calendar are made from a seed alone.
 
 pub mod calendar;
 
 mod calls;
 mod centre;
 mod choice;
+mod clocks;
 mod course;
 mod damaged;
 mod draft;
@@ -48,10 +49,12 @@ pub enum Kind {
     Text,
     /// More written bytes than are remembered.
     Memory,
+    /// Clocks that differ, about the hours that decide on headers.
+    Clocks,
 }
 
 impl Kind {
-    pub const ALL: [Kind; 9] = [
+    pub const ALL: [Kind; 10] = [
         Kind::Ordinary,
         Kind::BadLine,
         Kind::Damaged,
@@ -61,6 +64,7 @@ impl Kind {
         Kind::Calls,
         Kind::Text,
         Kind::Memory,
+        Kind::Clocks,
     ];
 
     /// How many seeds a usual run takes; the large scripts are few.
@@ -75,6 +79,7 @@ impl Kind {
             Kind::Calls => 500,
             Kind::Text => 400,
             Kind::Memory => 6,
+            Kind::Clocks => 500,
         }
     }
 }
@@ -92,6 +97,7 @@ pub fn script(kind: Kind, seed: u64) -> Vec<u8> {
         Kind::Calls => calls::play(&mut evening),
         Kind::Text => text::play(&mut evening),
         Kind::Memory => memory::play(&mut evening),
+        Kind::Clocks => clocks::play(&mut evening),
     }
     evening.draft.script()
 }

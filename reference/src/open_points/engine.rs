@@ -3,6 +3,7 @@
 use super::FRESH_PAIR;
 use crate::script::stage::Stage;
 use crate::session::limits::Limits;
+use crate::session::rules::Rules;
 use crate::session::Session;
 
 pub struct Engine {
@@ -11,7 +12,7 @@ pub struct Engine {
 
 impl Engine {
     pub fn fresh_pair() -> Engine {
-        let mut stage = Stage::default();
+        let mut stage = Stage::new(Rules::TODAY);
         for line in FRESH_PAIR.lines() {
             stage.answer(line.as_bytes());
         }

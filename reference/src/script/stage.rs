@@ -4,19 +4,31 @@ use super::answer;
 use super::call::{self, Call, Start, WritingCall};
 use super::words::{Words, MOST_ROOM};
 use super::written::Written;
+use crate::session::rules::Rules;
 use crate::session::Session;
 
 /// What the lent buffer is filled with before each call.
 const UNWRITTEN: u8 = 0xEE;
 
-#[derive(Default)]
 pub struct Stage {
+    /// Of every session started here.
+    rules: Rules,
     a: Option<Session>,
     b: Option<Session>,
     written: Written,
 }
 
 impl Stage {
+    /// Two ends with no session.
+    pub fn new(rules: Rules) -> Stage {
+        Stage {
+            rules,
+            a: None,
+            b: None,
+            written: Written::default(),
+        }
+    }
+
     /// Of a pair that has been started.
     pub fn sessions(&mut self) -> [&mut Session; 2] {
         let started = "both ends have a session";
@@ -33,15 +45,20 @@ impl Stage {
             _ => return None,
         };
         let call = call::read(name, words, &self.written)?;
-        let answer = perform(session, &call, &mut self.written);
+        let answer = perform(self.rules, session, &call, &mut self.written);
         let (name, end) = (name.escape_ascii(), end.escape_ascii());
         Some(format!("{name} {end} {answer}"))
     }
 }
 
-fn perform(session: &mut Option<Session>, call: &Call, written: &mut Written) -> String {
+fn perform(
+    rules: Rules,
+    session: &mut Option<Session>,
+    call: &Call,
+    written: &mut Written,
+) -> String {
     match (call, session) {
-        (Call::Start(start), session) => perform_start(session, start),
+        (Call::Start(start), session) => perform_start(rules, session, start),
         (_, None) => answer::no_session(),
         (Call::Write { call, room }, Some(session)) => perform_write(session, call, *room, written),
         (Call::Reply { time, reply }, Some(session)) => {
@@ -56,8 +73,9 @@ fn perform(session: &mut Option<Session>, call: &Call, written: &mut Written) ->
 }
 
 /// A refused start leaves the earlier session.
-fn perform_start(session: &mut Option<Session>, start: &Start) -> String {
-    let started = Session::start(start.date, start.own, start.partner, &start.represented);
+fn perform_start(rules: Rules, session: &mut Option<Session>, start: &Start) -> String {
+    let (own, partner, represented) = (start.own, start.partner, &start.represented);
+    let started = Session::start_by(rules, start.date, own, partner, represented);
     answer::code(started.map(|fresh| *session = Some(fresh)))
 }
 

@@ -7,6 +7,7 @@ pub mod detail;
 pub mod hours;
 pub mod limits;
 pub mod report;
+pub mod rules;
 pub mod totals;
 pub mod trays;
 
@@ -28,6 +29,7 @@ use envelope::Envelope;
 use limits::Limits;
 use presenting::Presenting;
 use receiving::Receiving;
+use rules::Rules;
 use totals::Totals;
 
 #[derive(Clone, Copy, Debug, PartialEq, Eq)]
@@ -48,6 +50,7 @@ pub struct Session {
     close: Close,
     presenting: Presenting,
     receiving: Receiving,
+    rules: Rules,
     limits: Limits,
     check: DetailCheck,
 }

@@ -3,7 +3,6 @@
 use super::course::{Course, Message};
 use super::envelope::{self, Envelope, Kind};
 use super::header::Header;
-use super::hours::PRECLOSE;
 use super::refusal::{refuse, Refusal};
 use super::reply::{self, Reply};
 use super::total;
@@ -81,7 +80,7 @@ impl Session {
         let number = header.number;
         let course = &self.receiving.course;
         refuse(7, course.open.is_some() || course.ended)?;
-        refuse(10, time >= PRECLOSE)?;
+        refuse(10, time >= self.rules.cut_off)?;
         refuse(4, course.has_accepted_number(number))?;
         refuse(11, course.accepted.len() >= self.limits.lots)?;
         Ok(Message::Header { number })

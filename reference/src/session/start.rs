@@ -3,11 +3,22 @@
 use super::detail::DetailCheck;
 use super::limits::{Limits, LAST_FOUR_DIGITS, REPRESENTED};
 use super::refusal::{refuse, Refusal};
+use super::rules::Rules;
 use super::{Close, Presenting, Receiving, Session};
 
 impl Session {
-    /// The date is the number DDMMYY.
+    /// By today's rules. The date is the number DDMMYY.
     pub fn start(
+        date: u32,
+        own: u16,
+        partner: u16,
+        represented: &[u16],
+    ) -> Result<Session, Refusal> {
+        Session::start_by(Rules::TODAY, date, own, partner, represented)
+    }
+
+    pub fn start_by(
+        rules: Rules,
         date: u32,
         own: u16,
         partner: u16,
@@ -28,6 +39,7 @@ impl Session {
             close: Close::Open,
             presenting: Presenting::default(),
             receiving: Receiving::default(),
+            rules,
             limits: Limits::PAPER,
             check: DetailCheck::PLAIN,
         })

@@ -2,12 +2,13 @@
 //! numbers of the other written bytes move up.
 
 use crate::script::stage::Stage;
+use crate::session::rules::Rules;
 use std::ops::Range;
 
 /// The script without these lines and all that depends on them. What the reference no longer
 /// lets write is taken out as well.
 pub fn without(lines: &[Vec<u8>], gone: Range<usize>) -> Vec<Vec<u8>> {
-    let (mut old, mut new) = (Stage::default(), Stage::default());
+    let [mut old, mut new] = [Rules::TODAY; 2].map(Stage::new);
     let mut numbers = Numbers::default();
     let mut kept = Vec::new();
     for (at, line) in lines.iter().enumerate() {
