@@ -162,8 +162,8 @@ impl Headers {
     }
 }
 
-/// With the least number of scripts in a usual run; what is seen of clocks that are three seconds
-/// apart comes last.
+/// With the least number of scripts in a usual run of four kinds; what is seen of clocks that are
+/// three seconds apart comes last.
 const LIMITS: [(&str, u64); 16] = [
     ("sent 83699: 00", 250),
     ("sent 83700: 10", 300),

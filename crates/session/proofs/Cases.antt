@@ -1,4 +1,4 @@
--- 01, 'Cases': the starred ones, each beside what the paper says of it: one table, one theorem. A second table has 07 clause by clause, a third what else
+-- 01, 'Cases', and 02, card 2: the starred ones, each beside what the papers say of it: one table, one theorem. A second table has 07 clause by clause, a third what else
 -- decides a number, a start among it, and the closes.
 use mathlib.Core.Path.{refl}
 use mathlib.Core.Bool.{true, false}

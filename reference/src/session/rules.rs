@@ -1,5 +1,6 @@
-//! The rules of a session that have changed since the circular, all in one place. A session keeps
-//! its own copy, so that a script can be played by either set.
+//! The rules of a session that requests have changed, all in one place; the circular's are those
+//! of the scope paper as it stands. A session keeps its own copy, so that a script can be played by
+//! either set.
 
 use super::hours::{CUT_OFF, PRECLOSE};
 
