@@ -2,6 +2,7 @@
 //! the scripts of the files named as arguments and tells the first whose answers differ from those
 //! noted there, or that makes the player panic.
 
+mod asked;
 mod calendar;
 mod calendar_script;
 mod checked;

@@ -7,6 +7,7 @@ mod call;
 mod direction;
 mod report;
 
+use crate::asked::asked;
 use crate::hex;
 use call::{Call, Line};
 use direction::Direction;
@@ -28,7 +29,7 @@ pub struct Checked {
 /// Whether the claim speaks of this script: two good starts of one date with own and partner
 /// exchanged, no other start, and a line that carries only what was written.
 pub fn applies(script: &[u8]) -> bool {
-    let lines: Option<Vec<Line>> = call::asked(script).map(call::read).collect();
+    let lines: Option<Vec<Line>> = asked(script).map(call::read).collect();
     let mut calls = lines.unwrap_or_default();
     calls.retain(|line| !matches!(line.call, Call::Report));
     let [one, other, rest @ ..] = calls.as_slice() else {
@@ -42,7 +43,7 @@ pub fn applies(script: &[u8]) -> bool {
 /// The script with a report of each end after every line that is asked.
 pub fn with_reports(script: &[u8]) -> Vec<u8> {
     let mut full = Vec::new();
-    for line in call::asked(script) {
+    for line in asked(script) {
         full.extend(line);
         full.extend(b"\nreport A\nreport B\n");
     }
@@ -54,7 +55,7 @@ pub fn check(script: &[u8], output: &[u8]) -> Result<Checked, String> {
     let output = std::str::from_utf8(output).map_err(|_| "the answers are no text")?;
     let mut answers = output.lines();
     let mut books = Books::default();
-    for (at, line) in call::asked(script).enumerate() {
+    for (at, line) in asked(script).enumerate() {
         let shown = || short(&String::from_utf8_lossy(line));
         let answer = answers.next();
         let answer = answer.ok_or_else(|| format!("{}: no answer to: {}", at + 1, shown()))?;

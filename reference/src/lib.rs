@@ -4,6 +4,7 @@
 //! know two sets of rules: today's, which hold where none is named, and the circular's. The
 //! calendar uses nothing of them.
 
+pub mod asked;
 pub mod bodies;
 pub mod books;
 pub mod calendar;

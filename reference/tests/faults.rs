@@ -13,7 +13,8 @@ use std::thread;
 
 const COMPILERS: usize = 2;
 /// The sources that the small program is made of, and where it starts.
-const SOURCES: [&str; 5] = [
+const SOURCES: [&str; 6] = [
+    "asked.rs",
     "calendar_script.rs",
     "checked.rs",
     "packed.rs",

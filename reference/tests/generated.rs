@@ -2,6 +2,7 @@
 //! enough, headers must come at the hours that decide on them, and a seed must give the same
 //! script again.
 
+use reference::asked::asked;
 use reference::generate::{self, Kind};
 use reference::{books, script};
 use std::collections::{BTreeMap, BTreeSet, HashMap, HashSet};
@@ -124,7 +125,7 @@ impl Headers {
     fn met(script: &[u8]) -> BTreeSet<String> {
         let output = String::from_utf8(script::play(script)).unwrap();
         let mut headers = Headers::default();
-        for (call, answer) in script::asked(script).zip(output.lines()) {
+        for (call, answer) in asked(script).zip(output.lines()) {
             headers.add(&String::from_utf8_lossy(call), answer);
         }
         headers.met

@@ -1,10 +1,10 @@
 //! A line of a script as the books see it. Times and rooms are read but not kept: they matter
 //! only through refusals, which the answers tell.
 
+use crate::asked::LONGEST_LINE;
 use crate::hex;
 
 pub const END_NAMES: [&str; 2] = ["A", "B"];
-const LONGEST_LINE: usize = 24_000;
 const MOST_ROOM: u64 = 10_412;
 
 pub struct Line {
@@ -52,17 +52,6 @@ impl Call {
             _ => Err("a good line was answered as a bad one".into()),
         }
     }
-}
-
-/// The lines that get an answer: neither blank nor a comment.
-pub fn asked(script: &[u8]) -> impl Iterator<Item = &[u8]> {
-    let lines = script.split(|&byte| byte == b'\n');
-    lines.filter(|line| !is_passed_over(line))
-}
-
-fn is_passed_over(line: &[u8]) -> bool {
-    let says_nothing = line.starts_with(b"#") || line.iter().all(|&byte| byte == b' ');
-    says_nothing && line.len() <= LONGEST_LINE
 }
 
 /// None for a line that cannot be read.

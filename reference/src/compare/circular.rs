@@ -2,8 +2,9 @@
 //! answers is set beside the call and the circular's answer to it.
 
 use super::{answers, Difference, Play};
+use crate::asked::asked;
+use crate::script::play_by;
 use crate::script::words::Words;
-use crate::script::{asked, play_by};
 use crate::session::rules::Rules;
 use std::ops::RangeInclusive;
 

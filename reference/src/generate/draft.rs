@@ -1,13 +1,11 @@
 //! A script in the making. The reference plays each line as it is added, so that a generator
 //! can go by the answers.
 
+use crate::asked::LONGEST_LINE;
 use crate::hex;
 use crate::random::Random;
 use crate::script::stage::Stage;
 use crate::session::rules::Rules;
-
-/// Longer lines are bad.
-const LONGEST_LINE: usize = 24_000;
 
 pub struct Draft {
     pub random: Random,
