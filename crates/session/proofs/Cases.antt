@@ -1,5 +1,5 @@
--- 01, 'Cases', and 02, card 2: the starred ones, each beside what the papers say of it: one table, one theorem. A second table has 07 clause by clause, a third what else
--- decides a number, a start among it, and the closes.
+-- 01, 'Cases', and 02, card 2: the starred ones, each beside what the papers say of it: one table, one theorem. A second table has 07 clause by
+-- clause, a third what else decides a number, a start among it, and the closes.
 use mathlib.Core.Path.{refl}
 use mathlib.Core.Bool.{true, false}
 use mathlib.Core.List.{List, [], _∷_, _++_}
