@@ -1,8 +1,8 @@
 /*
  * For C and C++ callers: the detail check, link with libdetail.a; a whole
  * evening of two engines over trays, scripts of evenings, next working days
- * and compensation dates, link with libentries.a. Both libraries may be linked
- * into one program.
+ * and compensation dates, commissions by tariff key, link with libentries.a.
+ * Both libraries may be linked into one program.
  *
  * They are built for x86-64 Linux, with the System V calling convention, and
  * may be linked into a program or a shared object. libdetail.a needs nothing
@@ -212,6 +212,85 @@ typedef struct line_compensation {
 line_compensation line_compensation_date(uint32_t date);
 
 /*
+ * A tariff says what documents with a tariff key pay. It is lent as numbers
+ * one behind the other, four for each key, 20 keys at most:
+ *   the key        1 to 9999, no two alike
+ *   its rate       per ten thousand, 0 to 10,000
+ *   the least      commission, smallest units, not above the greatest
+ *   the greatest   commission, at most 99,999,999
+ * Anything else, a length that is no multiple of 4 too, is a bad tariff. One
+ * of length 0 is good and knows key 0 alone.
+ */
+
+/* A commission, or why there is none. */
+typedef struct line_commissioned {
+    uint8_t code;        /* 0, else the first code that applies */
+    uint64_t commission; /* smallest units; 0 unless code is 0 */
+} line_commissioned;
+
+/*
+ * Works out the commission of a presented document from its tariff key, its
+ * nominal and the commission that was typed: nominal times rate divided by
+ * 10,000, an exact half going up, then raised to the key's least or cut to its
+ * greatest. Key 0 keeps the typed commission. Link with libentries.a.
+ *
+ * Codes, the first that applies, with any numbers passed:
+ *   42  a bad tariff, also with key 0
+ *    1  a nominal above 999,999,999,999 or a typed commission above
+ *       99,999,999, whatever the key
+ *   41  a key that is neither 0 nor in the tariff
+ * They are plain numbers: 42 is forty-two.
+ *
+ * Lengths: tariff_len counts numbers, not keys or bytes, and any length may be
+ * passed as long as its bytes fit in PTRDIFF_MAX. More than 80 get 42 with
+ * nothing read.
+ *
+ * Pointers: tariff must be valid for reading its whole length and aligned as
+ * uint32_t. A null pointer is allowed with length 0.
+ *
+ * The call only reads what is lent and keeps nothing. There is no global
+ * state, so several threads may call at once, on the same tariff too, while
+ * nobody writes it.
+ */
+line_commissioned line_commission(const uint32_t *tariff, size_t tariff_len,
+                                  uint32_t key, uint64_t nominal,
+                                  uint64_t typed);
+
+/* What became of a tray. */
+typedef struct line_filled {
+    uint8_t code;       /* 0, else the first code that applies */
+    uint64_t documents; /* code 0: how many the tray has; 1, 3 and 41: the
+                           place of the document, the first being 0; 42 and
+                           25: 0 */
+} line_filled;
+
+/*
+ * Works out the commission of every document of a tray of presented documents,
+ * 51 bytes each, and writes it into the document: four bytes, packed digits,
+ * of each document whose tariff key is not 0. All other bytes are kept. Link
+ * with libentries.a.
+ *
+ * Codes, the first that applies, with nothing written:
+ *   42  a bad tariff
+ *   25  a tray that is not a multiple of 51 bytes; an empty one is good
+ * and then of the first document that has one of these:
+ *    1  a tariff key with a non-digit
+ *    3  a nominal or a commission with a non-digit, whatever the key
+ *   41  a key that is neither 0 nor in the tariff
+ * Nothing else of a document is looked at: the detail check and the send do.
+ *
+ * A tray of returns must not be passed: what stands at the key's place of a
+ * return is its reason.
+ *
+ * Lengths, pointers and threads: the tariff's are as for line_commission.
+ * tray_len counts bytes, up to PTRDIFF_MAX; tray must be valid for reading and
+ * writing its whole length and must not overlap the tariff, and of several
+ * threads each has its own. A null pointer is allowed with length 0.
+ */
+line_filled line_fill_commissions(const uint32_t *tariff, size_t tariff_len,
+                                  uint8_t *tray, size_t tray_len);
+
+/*
  * The functions of the libraries themselves take no null pointer. So in C and
  * C++ their names stand for the inline functions below, which hand on the
  * address of an object where a length is 0. Other languages, which bind to the
@@ -228,6 +307,13 @@ static inline const uint16_t *line_lent_numbers(const uint16_t *numbers,
 {
     static const uint16_t nothing = 0;
     return len == 0 ? &nothing : numbers;
+}
+
+static inline const uint32_t *line_lent_tariff(const uint32_t *tariff,
+                                               size_t len)
+{
+    static const uint32_t nothing = 0;
+    return len == 0 ? &nothing : tariff;
 }
 
 static inline uint8_t *line_lent_room(uint8_t *room, size_t len)
@@ -287,10 +373,29 @@ line_next_days_inline(const uint16_t *unworked, size_t unworked_len,
                           line_lent_places(days, days_len), days_len);
 }
 
+static inline line_commissioned
+line_commission_inline(const uint32_t *tariff, size_t tariff_len, uint32_t key,
+                       uint64_t nominal, uint64_t typed)
+{
+    return line_commission(line_lent_tariff(tariff, tariff_len), tariff_len,
+                           key, nominal, typed);
+}
+
+static inline line_filled
+line_fill_commissions_inline(const uint32_t *tariff, size_t tariff_len,
+                             uint8_t *tray, size_t tray_len)
+{
+    return line_fill_commissions(line_lent_tariff(tariff, tariff_len),
+                                 tariff_len,
+                                 line_lent_room(tray, tray_len), tray_len);
+}
+
 #define line_check_detail line_check_detail_inline
 #define line_exchange line_exchange_inline
 #define line_play_script line_play_script_inline
 #define line_next_days line_next_days_inline
+#define line_commission line_commission_inline
+#define line_fill_commissions line_fill_commissions_inline
 
 #ifdef __cplusplus
 }

@@ -1,0 +1,5 @@
+pub mod Rows
+pub mod Commission
+pub mod Judged
+pub mod Filled
+pub mod Tray

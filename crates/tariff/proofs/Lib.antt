@@ -1,0 +1,2 @@
+-- Laws of tariffs and trays, and the proofs of the functions.
+pub mod Laws

@@ -1,0 +1,89 @@
+-- `earned_by` goes down the chain: 01, 03, 41.
+use mathlib.Core.Path.{_≡_, ap, sym, _∙_}
+use mathlib.Core.Bool.{_&&_}
+use borrow.Author.Needs.{needs}
+use Rattle.tariff.specs.Tariff.{rowsOf}
+use Rattle.tariff.specs.Commission.{ruleOf, isUnknown}
+use Rattle.tariff.specs.Tray.{tariffKey}
+use Rattle.tariff.proofs.Laws.Judged.{wrong-key, wrong-amount, unknown-key, nothing}
+use Rattle.tariff.proofs.tray.earned_by.Statement.{statement}
+use Rattle.tariff.proofs.tray.earned_by.Tie as tie
+
+are-digits-requires : tie.Need-are-digits-requires
+are-digits-requires c κs = search needs
+
+are-digits-requires-2 : tie.Need-are-digits-requires-2
+are-digits-requires-2 c κs = search needs
+
+are-digits-requires-3 : tie.Need-are-digits-requires-3
+are-digits-requires-3 c κs = search needs
+
+number2-requires : tie.Need-number2-requires
+number2-requires c κs = search needs
+
+cast-rule-of : tie.Need-cast-rule-of
+cast-rule-of c = search needs
+
+rule-of-requires : tie.Need-rule-of-requires
+rule-of-requires c κs = search needs
+
+is-unknown-requires : tie.Need-is-unknown-requires
+is-unknown-requires c κs = search needs
+
+returns : tie.Need-returns
+unfolding tariffKey
+returns c =
+    let r = c .before .before in
+    let k = r .before in
+    let m = k .before .before in
+    let f = m .before .before in
+    let a = f .before .before .before .before .args in
+    let rows = rowsOf (a .tariff .now) in
+    unknown-key rows (a .d .now)
+    (sym (f .before .are-digits .ensures) ∙ f .if1 .taken)
+    (sym (λ i. m .before .are-digits2 .ensures i && m .are-digits3 .ensures i) ∙ k .before .if2 .taken)
+    (sym (c .before .is-unknown .ensures ∙ ap isUnknown (r .rule-of .ensures ∙ ap (ruleOf rows) (k .number2 .ensures))) ∙ c .if3 .taken)
+
+returns-2 : tie.Need-returns-2
+unfolding tariffKey
+returns-2 c =
+    let r = c .before .before in
+    let k = r .before in
+    let m = k .before .before in
+    let f = m .before .before in
+    let a = f .before .before .before .before .args in
+    let rows = rowsOf (a .tariff .now) in
+    nothing rows (a .d .now)
+    (sym (f .before .are-digits .ensures) ∙ f .if1 .taken)
+    (sym (λ i. m .before .are-digits2 .ensures i && m .are-digits3 .ensures i) ∙ k .before .if2 .taken)
+    (sym (c .before .is-unknown .ensures ∙ ap isUnknown (r .rule-of .ensures ∙ ap (ruleOf rows) (k .number2 .ensures))) ∙ c .if3 .left)
+
+returns-3 : tie.Need-returns-3
+returns-3 c =
+    let m = c .before in
+    let f = m .before .before in
+    let a = f .before .before .before .before .args in
+    wrong-amount (rowsOf (a .tariff .now)) (a .d .now)
+    (sym (f .before .are-digits .ensures) ∙ f .if1 .taken)
+    (sym (λ i. m .before .are-digits2 .ensures i && m .are-digits3 .ensures i) ∙ c .if2 .left)
+
+returns-4 : tie.Need-returns-4
+returns-4 c =
+    let a = c .before .before .before .before .args in
+    wrong-key (rowsOf (a .tariff .now)) (a .d .now) (sym (c .before .are-digits .ensures) ∙ c .if1 .left)
+
+pub earned-by-spec : {M : Type 1} → statement M
+earned-by-spec =
+    tie.close
+    (tie.spec
+    are-digits-requires
+    are-digits-requires-2
+    are-digits-requires-3
+    number2-requires
+    cast-rule-of
+    rule-of-requires
+    is-unknown-requires
+    returns
+    returns-2
+    returns-3
+    returns-4)

@@ -1,0 +1,9 @@
+// The commission of presented documents by their tariff key, worked out before they are sent: a tariff, what its keys say,
+// the commission of one document, and those of a tray. Nothing of a session asks here. What the words mean stands in specs/.
+
+pub mod commission;
+mod good;
+mod rounding;
+pub mod row;
+pub mod search;
+pub mod tray;
