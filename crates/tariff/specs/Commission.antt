@@ -34,10 +34,10 @@ searched rows key = numbered (λ (r : Row). r .key) Rule.ByRow Rule.Unknown rows
 unfoldable pub ruleOf : List Row → (key : ℕ) → Rule
 ruleOf rows key = cond (eqb key 0) Rule.Typed (searched rows key)
 
-abbrev pub isUnknown : Rule → Bool
-isUnknown Rule.Typed = false
-isUnknown (Rule.ByRow r) = false
-isUnknown Rule.Unknown = true
+abbrev pub isKnown : Rule → Bool
+isKnown Rule.Typed = true
+isKnown (Rule.ByRow r) = true
+isKnown Rule.Unknown = false
 
 -- the commission that a rule gives
 unfoldable pub due : Rule → (nominal typed : ℕ) → ℕ
@@ -49,14 +49,14 @@ due Rule.Unknown nominal typed = 0
 abbrev pub withinLimits : (nominal typed : ℕ) → Bool
 withinLimits nominal typed = leb nominal largestNominal && leb typed largestCommission
 
--- 'an unknown key'
-abbrev pub unknown : (tariff : List ℕ) (key : ℕ) → Bool
-unknown tariff key = isUnknown (ruleOf (rowsOf tariff) key)
+-- no 'unknown key'
+abbrev pub keyKnown : (tariff : List ℕ) (key : ℕ) → Bool
+keyKnown tariff key = isKnown (ruleOf (rowsOf tariff) key)
 
 -- '42 comes first, then 01, then 41'
 unfoldable pub commissionRefusal : (tariff : List ℕ) (key nominal typed : ℕ) → ℕ
 commissionRefusal tariff key nominal typed =
-    42 when not (goodTariff tariff) orelse 1 when not (withinLimits nominal typed) orelse 41 when unknown tariff key
+    42 when not (goodTariff tariff) orelse 1 when not (withinLimits nominal typed) orelse 41 when not (keyKnown tariff key)
 
 -- the number of each answer, and the commission, 0 beside a code
 abbrev pub commissionShown : CommissionAnswer → CommissionShown

@@ -15,7 +15,7 @@ use Rattle.tariff.specs.declared.tray.Earned.{Earned}
 use Rattle.tariff.specs.declared.tray.FillAnswer.{FillAnswer}
 use Rattle.tariff.specs.declared.tray.FillShown.{FillShown}
 use Rattle.tariff.specs.Tariff.{rowsOf, goodTariff}
-use Rattle.tariff.specs.Commission.{ruleOf, isUnknown, due}
+use Rattle.tariff.specs.Commission.{ruleOf, isKnown, due}
 
 -- 01, 'Detail', positions 46-47 of a presented document
 abbrev pub keyField : Field
@@ -34,7 +34,7 @@ amountDigits d = fieldDigits documentPosition d nominalField && fieldDigits docu
 -- the code that a document earns, 0 where none
 unfoldable pub documentRefusal : List Row → List ℕ → ℕ
 documentRefusal rows d =
-    1 when not (keyDigits d) orelse 3 when not (amountDigits d) orelse 41 when isUnknown (ruleOf rows (tariffKey d))
+    1 when not (keyDigits d) orelse 3 when not (amountDigits d) orelse 41 when not (isKnown (ruleOf rows (tariffKey d)))
 
 -- the code of 'the first document, in order, that earns a code'
 unfoldable pub firstRefusal : List Row → List (List ℕ) → ℕ

@@ -4,7 +4,7 @@ use crate::rounding::rounded;
 use crate::row::LARGEST_COMMISSION;
 use crate::row::Row;
 use crate::search::Rule;
-use crate::search::is_unknown;
+use crate::search::is_known;
 use crate::search::rule_of;
 ghost use mathlib.Core.Path.{_≡_};
 ghost use Prim.Native.Nat.{_≤_};
@@ -110,10 +110,10 @@ pub fn commission(tariff: &[u32], key: u32, nominal: u64, typed: u64) -> Commiss
     if good_tariff(tariff) {
         if within_limits(nominal, typed) {
             let rule = rule_of(tariff, key);
-            if is_unknown(rule) {
-                return CommissionAnswer::UnknownKey;
+            if is_known(rule) {
+                return CommissionAnswer::Given(due(rule, nominal, typed));
             }
-            return CommissionAnswer::Given(due(rule, nominal, typed));
+            return CommissionAnswer::UnknownKey;
         }
         return CommissionAnswer::OverLimits;
     }

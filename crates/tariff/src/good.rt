@@ -2,7 +2,7 @@
 use crate::row::ROW_NUMBERS;
 use crate::row::row_good;
 use crate::row::row_in;
-use crate::search::is_unknown;
+use crate::search::is_known;
 use crate::search::search;
 ghost use mathlib.Core.Path.{_≡_};
 ghost use Rattle.tariff.specs.Tariff.{goodTariff};
@@ -25,7 +25,7 @@ pub fn good_tariff(tariff: &[u32]) -> bool
     while at < tariff.len() {
         let end = at + ROW_NUMBERS;
         let row = row_in(&tariff[at..end]);
-        good = good & is_unknown(search(tariff, end, row.key)) & row_good(row);
+        good = good & !is_known(search(tariff, end, row.key)) & row_good(row);
         at = end;
     }
     good

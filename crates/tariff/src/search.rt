@@ -6,7 +6,7 @@ ghost use mathlib.Core.Path.{_≡_};
 ghost use Prim.Native.Nat.{_-_, _%_, _≤_};
 ghost use lib.ListN.{length, drop};
 ghost use Rattle.tariff.specs.Tariff.{rowNumbers, rowsOf};
-ghost use Rattle.tariff.specs.Commission.{searched, ruleOf, isUnknown};
+ghost use Rattle.tariff.specs.Commission.{searched, ruleOf, isKnown};
 
 // The typed commission is kept, a row of the tariff decides, or the key is unknown.
 pub enum Rule {
@@ -15,13 +15,13 @@ pub enum Rule {
     Unknown,
 }
 
-pub fn is_unknown(rule: Rule) -> bool
-    ensures { λ r. ⌜ r ≡ isUnknown rule ⌝ }
+pub fn is_known(rule: Rule) -> bool
+    ensures { λ r. ⌜ r ≡ isKnown rule ⌝ }
 {
     match rule {
-        Rule::Typed => false,
-        Rule::ByRow(_) => false,
-        Rule::Unknown => true,
+        Rule::Typed => true,
+        Rule::ByRow(_) => true,
+        Rule::Unknown => false,
     }
 }
 

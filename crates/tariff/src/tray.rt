@@ -1,7 +1,7 @@
 // The commissions of a tray of presented documents, worked out and written in place.
 use crate::commission::due;
 use crate::good::good_tariff;
-use crate::search::is_unknown;
+use crate::search::is_known;
 use crate::search::rule_of;
 use document::COMMISSION;
 use document::COMMISSION_BYTES;
@@ -107,10 +107,10 @@ fn earned_by(tariff: &[u32], d: &[u8]) -> Earned
 {
     if are_digits(d, KEY, KEY_BYTES) {
         if are_digits(d, NOMINAL, NOMINAL_BYTES) & are_digits(d, COMMISSION, COMMISSION_BYTES) {
-            if is_unknown(rule_of(tariff, number2(d, KEY) as u32)) {
-                return Earned::UnknownKey;
+            if is_known(rule_of(tariff, number2(d, KEY) as u32)) {
+                return Earned::Nothing;
             }
-            return Earned::Nothing;
+            return Earned::UnknownKey;
         }
         return Earned::WrongAmount;
     }

@@ -16,7 +16,7 @@ use Rattle.tariff.specs.declared.search.Rule.{Rule}
 use Rattle.tariff.specs.declared.commission.CommissionAnswer.{CommissionAnswer}
 use Rattle.tariff.specs.Tariff.{largestKey, largestRate, rowsOf, rowGood, goodTariff}
 use Rattle.tariff.specs.Rounding.{rounded}
-use Rattle.tariff.specs.Commission.{raisedTo, cutTo, byRow, ruleOf, due, withinLimits, unknown, commissionRefusal, commissionShown, commissioned}
+use Rattle.tariff.specs.Commission.{raisedTo, cutTo, byRow, ruleOf, due, withinLimits, keyKnown, commissionRefusal, commissionShown, commissioned}
 use Rattle.tariff.specs.Inner.Bounds.{nominalBound, productBound, rateOf}
 use Rattle.tariff.proofs.Laws.Rows.{rule-told}
 
@@ -35,11 +35,11 @@ module _ (tariff : List ℕ) (key nominal typed : ℕ) where
     over-limits over = rw (good, over)
 
     module _ (within : withinLimits nominal typed ≡ true) where
-      pub unknown-key : unknown tariff key ≡ true → Answered CommissionAnswer.UnknownKey
+      pub unknown-key : keyKnown tariff key ≡ false → Answered CommissionAnswer.UnknownKey
       unfolding commissioned commissionRefusal _when_ _orelse_
       unknown-key none = rw (good, within, none)
 
-      pub given : unknown tariff key ≡ false → Answered (CommissionAnswer.Given (due (ruleOf (rowsOf tariff) key) nominal typed))
+      pub given : keyKnown tariff key ≡ true → Answered (CommissionAnswer.Given (due (ruleOf (rowsOf tariff) key) nominal typed))
       unfolding commissioned commissionRefusal _when_ _orelse_
       given known = rw (good, within, known)
 

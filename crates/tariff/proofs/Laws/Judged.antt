@@ -11,11 +11,12 @@ use borrow.Author.Tests.{eq-eqb, ne-eqb}
 use Rattle.packed.specs.Part.{part}
 use Rattle.packed.proofs.Laws.Pieces.{pieces-at, pieces-end}
 use Rattle.codes.specs.Chain.{_when_, _orelse_}
+use Rattle.codes.proofs.Laws.Chain.{ends, goes-on}
 use Rattle.document.specs.Limits.{documentBytes}
 use Rattle.document.specs.Part.{documentsOf}
 use Rattle.tariff.specs.declared.row.Row.{Row}
 use Rattle.tariff.specs.declared.tray.FillShown.{FillShown}
-use Rattle.tariff.specs.Commission.{ruleOf, isUnknown}
+use Rattle.tariff.specs.Commission.{ruleOf, isKnown}
 use Rattle.tariff.specs.Tray.{tariffKey, keyDigits, amountDigits, documentRefusal, firstRefusal, goodBefore}
 use Rattle.tariff.specs.Inner.Judged.{judged}
 
@@ -30,11 +31,11 @@ module _ (rows : List Row) (d : List ℕ) where
   wrong-amount k a = rw (k, a)
 
   module _ (k : keyDigits d ≡ true) (a : amountDigits d ≡ true) where
-    pub unknown-key : isUnknown (ruleOf rows (tariffKey d)) ≡ true → 41 ≡ documentRefusal rows d
+    pub unknown-key : isKnown (ruleOf rows (tariffKey d)) ≡ false → 41 ≡ documentRefusal rows d
     unfolding documentRefusal _when_ _orelse_
     unknown-key u = rw (k, a, u)
 
-    pub nothing : isUnknown (ruleOf rows (tariffKey d)) ≡ false → 0 ≡ documentRefusal rows d
+    pub nothing : isKnown (ruleOf rows (tariffKey d)) ≡ true → 0 ≡ documentRefusal rows d
     unfolding documentRefusal _when_ _orelse_
     nothing u = rw (k, a, u)
 
@@ -48,28 +49,23 @@ module _ (rows : List Row) (all : List (List ℕ)) where
   none-passed = record { code = refl; count = zero-add (goodBefore rows all) }
 
   -- it stops at a document that earns something
-  stops-code : (n : ℕ) (rest : ℕ) → (n ≡ 0 → ⊥) → (n orelse rest) ≡ n
-  unfolding _orelse_
-  stops-code zero rest h = absurd (h refl)
-  stops-code (suc n) rest h = refl
-
   pub stops : (place : ℕ) (d : List ℕ) (ds : List (List ℕ)) → Passed rows all (d ∷ ds) place → (documentRefusal rows d ≡ 0 → ⊥) → record { code = documentRefusal rows d; documents = place } ≡ judged rows all
   unfolding firstRefusal goodBefore
   stops place d ds p bad =
       let n = documentRefusal rows d in
-      let code : n ≡ firstRefusal rows all = sym (stops-code n (firstRefusal rows ds) bad) ∙ p .code in
+      let code : n ≡ firstRefusal rows all = sym (ends n (firstRefusal rows ds) (omega arith)) ∙ p .code in
       let none : goodBefore rows (d ∷ ds) ≡ 0 = rw (ne-eqb n 0 bad) in
       let count : place ≡ goodBefore rows all = sym (add-zero place) ∙ ap (λ (k : ℕ). place + k) (sym none) ∙ p .count in
       λ i. record { code = code i; documents = count i }
 
-  pub goes-on : (place : ℕ) (d : List ℕ) (ds : List (List ℕ)) → Passed rows all (d ∷ ds) place → documentRefusal rows d ≡ 0 → Passed rows all ds (place + 1)
-  unfolding firstRefusal goodBefore _orelse_
-  goes-on place d ds p good =
+  pub passes : (place : ℕ) (d : List ℕ) (ds : List (List ℕ)) → Passed rows all (d ∷ ds) place → documentRefusal rows d ≡ 0 → Passed rows all ds (place + 1)
+  unfolding firstRefusal goodBefore
+  passes place d ds p good =
       let n = documentRefusal rows d in
-      let code : firstRefusal rows (d ∷ ds) ≡ firstRefusal rows ds = rw good in
+      let code : firstRefusal rows (d ∷ ds) ≡ firstRefusal rows ds = goes-on n (firstRefusal rows ds) good in
       let more : goodBefore rows (d ∷ ds) ≡ suc (goodBefore rows ds) = rw (eq-eqb n 0 good) in
       record { code = sym code ∙ p .code; count = omega (arith, more, p .count) }
 
-  pub ends : (place : ℕ) → Passed rows all [] place → record { code = 0; documents = place } ≡ judged rows all
+  pub done : (place : ℕ) → Passed rows all [] place → record { code = 0; documents = place } ≡ judged rows all
   unfolding firstRefusal goodBefore
-  ends place p = λ i. record { code = p .code i; documents = (sym (add-zero place) ∙ p .count) i }
+  done place p = λ i. record { code = p .code i; documents = (sym (add-zero place) ∙ p .count) i }

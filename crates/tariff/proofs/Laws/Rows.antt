@@ -16,7 +16,7 @@ use Rattle.codes.proofs.Laws.Numbered.{found-told}
 use Rattle.tariff.specs.declared.row.Row.{Row}
 use Rattle.tariff.specs.declared.search.Rule.{Rule}
 use Rattle.tariff.specs.Tariff.{mostKeys, rowNumbers, rowIn, rowsOf, wholeRows, rowGood, keysOf, noneTwice, goodTariff}
-use Rattle.tariff.specs.Commission.{searched, ruleOf, isUnknown}
+use Rattle.tariff.specs.Commission.{searched, ruleOf, isKnown}
 
 -- the row at a place of the numbers
 abbrev pub rowAt : (at : ℕ) (ns : List ℕ) → Row
@@ -44,16 +44,15 @@ module _ (at : ℕ) (ns : List ℕ) (key : ℕ) where
   unfolding searched numbered
   none-left h = rw (rows-end at ns h)
 
--- a key is unknown where no row has it
-one-more : (key : ℕ) (r : Row) (rest : Rule) (t m : Bool) → isUnknown rest ≡ not m → isUnknown (cond t (Rule.ByRow r) rest) ≡ not (t || m)
-one-more key r rest true m e = refl
-one-more key r rest false m e = e
-
-unknown-key : (rows : List Row) (key : ℕ) → isUnknown (searched rows key) ≡ not (member key (keysOf rows))
+-- a search finds a key that is among the keys, and no other
+found-key : (rows : List Row) (key : ℕ) → isKnown (searched rows key) ≡ member key (keysOf rows)
 unfolding searched numbered member
-unknown-key [] key = refl
-unknown-key (r ∷ rows) key =
-    one-more key r (searched rows key) (eqb key (r .key)) (member key (keysOf rows)) (unknown-key rows key)
+found-key [] key = refl
+found-key (r ∷ rows) key = one-more (eqb key (r .key)) (found-key rows key)
+  where
+    one-more : (t : Bool) → isKnown (searched rows key) ≡ member key (keysOf rows) → isKnown (cond t (Rule.ByRow r) (searched rows key)) ≡ t || member key (keysOf rows)
+    one-more true e = refl
+    one-more false e = e
 
 -- no key of some rows is there twice, and each row is good
 abbrev pub allGood : List Row → Bool
@@ -75,12 +74,12 @@ pub good-start : (ns : List ℕ) → length ns % rowNumbers ≡ 0 → length ns 
 unfolding goodTariff
 good-start ns whole few = rw (eq-eqb (length ns % rowNumbers) 0 whole, rows-count ns, le-leb (length ns) (mostKeys * rowNumbers) few)
 
-pub good-step : (ok : Bool) (at : ℕ) (ns : List ℕ) → at < length ns → ok && isUnknown (searched (rowsOf (drop (at + rowNumbers) ns)) (rowAt at ns .key)) && rowGood (rowAt at ns) && allGood (rowsOf (drop (at + rowNumbers) ns)) ≡ ok && allGood (rowsOf (drop at ns))
+pub good-step : (ok : Bool) (at : ℕ) (ns : List ℕ) → at < length ns → ok && not (isKnown (searched (rowsOf (drop (at + rowNumbers) ns)) (rowAt at ns .key))) && rowGood (rowAt at ns) && allGood (rowsOf (drop (at + rowNumbers) ns)) ≡ ok && allGood (rowsOf (drop at ns))
 unfolding noneTwice every
 good-step ok at ns h =
     let r = rowAt at ns in
     let rest = rowsOf (drop (at + rowNumbers) ns) in
-    ap (λ (u : Bool). ok && u && rowGood r && allGood rest) (unknown-key rest (r .key))
+    ap (λ (twice : Bool). ok && not twice && rowGood r && allGood rest) (found-key rest (r .key))
     ∙ regroup ok (not (member (r .key) (keysOf rest))) (rowGood r) (noneTwice (keysOf rest)) (every rowGood rest)
     ∙ ap (λ (rows : List Row). ok && allGood rows) (sym (rows-at at ns h))
 

@@ -6,7 +6,7 @@ use borrow.Author.Needs.{needs}
 use Rattle.tariff.specs.declared.search.Rule.{Rule}
 use Rattle.tariff.specs.declared.commission.CommissionAnswer.{CommissionAnswer}
 use Rattle.tariff.specs.Tariff.{largestRate}
-use Rattle.tariff.specs.Commission.{isUnknown, due, commissionShown}
+use Rattle.tariff.specs.Commission.{isKnown, due, commissionShown}
 use Rattle.tariff.specs.Inner.Bounds.{rateOf}
 use Rattle.tariff.proofs.Laws.Rows.{whole-rows}
 use Rattle.tariff.proofs.Laws.Commission.{wrong-tariff, over-limits, unknown-key, given, rate-most, limits-told}
@@ -24,19 +24,8 @@ rule-of-requires c κs =
     let g = c .before .before .before in
     whole-rows (g .before .before .args .tariff .now) (sym (g .good-tariff .ensures) ∙ c .before .before .if1 .taken)
 
-is-unknown-requires : tie.Need-is-unknown-requires
-is-unknown-requires c κs = search needs
-
-returns : tie.Need-returns
-returns c =
-    let r = c .before .before in
-    let o = r .before .before in
-    let g = o .before .before in
-    let a = g .before .before .args in
-    unknown-key (a .tariff .now) (a .key) (a .nominal) (a .typed)
-    (sym (g .good-tariff .ensures) ∙ o .before .if1 .taken)
-    (sym (o .within-limits .ensures) ∙ r .before .if2 .taken)
-    (sym (c .before .is-unknown .ensures ∙ ap isUnknown (r .rule-of .ensures)) ∙ c .if3 .taken)
+is-known-requires : tie.Need-is-known-requires
+is-known-requires c κs = search needs
 
 due-requires : tie.Need-due-requires
 due-requires c κs =
@@ -49,8 +38,8 @@ due-requires c κs =
       omega (arith, limits-told (a .nominal) (a .typed) (sym (o .within-limits .ensures) ∙ r .before .if2 .taken) .0),
     )
 
-returns-2 : tie.Need-returns-2
-returns-2 c =
+returns : tie.Need-returns
+returns c =
     let u = c .before .before in
     let r = u .before in
     let o = r .before .before in
@@ -61,7 +50,18 @@ returns-2 c =
     ∙ given (a .tariff .now) (a .key) (a .nominal) (a .typed)
     (sym (g .good-tariff .ensures) ∙ o .before .if1 .taken)
     (sym (o .within-limits .ensures) ∙ r .before .if2 .taken)
-    (sym (u .is-unknown .ensures ∙ ap isUnknown (r .rule-of .ensures)) ∙ c .before .if3 .left)
+    (sym (u .is-known .ensures ∙ ap isKnown (r .rule-of .ensures)) ∙ c .before .if3 .taken)
+
+returns-2 : tie.Need-returns-2
+returns-2 c =
+    let r = c .before .before in
+    let o = r .before .before in
+    let g = o .before .before in
+    let a = g .before .before .args in
+    unknown-key (a .tariff .now) (a .key) (a .nominal) (a .typed)
+    (sym (g .good-tariff .ensures) ∙ o .before .if1 .taken)
+    (sym (o .within-limits .ensures) ∙ r .before .if2 .taken)
+    (sym (c .before .is-known .ensures ∙ ap isKnown (r .rule-of .ensures)) ∙ c .if3 .left)
 
 returns-3 : tie.Need-returns-3
 returns-3 c =
@@ -84,9 +84,9 @@ commission-spec =
     good-tariff-requires
     within-limits-requires
     rule-of-requires
-    is-unknown-requires
-    returns
+    is-known-requires
     due-requires
+    returns
     returns-2
     returns-3
     returns-4)

@@ -1,7 +1,7 @@
 -- `good_tariff` asks of each row whether it is good and whether no later row has its key. The invariant: what is found so far and the rows that
 -- are left decide. The measure is what is left.
 use mathlib.Core.Path.{_≡_, ap, sym, _∙_}
-use mathlib.Core.Bool.{Bool, _&&_}
+use mathlib.Core.Bool.{not, _&&_}
 use Prim.Native.Nat.{_+_, _-_, _%_, _≤_}
 use native.Mathlib.Omega.{arith}
 use borrow.Author.Needs.{needs}
@@ -9,7 +9,7 @@ use lib.ListN.{length, drop}
 use Rattle.packed.proofs.Laws.Part.{part-length, part-all}
 use Rattle.tariff.specs.declared.row.Row.{Row}
 use Rattle.tariff.specs.Tariff.{rowNumbers, rowIn, rowsOf, rowGood, goodTariff}
-use Rattle.tariff.specs.Commission.{searched, isUnknown}
+use Rattle.tariff.specs.Commission.{searched, isKnown}
 use Rattle.tariff.proofs.Laws.Rows.{allGood, good-start, good-step, good-end, cut-row, many-keys}
 use Rattle.tariff.proofs.good.good_tariff.Statement.{statement}
 use Rattle.tariff.proofs.good.good_tariff.Tie as tie
@@ -56,8 +56,8 @@ row-in-requires c κs =
 search-requires : tie.Need-search-requires Inv-loop μ-loop
 search-requires c κs = (omega arith, omega arith)
 
-is-unknown-requires : tie.Need-is-unknown-requires Inv-loop μ-loop
-is-unknown-requires c κs = search needs
+is-known-requires : tie.Need-is-known-requires Inv-loop μ-loop
+is-known-requires c κs = search needs
 
 row-good-requires : tie.Need-row-good-requires Inv-loop μ-loop
 row-good-requires c κs = search needs
@@ -74,11 +74,11 @@ loop-again c =
     let at = t .loop .at in
     let row = r .row-in .ensures ∙ ap rowIn (part-all at rowNumbers ns) in
     let rest = rowsOf (drop (at + rowNumbers) ns) in
-    let unknown = c .before .is-unknown .ensures ∙ ap isUnknown (f .search .ensures) ∙ ap (λ (x : Row). isUnknown (searched rest (x .key))) row in
+    let twice = c .before .is-known .ensures ∙ ap isKnown (f .search .ensures) ∙ ap (λ (x : Row). isKnown (searched rest (x .key))) row in
     let good = c .row-good .ensures ∙ ap rowGood row in (
       omega arith,
       omega arith,
-      (λ i. t .loop .good && unknown i && good i && allGood rest) ∙ good-step (t .loop .good) at ns (omega arith) ∙ t .loop .inv .2,
+      (λ i. t .loop .good && not (twice i) && good i && allGood rest) ∙ good-step (t .loop .good) at ns (omega arith) ∙ t .loop .inv .2,
     )
 
 returns-3 : tie.Need-returns-3 Inv-loop μ-loop
@@ -102,7 +102,7 @@ good-tariff-spec =
     part-row-in-end
     row-in-requires
     search-requires
-    is-unknown-requires
+    is-known-requires
     row-good-requires
     loop-less
     loop-again

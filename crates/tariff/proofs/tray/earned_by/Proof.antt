@@ -3,7 +3,7 @@ use mathlib.Core.Path.{_≡_, ap, sym, _∙_}
 use mathlib.Core.Bool.{_&&_}
 use borrow.Author.Needs.{needs}
 use Rattle.tariff.specs.Tariff.{rowsOf}
-use Rattle.tariff.specs.Commission.{ruleOf, isUnknown}
+use Rattle.tariff.specs.Commission.{ruleOf, isKnown}
 use Rattle.tariff.specs.Tray.{tariffKey}
 use Rattle.tariff.proofs.Laws.Judged.{wrong-key, wrong-amount, unknown-key, nothing}
 use Rattle.tariff.proofs.tray.earned_by.Statement.{statement}
@@ -27,8 +27,8 @@ cast-rule-of c = search needs
 rule-of-requires : tie.Need-rule-of-requires
 rule-of-requires c κs = search needs
 
-is-unknown-requires : tie.Need-is-unknown-requires
-is-unknown-requires c κs = search needs
+is-known-requires : tie.Need-is-known-requires
+is-known-requires c κs = search needs
 
 returns : tie.Need-returns
 unfolding tariffKey
@@ -39,10 +39,10 @@ returns c =
     let f = m .before .before in
     let a = f .before .before .before .before .args in
     let rows = rowsOf (a .tariff .now) in
-    unknown-key rows (a .d .now)
+    nothing rows (a .d .now)
     (sym (f .before .are-digits .ensures) ∙ f .if1 .taken)
     (sym (λ i. m .before .are-digits2 .ensures i && m .are-digits3 .ensures i) ∙ k .before .if2 .taken)
-    (sym (c .before .is-unknown .ensures ∙ ap isUnknown (r .rule-of .ensures ∙ ap (ruleOf rows) (k .number2 .ensures))) ∙ c .if3 .taken)
+    (sym (c .before .is-known .ensures ∙ ap isKnown (r .rule-of .ensures ∙ ap (ruleOf rows) (k .number2 .ensures))) ∙ c .if3 .taken)
 
 returns-2 : tie.Need-returns-2
 unfolding tariffKey
@@ -53,10 +53,10 @@ returns-2 c =
     let f = m .before .before in
     let a = f .before .before .before .before .args in
     let rows = rowsOf (a .tariff .now) in
-    nothing rows (a .d .now)
+    unknown-key rows (a .d .now)
     (sym (f .before .are-digits .ensures) ∙ f .if1 .taken)
     (sym (λ i. m .before .are-digits2 .ensures i && m .are-digits3 .ensures i) ∙ k .before .if2 .taken)
-    (sym (c .before .is-unknown .ensures ∙ ap isUnknown (r .rule-of .ensures ∙ ap (ruleOf rows) (k .number2 .ensures))) ∙ c .if3 .left)
+    (sym (c .before .is-known .ensures ∙ ap isKnown (r .rule-of .ensures ∙ ap (ruleOf rows) (k .number2 .ensures))) ∙ c .if3 .left)
 
 returns-3 : tie.Need-returns-3
 returns-3 c =
@@ -82,7 +82,7 @@ earned-by-spec =
     number2-requires
     cast-rule-of
     rule-of-requires
-    is-unknown-requires
+    is-known-requires
     returns
     returns-2
     returns-3

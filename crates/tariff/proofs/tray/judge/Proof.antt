@@ -16,7 +16,7 @@ use Rattle.document.specs.Part.{documentsOf}
 use Rattle.tariff.specs.declared.tray.FillShown.{FillShown}
 use Rattle.tariff.specs.Tariff.{rowsOf}
 use Rattle.tariff.specs.Tray.{documentRefusal}
-use Rattle.tariff.proofs.Laws.Judged.{Passed, none-passed, stops, goes-on, ends}
+use Rattle.tariff.proofs.Laws.Judged.{Passed, none-passed, stops, passes, done}
 use Rattle.tariff.proofs.tray.judge.Statement.{statement}
 use Rattle.tariff.proofs.tray.judge.Tie as tie
 
@@ -90,7 +90,7 @@ loop-again c =
     let number = e .earned-by .ensures ∙ ap (documentRefusal rows) (part-all at documentBytes tray) in
     let good = eqb-true (documentRefusal rows d) 0 (sym (ap (λ (n : ℕ). eqb n 0) number) ∙ sym (c .before .is-nothing .ensures) ∙ c .if1 .taken) in
     let left = subst (λ (ds : List (List ℕ)). Passed rows (documentsOf tray) ds (t .loop .place)) (pieces-at documentBytes (lit< tt) at tray (omega arith)) (t .loop .inv .3) in
-    (omega arith, omega arith, omega arith, goes-on rows (documentsOf tray) (t .loop .place) d (documentsOf (drop (at + documentBytes) tray)) left good)
+    (omega arith, omega arith, omega arith, passes rows (documentsOf tray) (t .loop .place) d (documentsOf (drop (at + documentBytes) tray)) left good)
 
 returns-2 : tie.Need-returns-2 Inv-loop μ-loop
 returns-2 c =
@@ -98,7 +98,7 @@ returns-2 c =
     let s = t .before .before .before in
     let tray = s .args .tray .now in
     let rows = rowsOf (s .args .tariff .now) in
-    ends rows (documentsOf tray) (t .loop .place)
+    done rows (documentsOf tray) (t .loop .place)
     (subst (λ (ds : List (List ℕ)). Passed rows (documentsOf tray) ds (t .loop .place)) (pieces-end documentBytes (lit< tt) (t .loop .at) tray (omega arith)) (t .loop .inv .3))
 
 pub judge-spec : {M : Type 1} → statement M
