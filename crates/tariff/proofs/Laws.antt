@@ -1,5 +1,7 @@
 pub mod Rows
 pub mod Commission
 pub mod Judged
+pub mod Kept
 pub mod Filled
 pub mod Tray
+pub mod Twice

@@ -70,3 +70,16 @@ unfoldable pub commissioned : (tariff : List ℕ) (key nominal typed : ℕ) → 
 commissioned tariff key nominal typed =
     let code = commissionRefusal tariff key nominal typed in
     record { code = code; commission = cond (eqb code 0) (due (ruleOf (rowsOf tariff) key) nominal typed) 0 }
+
+-- a row that has a key, and a commission between its least and its greatest
+pub record Bounded (tariff : List ℕ) (key n : ℕ) : Type 0 where
+  pub row : Row
+  pub keyed : ruleOf (rowsOf tariff) key ≡ Rule.ByRow row
+  pub atLeast : row .least ≤ n
+  pub atMost : n ≤ row .greatest
+
+-- claimed, and proved in proofs/Laws/Commission: whatever is asked, the commission fits the digits that a document has for it, and that of a
+-- known key other than 0 keeps the bounds of its row
+pub record EveryCommission : Type 0 where
+  pub fits : (tariff : List ℕ) (key nominal typed : ℕ) → commissioned tariff key nominal typed .commission ≤ largestCommission
+  pub bounded : (tariff : List ℕ) (key nominal typed : ℕ) → (key ≡ 0 → ⊥) → commissioned tariff key nominal typed .code ≡ 0 → Bounded tariff key (commissioned tariff key nominal typed .commission)

@@ -1,13 +1,17 @@
 -- 02, card 3, for all documents of a tray of presented documents: the code that one earns, and the commissions written in place.
 use Prim.Native.Nat.{ℕ, suc, _-_}
-use mathlib.Core.Bool.{Bool, not, _&&_, cond}
+use mathlib.Core.Path.{_≡_}
+use mathlib.Core.Bool.{Bool, true, not, _&&_, cond}
 use mathlib.Core.List.{List, [], _∷_, flatMap}
 use lib.Dec.{eqb}
+use lib.ListN.{length}
 use lib.Seq.{sets}
 use Rattle.packed.specs.Writing.{packedBytes}
 use Rattle.codes.specs.Chain.{_when_, _orelse_}
 use Rattle.codes.specs.Field.{Field, field, any, fieldNumber, fieldDigits}
-use Rattle.document.specs.Fields.{documentPosition, nominalField, commissionField}
+use Rattle.document.specs.Limits.{documentBytes}
+use Rattle.document.specs.Fields.{documentPosition, nominalField, commissionField, fieldsGood, amountsGood}
+use Rattle.document.specs.Drawee.{draweeServed}
 use Rattle.document.specs.Amounts.{nominal, commission}
 use Rattle.document.specs.Part.{isWhole, documentsOf}
 use Rattle.tariff.specs.declared.row.Row.{Row}
@@ -15,7 +19,7 @@ use Rattle.tariff.specs.declared.tray.Earned.{Earned}
 use Rattle.tariff.specs.declared.tray.FillAnswer.{FillAnswer}
 use Rattle.tariff.specs.declared.tray.FillShown.{FillShown}
 use Rattle.tariff.specs.Tariff.{rowsOf, goodTariff}
-use Rattle.tariff.specs.Commission.{ruleOf, isKnown, due}
+use Rattle.tariff.specs.Commission.{ruleOf, isKnown, due, commissioned}
 
 -- 01, 'Detail', positions 46-47 of a presented document
 abbrev pub keyField : Field
@@ -86,3 +90,17 @@ filledDocument rows d =
 unfoldable pub trayAfter : (tariff tray : List ℕ) → List ℕ
 trayAfter tariff tray =
     cond (eqb (fillRefusal tariff tray) 0) (flatMap (filledDocument (rowsOf tariff)) (documentsOf tray)) tray
+
+-- what is so of a document that earned no code, once it is filled: its commission is the one that the call for one document gives; and all
+-- that a send or a receiver asks of it is as it was, with digits in both amounts
+pub record Filled (tariff d : List ℕ) : Type 0 where
+  pub asked : commissioned tariff (tariffKey d) (nominal d) (commission d) ≡ record { code = 0; commission = commission (filledDocument (rowsOf tariff) d) }
+  pub fields : (operation receiving : ℕ) → fieldsGood operation receiving (filledDocument (rowsOf tariff) d) ≡ fieldsGood operation receiving d
+  pub amounts : (operation receiving : ℕ) → amountsGood operation receiving (filledDocument (rowsOf tariff) d) ≡ true
+  pub served : (operation own : ℕ) (represented : List ℕ) → draweeServed operation own represented (filledDocument (rowsOf tariff) d) ≡ draweeServed operation own represented d
+  pub worth : nominal (filledDocument (rowsOf tariff) d) ≡ nominal d
+
+-- claimed, and proved in proofs/Laws/Twice: so it is of every such document, and filling a tray twice gives what filling it once gave
+pub record EveryTray : Type 0 where
+  pub each : (tariff d : List ℕ) → goodTariff tariff ≡ true → length d ≡ documentBytes → documentRefusal (rowsOf tariff) d ≡ 0 → Filled tariff d
+  pub twice : (tariff tray : List ℕ) → (filled tariff (trayAfter tariff tray) ≡ filled tariff tray) × (trayAfter tariff (trayAfter tariff tray) ≡ trayAfter tariff tray)

@@ -1,22 +1,23 @@
 -- Laws of one commission: the four outcomes of the call, what keeps the product small, and the bounds of the result.
 use mathlib.Core.Path.{_≡_, refl, ap, sym, _∙_, subst}
-use mathlib.Core.Bool.{Bool, true, false, _&&_, cond}
+use mathlib.Core.Bool.{Bool, true, false, _&&_, cond, false≢true}
 use mathlib.Core.List.{List}
-use Prim.Native.Nat.{ℕ, _*_, _≤_}
+use Prim.Native.Nat.{ℕ, zero, suc, _*_, _≤_}
 use native.Mathlib.Nat.{le-trans, mul-le-mul}
 use native.Mathlib.Omega.{arith}
-use lib.Dec.{leb, ltb, eqb}
-use borrow.Author.Tests.{leb-true, ltb-true, ltb-false}
+use lib.Dec.{leb, ltb, eqb, lit<}
+use borrow.Author.Tests.{leb-true, ltb-false, ne-eqb}
 use Rattle.packed.proofs.Laws.Told.{both, three}
 use Rattle.codes.specs.Chain.{_when_, _orelse_}
 use Rattle.codes.specs.Field.{between}
+use Rattle.codes.proofs.Laws.Chain.{all-held}
 use Rattle.document.specs.Limits.{largestNominal, largestCommission}
 use Rattle.tariff.specs.declared.row.Row.{Row}
 use Rattle.tariff.specs.declared.search.Rule.{Rule}
 use Rattle.tariff.specs.declared.commission.CommissionAnswer.{CommissionAnswer}
 use Rattle.tariff.specs.Tariff.{largestKey, largestRate, rowsOf, rowGood, goodTariff}
 use Rattle.tariff.specs.Rounding.{rounded}
-use Rattle.tariff.specs.Commission.{raisedTo, cutTo, byRow, ruleOf, due, withinLimits, keyKnown, commissionRefusal, commissionShown, commissioned}
+use Rattle.tariff.specs.Commission.{raisedTo, cutTo, byRow, ruleOf, isKnown, due, withinLimits, keyKnown, commissionRefusal, commissionShown, commissioned, Bounded, EveryCommission}
 use Rattle.tariff.specs.Inner.Bounds.{nominalBound, productBound, rateOf}
 use Rattle.tariff.proofs.Laws.Rows.{rule-told}
 
@@ -54,7 +55,7 @@ row-told r e =
 -- by a good tariff no product passes its bound
 pub rate-most : (tariff : List ℕ) (key : ℕ) → goodTariff tariff ≡ true → rateOf (ruleOf (rowsOf tariff) key) ≤ largestRate
 rate-most tariff key good =
-    rule-told tariff key good (λ (rule : Rule). rateOf rule ≤ largestRate) (omega arith) (omega arith) (λ r g. row-told r g .0)
+    rule-told tariff key good (λ (rule : Rule). rateOf rule ≤ largestRate) (λ z. omega arith) (omega arith) (λ r g. row-told r g .0)
 
 pub product-most : (nominal rate : ℕ) → nominal ≤ nominalBound → rate ≤ largestRate → nominal * rate ≤ productBound
 product-most nominal rate h k = mul-le-mul h k
@@ -84,10 +85,44 @@ row-between r nominal good =
 pub due-most : (tariff : List ℕ) (key nominal typed : ℕ) → goodTariff tariff ≡ true → typed ≤ largestCommission → due (ruleOf (rowsOf tariff) key) nominal typed ≤ largestCommission
 unfolding due
 due-most tariff key nominal typed good h =
-    rule-told tariff key good (λ (rule : Rule). due rule nominal typed ≤ largestCommission) h (omega arith) (λ r g. omega (arith, row-between r nominal g .1, row-told r g .2))
+    rule-told tariff key good (λ (rule : Rule). due rule nominal typed ≤ largestCommission) (λ z. h) (omega arith) (λ r g. omega (arith, row-between r nominal g .1, row-told r g .2))
 
 -- a nominal and a typed commission that earn no 01
 pub limits-told : (nominal typed : ℕ) → withinLimits nominal typed ≡ true → (nominal ≤ largestNominal) × (typed ≤ largestCommission)
 limits-told nominal typed e =
     let each = both (leb nominal largestNominal) (leb typed largestCommission) e in
     (leb-true nominal largestNominal (each .0), leb-true typed largestCommission (each .1))
+
+-- what an answer without a code is known by
+code-told : (tariff : List ℕ) (key nominal typed : ℕ) → commissionRefusal tariff key nominal typed ≡ 0 → (goodTariff tariff ≡ true) × (withinLimits nominal typed ≡ true) × (keyKnown tariff key ≡ true)
+unfolding commissionRefusal
+code-told tariff key nominal typed e =
+    all-held 42 1 41 (goodTariff tariff) (withinLimits nominal typed) (keyKnown tariff key) (lit< tt) (lit< tt) (lit< tt) e
+
+-- the commission of a known key other than 0 keeps the bounds of its row
+due-bounded : (tariff : List ℕ) (key nominal typed : ℕ) → (key ≡ 0 → ⊥) → goodTariff tariff ≡ true → keyKnown tariff key ≡ true → Bounded tariff key (due (ruleOf (rowsOf tariff) key) nominal typed)
+unfolding due
+due-bounded tariff key nominal typed other good known =
+    rule-told tariff key good
+    (λ (rule : Rule). ruleOf (rowsOf tariff) key ≡ rule → isKnown rule ≡ true → Bounded tariff key (due rule nominal typed))
+    (λ z. absurd (other z))
+    (λ e k. absurd (false≢true k))
+    (λ r g e k. record { row = r; keyed = e; atLeast = row-between r nominal g .0; atMost = row-between r nominal g .1 })
+    refl
+    known
+
+pub every-commission : EveryCommission
+unfolding commissioned
+every-commission =
+    record {
+      fits = λ tariff key nominal typed. fits tariff key nominal typed (commissionRefusal tariff key nominal typed) refl;
+      bounded = λ tariff key nominal typed other e.
+        let t = code-told tariff key nominal typed e in
+        rw e (due-bounded tariff key nominal typed other (t .0) (t .2));
+    }
+  where
+    fits : (tariff : List ℕ) (key nominal typed k : ℕ) → commissionRefusal tariff key nominal typed ≡ k → cond (eqb k 0) (due (ruleOf (rowsOf tariff) key) nominal typed) 0 ≤ largestCommission
+    fits tariff key nominal typed zero e =
+        let t = code-told tariff key nominal typed e in
+        due-most tariff key nominal typed (t .0) (limits-told nominal typed (t .1) .1)
+    fits tariff key nominal typed (suc k) e = rw (ne-eqb (suc k) 0 (omega arith)) (omega arith)

@@ -6,11 +6,10 @@ use Prim.Native.Nat.{ℕ, _+_, _-_, _≤_, _<_}
 use native.Mathlib.Omega.{arith}
 use lib.Dec.{eqb, lit<}
 use lib.ListN.{length, take, drop, length-append, length-take}
-use lib.Seq.{sets, length-sets, take-at, drop-at, take-all, drop-drop, length-take-le}
+use lib.Seq.{take-at, drop-at, take-all, drop-drop, length-take-le}
 use borrow.Author.Tests.{eq-eqb, ne-eqb}
 use borrow.Rule.Slice.PartMut.{midOf, putMid, same-len-mid}
 use Rattle.packed.specs.Part.{part}
-use Rattle.packed.specs.Writing.{packedBytes}
 use Rattle.packed.proofs.Laws.Part.{part-length, part-all}
 use Rattle.packed.proofs.Laws.Pieces.{pieces-at, pieces-end}
 use Rattle.document.specs.Limits.{documentBytes}
@@ -19,6 +18,7 @@ use Rattle.document.specs.Amounts.{nominal, commission}
 use Rattle.tariff.specs.declared.row.Row.{Row}
 use Rattle.tariff.specs.Commission.{ruleOf, due}
 use Rattle.tariff.specs.Tray.{tariffKey, withCommission, filledDocument}
+use Rattle.tariff.proofs.Laws.Kept.{with-length}
 
 module _ (rows : List Row) where
   -- by the key: as it was, or with a commission
@@ -30,14 +30,18 @@ module _ (rows : List Row) where
   unfolding filledDocument
   written-key d e = rw (ne-eqb (tariffKey d) 0 e)
 
+  -- so what holds of a document as it is, and with any commission, holds of the filled one
+  pub filled-either : (P : List ℕ → Type 0) (d : List ℕ) → P d → ((c : ℕ) → P (withCommission c d)) → P (filledDocument rows d)
+  unfolding filledDocument
+  filled-either P d z w = go (eqb (tariffKey d) 0)
+    where
+      go : (t : Bool) → P (cond t d (withCommission (due (ruleOf rows (tariffKey d)) (nominal d) (commission d)) d))
+      go true = z
+      go false = w (due (ruleOf rows (tariffKey d)) (nominal d) (commission d))
+
   -- no document becomes longer or shorter
   pub filled-length : (d : List ℕ) → length (filledDocument rows d) ≡ length d
-  unfolding filledDocument withCommission
-  filled-length d = go (eqb (tariffKey d) 0)
-    where
-      go : (t : Bool) → length (cond t d (withCommission (due (ruleOf rows (tariffKey d)) (nominal d) (commission d)) d)) ≡ length d
-      go true = refl
-      go false = length-sets d 43 (packedBytes 4 (due (ruleOf rows (tariffKey d)) (nominal d) (commission d)))
+  filled-length d = filled-either (λ (e : List ℕ). length e ≡ length d) d refl (λ c. with-length c d)
 
   -- a tray that is filled to a place, and what the rest becomes
   pub filledFrom : (at : ℕ) (tray : List ℕ) → List ℕ

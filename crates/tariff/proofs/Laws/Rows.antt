@@ -107,16 +107,16 @@ told ns e =
 pub whole-rows : (ns : List ℕ) → goodTariff ns ≡ true → length ns % rowNumbers ≡ 0
 whole-rows ns e = told ns e .0
 
--- what holds of the typed commission, of an unknown key and of each good row holds of what a good tariff says of a key
-module _ (ns : List ℕ) (key : ℕ) (good : goodTariff ns ≡ true) (P : Rule → Type 0) (typed : P Rule.Typed) (none : P Rule.Unknown) (row : (r : Row) → rowGood r ≡ true → P (Rule.ByRow r)) where
+-- what holds of the typed commission where the key is 0, of an unknown key and of each good row holds of what a good tariff says of a key
+module _ (ns : List ℕ) (key : ℕ) (good : goodTariff ns ≡ true) (P : Rule → Type 0) (typed : key ≡ 0 → P Rule.Typed) (none : P Rule.Unknown) (row : (r : Row) → rowGood r ≡ true → P (Rule.ByRow r)) where
   by-search : P (searched (rowsOf ns) key)
   unfolding searched
   by-search = found-told (λ (r : Row). r .key) Rule.ByRow Rule.Unknown key rowGood P none (λ r e g. row r g) (rowsOf ns) (told ns good .1)
 
   pub rule-told : P (ruleOf (rowsOf ns) key)
   unfolding ruleOf
-  rule-told = go (eqb key 0)
+  rule-told = go (eqb key 0) refl
     where
-      go : (t : Bool) → P (cond t Rule.Typed (searched (rowsOf ns) key))
-      go true = typed
-      go false = by-search
+      go : (t : Bool) → eqb key 0 ≡ t → P (cond t Rule.Typed (searched (rowsOf ns) key))
+      go true e = typed (eqb-true key 0 e)
+      go false e = by-search
