@@ -1,2 +1,3 @@
 -- Laws of tariffs and trays, and the proofs of the functions.
 pub mod Laws
+pub mod Cases

@@ -1,16 +1,16 @@
 -- Laws of one commission: the four outcomes of the call, what keeps the product small, and the bounds of the result.
-use mathlib.Core.Path.{_≡_, refl, ap, sym, _∙_, subst}
+use mathlib.Core.Path.{_≡_, refl}
 use mathlib.Core.Bool.{Bool, true, false, _&&_, cond, false≢true}
 use mathlib.Core.List.{List}
 use Prim.Native.Nat.{ℕ, zero, suc, _*_, _≤_}
-use native.Mathlib.Nat.{le-trans, mul-le-mul}
+use native.Mathlib.Nat.{mul-le-mul}
 use native.Mathlib.Omega.{arith}
 use lib.Dec.{leb, ltb, eqb, lit<}
 use borrow.Author.Tests.{leb-true, ltb-false, ne-eqb}
 use Rattle.packed.proofs.Laws.Told.{both, three}
-use Rattle.codes.specs.Chain.{_when_, _orelse_}
 use Rattle.codes.specs.Field.{between}
 use Rattle.codes.proofs.Laws.Chain.{all-held}
+use Rattle.codes.specs.Chain.{_when_, _orelse_}
 use Rattle.document.specs.Limits.{largestNominal, largestCommission}
 use Rattle.tariff.specs.declared.row.Row.{Row}
 use Rattle.tariff.specs.declared.search.Rule.{Rule}
@@ -47,10 +47,11 @@ module _ (tariff : List ℕ) (key nominal typed : ℕ) where
 -- what a good row is known by
 row-told : (r : Row) → rowGood r ≡ true → (r .rate ≤ largestRate) × (r .least ≤ r .greatest) × (r .greatest ≤ largestCommission)
 row-told r e =
-    let last = three (between 1 largestKey (r .key) && leb (r .rate) largestRate) (leb (r .least) (r .greatest)) (leb (r .greatest) largestCommission) e in
-    (leb-true (r .rate) largestRate (both (between 1 largestKey (r .key)) (leb (r .rate) largestRate) (last .0) .1),
-    leb-true (r .least) (r .greatest) (last .1),
-    leb-true (r .greatest) largestCommission (last .2))
+    let last = three (between 1 largestKey (r .key) && leb (r .rate) largestRate) (leb (r .least) (r .greatest)) (leb (r .greatest) largestCommission) e in (
+      leb-true (r .rate) largestRate (both (between 1 largestKey (r .key)) (leb (r .rate) largestRate) (last .0) .1),
+      leb-true (r .least) (r .greatest) (last .1),
+      leb-true (r .greatest) largestCommission (last .2),
+    )
 
 -- by a good tariff no product passes its bound
 pub rate-most : (tariff : List ℕ) (key : ℕ) → goodTariff tariff ≡ true → rateOf (ruleOf (rowsOf tariff) key) ≤ largestRate
@@ -117,8 +118,8 @@ every-commission =
     record {
       fits = λ tariff key nominal typed. fits tariff key nominal typed (commissionRefusal tariff key nominal typed) refl;
       bounded = λ tariff key nominal typed other e.
-        let t = code-told tariff key nominal typed e in
-        rw e (due-bounded tariff key nominal typed other (t .0) (t .2));
+          let t = code-told tariff key nominal typed e in
+          rw e (due-bounded tariff key nominal typed other (t .0) (t .2));
     }
   where
     fits : (tariff : List ℕ) (key nominal typed k : ℕ) → commissionRefusal tariff key nominal typed ≡ k → cond (eqb k 0) (due (ruleOf (rowsOf tariff) key) nominal typed) 0 ≤ largestCommission

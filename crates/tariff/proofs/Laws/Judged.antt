@@ -1,21 +1,14 @@
 -- Laws of judging: what a document earns, and a reading of the tray that stops at the first document that earns something.
 use mathlib.Core.Path.{_≡_, refl, ap, sym, _∙_}
-use mathlib.Core.Bool.{Bool, true, false, _&&_, cond}
+use mathlib.Core.Bool.{true, false}
 use mathlib.Core.List.{List, [], _∷_}
-use Prim.Native.Nat.{ℕ, zero, suc, _+_, _≤_, _<_}
+use Prim.Native.Nat.{ℕ, suc, _+_}
 use native.Mathlib.Nat.{add-zero, zero-add}
 use native.Mathlib.Omega.{arith}
-use lib.Dec.{eqb, lit<}
-use lib.ListN.{length, drop}
 use borrow.Author.Tests.{eq-eqb, ne-eqb}
-use Rattle.packed.specs.Part.{part}
-use Rattle.packed.proofs.Laws.Pieces.{pieces-at, pieces-end}
 use Rattle.codes.specs.Chain.{_when_, _orelse_}
 use Rattle.codes.proofs.Laws.Chain.{ends, goes-on}
-use Rattle.document.specs.Limits.{documentBytes}
-use Rattle.document.specs.Part.{documentsOf}
 use Rattle.tariff.specs.declared.row.Row.{Row}
-use Rattle.tariff.specs.declared.tray.FillShown.{FillShown}
 use Rattle.tariff.specs.Commission.{ruleOf, isKnown}
 use Rattle.tariff.specs.Tray.{tariffKey, keyDigits, amountDigits, documentRefusal, firstRefusal, goodBefore}
 use Rattle.tariff.specs.Inner.Judged.{judged}

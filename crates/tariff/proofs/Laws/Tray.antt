@@ -1,6 +1,6 @@
 -- The outcomes of filling a tray: its answer, and what it leaves in the tray.
 use mathlib.Core.Path.{_≡_, refl, ap, sym, _∙_}
-use mathlib.Core.Bool.{Bool, true, false, cond}
+use mathlib.Core.Bool.{true, false}
 use mathlib.Core.List.{List, flatMap}
 use Prim.Native.Nat.{ℕ, _%_}
 use lib.Dec.{eqb}
@@ -8,7 +8,7 @@ use lib.ListN.{length}
 use borrow.Author.Tests.{eq-eqb, ne-eqb}
 use Rattle.codes.specs.Chain.{_when_, _orelse_}
 use Rattle.document.specs.Limits.{documentBytes}
-use Rattle.document.specs.Part.{isWhole, documentsOf}
+use Rattle.document.specs.Part.{documentsOf}
 use Rattle.tariff.specs.declared.tray.FillAnswer.{FillAnswer}
 use Rattle.tariff.specs.declared.tray.FillShown.{FillShown}
 use Rattle.tariff.specs.Tariff.{rowsOf, goodTariff}

@@ -1,22 +1,21 @@
 -- A filled document against the call for one document, what it keeps, and that a second filling changes nothing.
-use mathlib.Core.Path.{_≡_, refl, ap, sym, _∙_, subst}
+use mathlib.Core.Path.{_≡_, refl, ap, sym, _∙_}
 use mathlib.Core.Bool.{Bool, true, false, _&&_, cond}
 use mathlib.Core.List.{List, [], _∷_, _++_, map, flatMap}
-use Prim.Native.Nat.{ℕ, zero, suc, _+_, _-_, _^_, _%_, _≤_, _<_}
+use Prim.Native.Nat.{ℕ, zero, suc, _+_, _-_, _%_, _≤_, _<_}
 use native.Mathlib.Omega.{arith}
-use lib.Dec.{eqb, leb, lit<}
-use lib.ListN.{length, take, drop, length-append, length-drop, length-take}
+use lib.Dec.{eqb, lit<}
+use lib.ListN.{length, take, drop, length-append, length-drop}
 use lib.Seq.{length-take-le}
 use borrow.Author.Tests.{eq-eqb, ne-eqb, eqb-true, eqb-false, le-leb}
 use Rattle.packed.specs.Part.{part}
 use Rattle.packed.specs.Every.{every}
 use Rattle.packed.specs.Digits.{areDigits}
-use Rattle.packed.specs.Pieces.{cut, pieces}
+use Rattle.packed.specs.Pieces.{cut}
 use Rattle.packed.proofs.Laws.Told.{both}
 use Rattle.packed.proofs.Laws.Every.{every-cons}
 use Rattle.packed.proofs.Laws.Pieces.{pieces-step, pieces-flat, pieces-made}
-use Rattle.packed.proofs.Laws.FlatMap.{flat-map, flat-same}
-use Rattle.codes.specs.Chain.{_when_, _orelse_}
+use Rattle.codes.specs.Chain.{_orelse_}
 use Rattle.codes.proofs.Laws.Chain.{all-held, held, none-both}
 use Rattle.document.specs.Limits.{documentBytes, largestNominal, largestCommission}
 use Rattle.document.specs.Part.{isWhole, documentsOf}
@@ -29,7 +28,7 @@ use Rattle.tariff.specs.declared.row.Row.{Row}
 use Rattle.tariff.specs.declared.search.Rule.{Rule}
 use Rattle.tariff.specs.declared.tray.FillShown.{FillShown}
 use Rattle.tariff.specs.Tariff.{rowsOf, goodTariff}
-use Rattle.tariff.specs.Commission.{ruleOf, isKnown, due, withinLimits, commissionShown, commissioned}
+use Rattle.tariff.specs.Commission.{ruleOf, isKnown, due, withinLimits, commissioned}
 use Rattle.tariff.specs.Tray.{tariffKey, keyDigits, amountDigits, documentRefusal, firstRefusal, goodBefore, fillRefusal, filled, withCommission, filledDocument, trayAfter, Filled, EveryTray}
 use Rattle.tariff.specs.Inner.Judged.{judged}
 use Rattle.tariff.proofs.Laws.Rows.{rule-told}
@@ -217,10 +216,10 @@ module _ (tariff tray : List ℕ) where
       let accepted : fillRefusal tariff (flatMap F ds) ≡ 0 = ap (λ (s : FillShown). s .code) answer ∙ e in (
         ap (filled tariff) after ∙ answer,
         ap (trayAfter tariff) after
-        ∙ after-filled tariff (flatMap F ds) accepted
-        ∙ ap (flatMap F) again
-        ∙ twice-filled tariff (told .0) ds each (told .2)
-        ∙ sym after,
+            ∙ after-filled tariff (flatMap F ds) accepted
+            ∙ ap (flatMap F) again
+            ∙ twice-filled tariff (told .0) ds each (told .2)
+            ∙ sym after,
       )
 
 pub every-tray : EveryTray

@@ -1,6 +1,5 @@
 -- What keeps a nominal times a rate within 64 bits, also where it is not known yet whether the nominal's bytes are digits.
 use Prim.Native.Nat.{ℕ, _*_, _^_}
-use Rattle.tariff.specs.declared.row.Row.{Row}
 use Rattle.tariff.specs.declared.search.Rule.{Rule}
 use Rattle.tariff.specs.Tariff.{largestRate}
 

@@ -1,6 +1,5 @@
 -- `by_row`: the product fits, and is rounded, raised and cut.
 use mathlib.Core.Path.{ap, _∙_}
-use Prim.Native.Nat.{ℕ}
 use native.Mathlib.Omega.{arith}
 use borrow.Author.Needs.{needs}
 use Rattle.tariff.specs.Commission.{raisedTo, cutTo, byRow}

@@ -1,13 +1,8 @@
 -- `rule_of`: key 0 is never looked for.
-use mathlib.Core.Path.{_≡_, refl, sym, _∙_}
-use Prim.Native.Nat.{ℕ}
-use mathlib.Core.List.{List}
-use native.Mathlib.Omega.{arith}
+use mathlib.Core.Path.{_∙_}
 use borrow.Author.Needs.{needs}
 use borrow.Author.Tests.{eq-eqb, ne-eqb}
-use Rattle.tariff.specs.declared.row.Row.{Row}
-use Rattle.tariff.specs.declared.search.Rule.{Rule}
-use Rattle.tariff.specs.Commission.{searched, ruleOf}
+use Rattle.tariff.specs.Commission.{ruleOf}
 use Rattle.tariff.proofs.search.rule_of.Statement.{statement}
 use Rattle.tariff.proofs.search.rule_of.Tie as tie
 

@@ -1,5 +1,5 @@
 -- `earned_by` goes down the chain: 01, 03, 41.
-use mathlib.Core.Path.{_≡_, ap, sym, _∙_}
+use mathlib.Core.Path.{ap, sym, _∙_}
 use mathlib.Core.Bool.{_&&_}
 use borrow.Author.Needs.{needs}
 use Rattle.tariff.specs.Tariff.{rowsOf}

@@ -1,12 +1,10 @@
 -- `fill` goes through the documents. The invariant: what is filled and what the rest becomes is the filled tray. The measure is what is left.
 use mathlib.Core.Path.{_≡_, refl, ap, sym, _∙_}
-use mathlib.Core.List.{List, _++_, flatMap}
-use Prim.Native.Nat.{ℕ, _+_, _-_, _%_, _≤_}
+use mathlib.Core.List.{flatMap}
+use Prim.Native.Nat.{_-_, _%_, _≤_}
 use native.Mathlib.Omega.{arith}
 use borrow.Author.Needs.{needs}
-use borrow.Rule.Slice.PartMut.{putMid}
-use lib.ListN.{length, take, drop}
-use Rattle.packed.specs.Part.{part}
+use lib.ListN.{length}
 use Rattle.packed.proofs.Laws.Part.{part-length, part-all}
 use Rattle.document.specs.Limits.{documentBytes}
 use Rattle.document.specs.Part.{documentsOf}

@@ -13,7 +13,6 @@ use Rattle.packed.proofs.Laws.Part.{part-length, part-all}
 use Rattle.packed.proofs.Laws.Pieces.{pieces-at, pieces-end}
 use Rattle.document.specs.Limits.{documentBytes}
 use Rattle.document.specs.Part.{documentsOf}
-use Rattle.tariff.specs.declared.tray.FillShown.{FillShown}
 use Rattle.tariff.specs.Tariff.{rowsOf}
 use Rattle.tariff.specs.Tray.{documentRefusal}
 use Rattle.tariff.proofs.Laws.Judged.{Passed, none-passed, stops, passes, done}
