@@ -82,12 +82,32 @@ static void try_days(void)
     judge("no list, no places", line_next_days(NULL, 0, NULL, 0) == 23);
 }
 
+static void judge_commission(const char *what, line_commissioned got, uint8_t code, uint64_t commission)
+{
+    judge(what, got.code == code && got.commission == commission);
+}
+
+static void try_commissions(void)
+{
+    uint8_t tray[DOCUMENT];
+    line_filled none = line_fill_commissions(NULL, 0, NULL, 0), one;
+
+    memcpy(tray, example, DOCUMENT);
+    one = line_fill_commissions(NULL, 0, tray, DOCUMENT);
+    judge_commission("no tariff, key 0", line_commission(NULL, 0, 0, 1, 5), 0, 5);
+    judge_commission("no tariff", line_commission(NULL, 0, 1, 1, 5), 41, 0);
+    judge("no tray", none.code == 0 && none.documents == 0);
+    judge("a tray, no tariff", one.code == 41 && one.documents == 0);
+    judge("and as it was", memcmp(tray, example, DOCUMENT) == 0);
+}
+
 int main(void)
 {
     try_check();
     try_exchange();
     try_play();
     try_days();
+    try_commissions();
     printf("%u calls, %u failed\n", tried, failed);
     return failed > 0;
 }

@@ -1,15 +1,19 @@
-//! The engine, the script interpreter and the calendar, meant to have one fault in them. Plays
-//! the scripts of the files named as arguments and tells the first whose answers differ from those
-//! noted there, or that makes the player panic.
+//! The engine, the script interpreter, the calendar and the tariff, meant to have one fault in
+//! them. Plays the scripts of the files named as arguments and tells the first whose answers differ
+//! from those noted there, or that makes the player panic.
 
 mod asked;
 mod calendar;
 mod calendar_script;
 mod checked;
+mod hex;
 mod packed;
 mod plain;
+mod questions;
 mod script;
 mod session;
+mod tariff;
+mod tariff_script;
 mod tray_script;
 
 /// The tuned check has no part in scripts.
@@ -45,6 +49,7 @@ fn first_that_differs(corpus: &[u8]) -> Option<String> {
         let play = match words[0] {
             "trays" => tray_script::play,
             name if name.starts_with("calendar") => calendar_script::play,
+            name if name.starts_with("tariff") => tariff_script::play,
             _ => script::play,
         };
         if !catch_unwind(|| play(text)).is_ok_and(|played| played == answers) {

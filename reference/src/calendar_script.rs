@@ -8,6 +8,7 @@
 
 use crate::calendar::compensation::{compensation_date, Compensation};
 use crate::calendar::next_days::next_days;
+use crate::questions::{answered, line, numbers};
 use std::fmt::Write;
 
 /// Places behind the lent ones, which must stay as they are.
@@ -17,8 +18,7 @@ const BEFORE: u16 = 40_000;
 
 /// The question about this list.
 pub fn list(places: usize, unworked: &[u16]) -> String {
-    let days = unworked.iter().map(|day| format!(" {day}"));
-    format!("list {places}{}\n", days.collect::<String>())
+    line(&format!("list {places}"), unworked)
 }
 
 /// The two functions that are asked.
@@ -40,20 +40,15 @@ impl Calendar {
     };
 
     pub fn play(&self, text: &[u8]) -> Vec<u8> {
-        let text = String::from_utf8_lossy(text);
-        let mut output = String::new();
-        for line in text.lines() {
-            let (question, numbers) = line.split_once(' ').expect(line);
-            let numbers = numbers.split(' ').map(|word| word.parse().expect(line));
-            let numbers: Vec<u32> = numbers.collect();
+        answered(text, |question, words| {
+            let numbers: Vec<u32> = numbers(words);
             match question {
-                "list" => output += &self.list(&numbers),
-                "date" => output += &self.date(numbers[0]),
-                "dates" => output += &self.dates(numbers[0], numbers[1]),
-                _ => panic!("{line} is no question"),
+                "list" => self.list(&numbers),
+                "date" => self.date(numbers[0]),
+                "dates" => self.dates(numbers[0], numbers[1]),
+                _ => panic!("{question} is no question"),
             }
-        }
-        output.into_bytes()
+        })
     }
 
     fn list(&self, numbers: &[u32]) -> String {

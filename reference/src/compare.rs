@@ -1,6 +1,7 @@
 //! Two implementations play the same script, and their answers are compared line by line.
 
 pub mod circular;
+pub mod questions;
 
 pub use crate::shortest::shortest;
 

@@ -2,7 +2,7 @@
 //! The detail check stands here four times: written plainly, tuned, by columns, and as the line's
 //! exported function. The session and the script interpreter are built on the plain check, and
 //! know two sets of rules: today's, which hold where none is named, and the circular's. The
-//! calendar uses nothing of them.
+//! calendar uses nothing of them, the tariff only how a document's numbers are packed.
 
 pub mod asked;
 pub mod bodies;
@@ -18,10 +18,13 @@ pub mod line;
 pub mod open_points;
 pub mod packed;
 pub mod plain;
+pub mod questions;
 pub mod random;
 pub mod script;
 pub mod seeds;
 pub mod session;
+pub mod tariff;
+pub mod tariff_script;
 pub mod timing;
 pub mod tray_script;
 pub mod tuned;

@@ -1,10 +1,13 @@
 //! The bindings to what the line exports for C: the detail check that its driver calls, the
-//! script player and the calendar for the comparison, and the evening for measurements.
+//! script player, the calendar and the commissions for the comparison, and the evening for
+//! measurements.
 
 use crate::calendar::compensation::Compensation;
 use crate::session::report::{AwaitedTotal, Report};
 use crate::session::totals::{SessionTotals, Totals};
 use crate::session::Close;
+use crate::tariff::commission::Commissioned;
+use crate::tariff::tray::Filled;
 use crate::Checked;
 use std::cell::RefCell;
 
@@ -133,6 +136,21 @@ unsafe extern "C" {
     ) -> u8;
 
     fn line_compensation_date(date: u32) -> Compensation;
+
+    fn line_commission(
+        tariff: *const u32,
+        tariff_len: usize,
+        key: u32,
+        nominal: u64,
+        typed: u64,
+    ) -> Commissioned;
+
+    fn line_fill_commissions(
+        tariff: *const u32,
+        tariff_len: usize,
+        tray: *mut u8,
+        tray_len: usize,
+    ) -> Filled;
 }
 
 pub fn check(body: &[u8], own: u16, represented: &[u16]) -> Checked {
@@ -185,6 +203,20 @@ pub fn next_days(unworked: &[u16], days: &mut [u16]) -> u8 {
 pub fn compensation_date(date: u32) -> Compensation {
     // SAFETY: a number goes in and numbers come out.
     unsafe { line_compensation_date(date) }
+}
+
+pub fn commission(tariff: &[u32], key: u32, nominal: u64, typed: u64) -> Commissioned {
+    // SAFETY: the pointer is aligned, not null even where the slice is empty, and good for reading
+    // the stated number of items during the call; the function neither writes nor keeps them.
+    unsafe { line_commission(tariff.as_ptr(), tariff.len(), key, nominal, typed) }
+}
+
+/// Writes the commissions of all documents, or gives a code and changes none.
+pub fn fill_commissions(tariff: &[u32], tray: &mut [u8]) -> Filled {
+    // SAFETY: the pointers are aligned, not null even where a slice is empty, and good for the
+    // stated number of items during the call, the second also for writing; the two stretches lie
+    // apart, and the function keeps neither of them.
+    unsafe { line_fill_commissions(tariff.as_ptr(), tariff.len(), tray.as_mut_ptr(), tray.len()) }
 }
 
 /// Plays as far as the answers fit in `output`. `wire` is where written bytes are remembered.

@@ -6,11 +6,10 @@
 use reference::calendar::compensation::{compensation_date, Compensation};
 use reference::calendar::date::{Date, Weekday};
 use reference::calendar::year_2028;
-use reference::calendar_script::{play as reference, Calendar};
+use reference::calendar_script::{self, Calendar};
+use reference::compare::questions::Both;
 use reference::corpus::calendar::{fixed, of_seed};
-use reference::corpus::Script;
 use reference::generate::calendar::SEEDS;
-use reference::seeds::seeds;
 use reference::{compare, line};
 use std::fs;
 use std::path::Path;
@@ -24,61 +23,43 @@ fn engine(text: &[u8]) -> Vec<u8> {
     ENGINE.play(text)
 }
 
-/// How an answer of the kind begins, what it says, and how many the usual number of seeds gives
-/// at the least. About lists any seeds give exactly so many. About dates they give more, but a
-/// generator that has lost one of its ways to make dates gives too few of some kind.
-const KINDS: [(&str, &str, u64); 6] = [
-    ("00 ", "tables", 450),
-    ("40 ", "bad lists", 2_400),
-    ("23 ", "too few places", 450),
-    ("0 ", "found", 3_500),
-    ("1 ", "none left", 90),
-    ("2 ", "no day", 5_000),
+const BOTH: Both = Both {
+    reference: calendar_script::play,
+    engine,
+};
+
+/// How many the usual number of seeds gives at the least. About lists any seeds give exactly so
+/// many. About dates they give more, but a generator that has lost one of its ways to make dates
+/// gives too few of some kind.
+const LEAST: [(&str, u64); 6] = [
+    ("tables", 450),
+    ("bad lists", 2_400),
+    ("too few places", 450),
+    ("found", 3_500),
+    ("none left", 90),
+    ("no day", 5_000),
 ];
 
-/// The answers of the reference, all of which the engine must give too. Only the last question of
-/// a text may have more than one.
-fn compared(made: &Script) -> String {
-    let text = String::from_utf8_lossy(&made.text);
-    let questions: Vec<&str> = text.lines().collect();
-    let answers = reference(&made.text);
-    if let Some(difference) = compare::between(&answers, &engine(&made.text)) {
-        let at = questions.len().min(difference.line) - 1;
-        panic!(
-            "{}: answer {} differs\nreference: {}engine:    {}question: {}",
-            made.name,
-            difference.line,
-            String::from_utf8_lossy(&difference.reference),
-            String::from_utf8_lossy(&difference.engine),
-            questions[at],
-        );
+fn kind(_: &str, answer: &str) -> &'static str {
+    match answer.split(' ').next() {
+        Some("00") => "tables",
+        Some("40") => "bad lists",
+        Some("23") => "too few places",
+        Some("0") => "found",
+        Some("1") => "none left",
+        Some("2") => "no day",
+        _ => "no answer",
     }
-    String::from_utf8(answers).unwrap()
 }
 
 #[test]
 fn the_line_answers_fixed_questions_like_the_reference() {
-    for made in fixed() {
-        println!("{}: {} answers", made.name, compared(&made).lines().count());
-    }
+    BOTH.ask_fixed(fixed());
 }
 
 #[test]
 fn the_line_answers_generated_questions_like_the_reference() {
-    let seeds = seeds(SEEDS);
-    let times = (seeds.end - seeds.start) / SEEDS;
-    let mut counts = [0; KINDS.len()];
-    for seed in seeds {
-        let answers = compared(&of_seed(seed));
-        for (count, (beginning, ..)) in counts.iter_mut().zip(KINDS) {
-            let of_kind = answers.lines().filter(|line| line.starts_with(beginning));
-            *count += of_kind.count() as u64;
-        }
-    }
-    for (count, (_, what, least)) in counts.into_iter().zip(KINDS) {
-        println!("{what}: {count}");
-        assert!(count >= times * least, "{what}: {count} are few");
-    }
+    BOTH.ask_seeds(SEEDS, of_seed, kind, &LEAST);
 }
 
 /// The entries of the days 1, 5, 363 and 364 of 2028, and the lists of the open point A-149.

@@ -1,8 +1,9 @@
 //! Faulty variants of the reference, each compiled and played over the corpus: every fault must
 //! show in the answers. The unmodified reference says what the answers should be.
 
-use reference::corpus::{calendar, calendar_corpus, corpus, generated, tray_corpus, Script};
-use reference::{calendar_script, script, tray_script};
+use reference::compare::Play;
+use reference::corpus::{calendar, corpus, generated, tariff, tray_corpus, Script};
+use reference::{calendar_script, script, tariff_script, tray_script};
 use std::collections::HashSet;
 use std::fs;
 use std::path::{Path, PathBuf};
@@ -13,21 +14,49 @@ use std::thread;
 
 const COMPILERS: usize = 2;
 /// The sources that the small program is made of, and where it starts.
-const SOURCES: [&str; 6] = [
+const SOURCES: [&str; 9] = [
     "asked.rs",
     "calendar_script.rs",
     "checked.rs",
+    "hex.rs",
     "packed.rs",
     "plain.rs",
+    "questions.rs",
+    "tariff_script.rs",
     "tray_script.rs",
 ];
-const FOLDERS: [&str; 3] = ["calendar", "script", "session"];
+const FOLDERS: [&str; 4] = ["calendar", "script", "session", "tariff"];
 const PROGRAM: &str = "faults/program.rs";
-/// No call of a script reaches what is in these.
+/// No call of a script reaches what is in it.
 const TRAYS: &str = "src/session/trays.rs";
-const CALENDAR: &str = "src/calendar/";
-/// So many faults of the calendar the generated questions must catch.
-const LEAST_OF_CALENDAR: usize = 19;
+
+/// What no call of a script reaches either, and is asked questions of its own.
+struct Subject {
+    /// Also that of the folder with its sources.
+    name: &'static str,
+    play: Play,
+    generated: fn() -> Vec<Script>,
+    fixed: fn() -> Vec<Script>,
+    /// So many of its faults the generated questions must catch.
+    least: usize,
+}
+
+const SUBJECTS: [Subject; 2] = [
+    Subject {
+        name: "calendar",
+        play: calendar_script::play,
+        generated: calendar::generated,
+        fixed: calendar::fixed,
+        least: 19,
+    },
+    Subject {
+        name: "tariff",
+        play: tariff_script::play,
+        generated: tariff::generated,
+        fixed: tariff::fixed,
+        least: 24,
+    },
+];
 
 struct Fault {
     what: String,
@@ -49,10 +78,10 @@ enum Outcome {
     NoProgram(String),
 }
 
-/// What all faults have come to, those of the calendar apart.
+/// What all faults have come to, those of the subjects apart.
 #[derive(Default)]
 struct Tally {
-    of_calendar: Caught,
+    of_subjects: [Caught; SUBJECTS.len()],
     of_others: Caught,
     failures: Vec<String>,
 }
@@ -92,17 +121,23 @@ fn every_fault_is_caught() {
     let generated = tally.of_others.by_generated;
     let reached = faults.iter().filter(|fault| fault.is_reached_by_scripts());
     assert!(10 * generated >= 9 * reached.count(), "{generated} are few");
-    let generated = tally.of_calendar.by_generated;
-    let enough = generated >= LEAST_OF_CALENDAR;
-    assert!(enough, "{generated} of the calendar are few");
+    for (subject, caught) in SUBJECTS.iter().zip(&tally.of_subjects) {
+        let (name, generated) = (subject.name, caught.by_generated);
+        assert!(
+            generated >= subject.least,
+            "{generated} of the {name} are few"
+        );
+    }
 }
 
 impl Tally {
     fn print(&self) {
         let (generated, others) = (self.of_others.by_generated, self.of_others.by_others);
         println!("caught by generated scripts alone: {generated}, by others only: {others}");
-        let (generated, fixed) = (self.of_calendar.by_generated, self.of_calendar.by_others);
-        println!("of the calendar, by generated questions: {generated}, by fixed only: {fixed}");
+        for (Subject { name, .. }, caught) in SUBJECTS.iter().zip(&self.of_subjects) {
+            let (generated, fixed) = (caught.by_generated, caught.by_others);
+            println!("of the {name}, by generated questions: {generated}, by fixed only: {fixed}");
+        }
     }
 
     fn add(&mut self, fault: &Fault, outcome: Outcome, workshop: &Workshop) {
@@ -118,10 +153,9 @@ impl Tally {
     }
 
     fn of(&mut self, fault: &Fault) -> &mut Caught {
-        if fault.is_of_calendar() {
-            &mut self.of_calendar
-        } else {
-            &mut self.of_others
+        match fault.subject() {
+            Some(at) => &mut self.of_subjects[at],
+            None => &mut self.of_others,
         }
     }
 }
@@ -140,8 +174,7 @@ impl Caught {
 struct Workshop {
     package: PathBuf,
     place: PathBuf,
-    /// The names of the generated scripts and calendar questions, which are played before the
-    /// others.
+    /// The names of the generated scripts and questions, which are played before the others.
     generated: HashSet<String>,
 }
 
@@ -152,14 +185,18 @@ impl Workshop {
         let mut text = noted(&tray_corpus(), tray_script::play);
         text.extend(noted(&corpus(), script::play));
         fs::write(place.join("corpus"), text).unwrap();
-        let text = noted(&calendar_corpus(), calendar_script::play);
-        fs::write(place.join("calendar"), text).unwrap();
-        let package = PathBuf::from(env!("CARGO_MANIFEST_DIR"));
-        let generated = generated().into_iter().chain(calendar::generated());
+        let mut generated = generated();
+        for subject in SUBJECTS {
+            let questions = (subject.generated)();
+            let mut text = noted(&questions, subject.play);
+            text.extend(noted(&(subject.fixed)(), subject.play));
+            fs::write(place.join(subject.name), text).unwrap();
+            generated.extend(questions);
+        }
         Workshop {
-            package,
+            package: PathBuf::from(env!("CARGO_MANIFEST_DIR")),
             place,
-            generated: generated.map(|script| script.name).collect(),
+            generated: generated.into_iter().map(|script| script.name).collect(),
         }
     }
 
@@ -172,7 +209,7 @@ impl Workshop {
             }
         }
         match compiled(&bench) {
-            Ok(program) => self.played(&program, corpora(fault)),
+            Ok(program) => self.played(&program, &corpora(fault)),
             Err(why) => Outcome::NoProgram(why),
         }
     }
@@ -205,17 +242,18 @@ impl Workshop {
     }
 }
 
-/// The files with what can show the fault: the calendar and all else do not use each other.
-fn corpora(fault: Option<&Fault>) -> &'static [&'static str] {
-    match fault {
-        None => &["calendar", "corpus"],
-        Some(fault) if fault.is_of_calendar() => &["calendar"],
-        Some(_) => &["corpus"],
+/// The files with what can show the fault: nothing uses the subjects, nor they each other.
+fn corpora(fault: Option<&Fault>) -> Vec<&'static str> {
+    let names = SUBJECTS.map(|subject| subject.name);
+    match fault.map(Fault::subject) {
+        None => [&["corpus"][..], &names].concat(),
+        Some(Some(at)) => vec![names[at]],
+        Some(None) => vec!["corpus"],
     }
 }
 
 /// The scripts with their answers, as the program reads them.
-fn noted(scripts: &[Script], play: fn(&[u8]) -> Vec<u8>) -> Vec<u8> {
+fn noted(scripts: &[Script], play: Play) -> Vec<u8> {
     let mut text = Vec::new();
     for script in scripts {
         let answers = play(&script.text);
@@ -253,12 +291,16 @@ fn compiled(bench: &Path) -> Result<PathBuf, String> {
 }
 
 impl Fault {
-    fn is_of_calendar(&self) -> bool {
-        self.file.starts_with(CALENDAR)
+    /// By its place among them.
+    fn subject(&self) -> Option<usize> {
+        let folder = |subject: &Subject| format!("src/{}/", subject.name);
+        SUBJECTS
+            .iter()
+            .position(|subject| self.file.starts_with(&folder(subject)))
     }
 
     fn is_reached_by_scripts(&self) -> bool {
-        self.file != TRAYS && !self.is_of_calendar()
+        self.file != TRAYS && self.subject().is_none()
     }
 
     fn put_in(&self, bench: &Path) -> Result<(), String> {

@@ -1,10 +1,11 @@
 //! Scripts to compare players with: generated ones in the main, then the blocks of the open
-//! points, lines about the format itself and the memory of written bytes; tray calls; and calendar
-//! questions. What the answers must be, the reference says.
+//! points, lines about the format itself and the memory of written bytes; tray calls; and questions
+//! about calendar and tariff. What the answers must be, the reference says.
 
 pub mod calendar;
 pub mod format;
 pub mod memory;
+pub mod tariff;
 pub mod trays;
 
 use crate::generate::{self, Kind};
@@ -26,13 +27,6 @@ impl Script {
 /// Tray calls, which are not lines of a session script.
 pub fn tray_corpus() -> Vec<Script> {
     vec![Script::new("trays", trays::text())]
-}
-
-/// Calendar questions, which are none either. The generated ones come first.
-pub fn calendar_corpus() -> Vec<Script> {
-    let mut scripts = calendar::generated();
-    scripts.extend(calendar::fixed());
-    scripts
 }
 
 /// The generated ones come first.

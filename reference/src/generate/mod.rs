@@ -1,8 +1,9 @@
 //! Session scripts made from a kind and a seed, to be played by two implementations. While a
 //! script grows the reference answers it by today's rules, so a seed's script changes only if
-//! these answers do. Questions about the calendar are made from a seed alone.
+//! these answers do. Questions about the calendar and the tariff are made from a seed alone.
 
 pub mod calendar;
+pub mod tariff;
 
 mod calls;
 mod centre;
