@@ -1,16 +1,11 @@
 // The commission of one document: its tariff key, its nominal and the commission that was typed.
+use crate::due::due;
 use crate::good::good_tariff;
-use crate::rounding::rounded;
 use crate::row::LARGEST_COMMISSION;
-use crate::row::Row;
-use crate::search::Rule;
 use crate::search::is_known;
 use crate::search::rule_of;
 ghost use mathlib.Core.Path.{_≡_};
-ghost use Prim.Native.Nat.{_≤_};
-ghost use Rattle.tariff.specs.Tariff.{largestRate};
-ghost use Rattle.tariff.specs.Commission.{raisedTo, cutTo, byRow, due, withinLimits, commissionShown, commissioned};
-ghost use Rattle.tariff.specs.Inner.Bounds.{nominalBound, rateOf};
+ghost use Rattle.tariff.specs.Commission.{withinLimits, commissionShown, commissioned};
 
 // What the call answers.
 pub enum CommissionAnswer {
@@ -58,49 +53,6 @@ fn within_limits(nominal: u64, typed: u64) -> bool
     ensures { λ r. ⌜ r ≡ withinLimits nominal typed ⌝ }
 {
     (nominal <= LARGEST_NOMINAL) & (typed <= LARGEST_TYPED)
-}
-
-fn raised_to(least: u64, n: u64) -> u64
-    ensures { λ r. ⌜ r ≡ raisedTo least n ⌝ }
-{
-    if n < least {
-        return least;
-    }
-    n
-}
-
-fn cut_to(greatest: u64, n: u64) -> u64
-    ensures { λ r. ⌜ r ≡ cutTo greatest n ⌝ }
-{
-    if greatest < n {
-        return greatest;
-    }
-    n
-}
-
-fn by_row(row: Row, nominal: u64) -> u64
-    requires { ⌜ row .rate ≤ largestRate ⌝ }
-    requires { ⌜ nominal ≤ nominalBound ⌝ }
-    ensures { λ r. ⌜ r ≡ byRow row nominal ⌝ }
-{
-    let product = nominal * row.rate as u64;
-    cut_to(
-        row.greatest as u64,
-        raised_to(row.least as u64, rounded(product)),
-    )
-}
-
-// The commission that a rule gives, 0 where the key is unknown.
-pub fn due(rule: Rule, nominal: u64, typed: u64) -> u64
-    requires { ⌜ rateOf rule ≤ largestRate ⌝ }
-    requires { ⌜ nominal ≤ nominalBound ⌝ }
-    ensures { λ r. ⌜ r ≡ due rule nominal typed ⌝ }
-{
-    match rule {
-        Rule::Typed => typed,
-        Rule::ByRow(row) => by_row(row, nominal),
-        Rule::Unknown => 0,
-    }
 }
 
 // The commission of a document with this key and nominal; `typed` is kept where the key is 0.

@@ -2,8 +2,9 @@
 // the commission of one document, and those of a tray. Nothing of a session asks here. What the words mean stands in specs/.
 
 pub mod commission;
+mod due;
 mod good;
 mod rounding;
-pub mod row;
-pub mod search;
+mod row;
+mod search;
 pub mod tray;

@@ -1,5 +1,5 @@
 // The commissions of a tray of presented documents, worked out and written in place.
-use crate::commission::due;
+use crate::due::due;
 use crate::good::good_tariff;
 use crate::search::is_known;
 use crate::search::rule_of;

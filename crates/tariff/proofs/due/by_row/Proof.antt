@@ -4,8 +4,8 @@ use native.Mathlib.Omega.{arith}
 use borrow.Author.Needs.{needs}
 use Rattle.tariff.specs.Commission.{raisedTo, cutTo, byRow}
 use Rattle.tariff.proofs.Laws.Commission.{product-most}
-use Rattle.tariff.proofs.commission.by_row.Statement.{statement}
-use Rattle.tariff.proofs.commission.by_row.Tie as tie
+use Rattle.tariff.proofs.due.by_row.Statement.{statement}
+use Rattle.tariff.proofs.due.by_row.Tie as tie
 
 cast-product : tie.Need-cast-product
 cast-product c = search needs

@@ -6,8 +6,8 @@ use Rattle.tariff.specs.declared.search.Rule.{Rule}
 use Rattle.tariff.specs.Tariff.{largestRate}
 use Rattle.tariff.specs.Commission.{due}
 use Rattle.tariff.specs.Inner.Bounds.{rateOf}
-use Rattle.tariff.proofs.commission.due.Statement.{statement}
-use Rattle.tariff.proofs.commission.due.Tie as tie
+use Rattle.tariff.proofs.due.due.Statement.{statement}
+use Rattle.tariff.proofs.due.due.Tie as tie
 
 enum-told : tie.Need-enum-told
 enum-told c = search needs

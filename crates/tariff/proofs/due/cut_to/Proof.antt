@@ -1,8 +1,8 @@
 -- `cut_to`: the smaller of the two.
 use native.Mathlib.Omega.{arith}
 use borrow.Author.Tests.{lt-ltb, le-ltb}
-use Rattle.tariff.proofs.commission.cut_to.Statement.{statement}
-use Rattle.tariff.proofs.commission.cut_to.Tie as tie
+use Rattle.tariff.proofs.due.cut_to.Statement.{statement}
+use Rattle.tariff.proofs.due.cut_to.Tie as tie
 
 returns : tie.Need-returns
 returns c = let a = c .before .args in rw (lt-ltb (a .greatest) (a .n) (omega arith))

@@ -1,8 +1,8 @@
 -- `raised_to`: the larger of the two.
 use native.Mathlib.Omega.{arith}
 use borrow.Author.Tests.{lt-ltb, le-ltb}
-use Rattle.tariff.proofs.commission.raised_to.Statement.{statement}
-use Rattle.tariff.proofs.commission.raised_to.Tie as tie
+use Rattle.tariff.proofs.due.raised_to.Statement.{statement}
+use Rattle.tariff.proofs.due.raised_to.Tie as tie
 
 returns : tie.Need-returns
 returns c = let a = c .before .args in rw (lt-ltb (a .n) (a .least) (omega arith))
