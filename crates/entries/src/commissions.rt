@@ -2,9 +2,9 @@
 use tariff::commission::CommissionShown;
 use tariff::commission::commission;
 use tariff::commission::commission_shown;
-use tariff::tray::FillShown;
+use tariff::filled::FillShown;
+use tariff::filled::fill_shown;
 use tariff::tray::fill_commissions;
-use tariff::tray::fill_shown;
 ghost use mathlib.Core.Path.{_≡_};
 ghost use Rattle.tariff.specs.Commission.{commissioned};
 ghost use Rattle.tariff.specs.Tray.{filled, trayAfter};

@@ -18,7 +18,7 @@ use Rattle.document.specs.Amounts.{nominal, commission}
 use Rattle.tariff.specs.Tariff.{rowsOf, noneTwice, goodTariff}
 use Rattle.tariff.specs.Rounding.{rounded}
 use Rattle.tariff.specs.Commission.{byRow, searched, ruleOf, due, commissionRefusal, commissioned}
-use Rattle.tariff.specs.Tray.{keyField, tariffKey, documentRefusal, firstRefusal, goodBefore, fillRefusal, filled, withCommission, filledDocument, trayAfter}
+use Rattle.tariff.specs.Tray.{tariffKeyField, tariffKey, documentRefusal, firstRefusal, goodBefore, fillRefusal, filled, withCommission, filledDocument, trayAfter}
 
 -- so many keys with a rate of 0, from the largest down
 keys : (count : ℕ) → List ℕ
@@ -49,19 +49,24 @@ good-tariffs : AllDue
     ∷ goodTariff (5 ∷ 0 ∷ 8 ∷ 7 ∷ []) is false
     ∷ goodTariff (5 ∷ 0 ∷ 0 ∷ 99999999 ∷ []) is true
     ∷ goodTariff (5 ∷ 0 ∷ 0 ∷ 100000000 ∷ []) is false
+    -- a row that is not the first
+    ∷ goodTariff (5 ∷ 0 ∷ 0 ∷ 0 ∷ 6 ∷ 10001 ∷ 0 ∷ 0 ∷ []) is false
     ∷ [])
 unfolding goodTariff rowsOf noneTwice every member cut keys
 good-tariffs = refl
 
--- ten of a hundred, without bounds that matter and with some; and the whole nominal
+-- a tenth, with bounds that no case reaches and with 10 and 20; the whole nominal; and two keys with nothing but bounds
 tenth : List ℕ
 tenth = 7 ∷ 1000 ∷ 0 ∷ 99999999 ∷ []
 
 bounded : List ℕ
 bounded = 7 ∷ 1000 ∷ 10 ∷ 20 ∷ []
 
-all : List ℕ
-all = 7 ∷ 10000 ∷ 0 ∷ 99999999 ∷ []
+whole : List ℕ
+whole = 7 ∷ 10000 ∷ 0 ∷ 99999999 ∷ []
+
+two : List ℕ
+two = 5 ∷ 0 ∷ 1 ∷ 1 ∷ 7 ∷ 0 ∷ 2 ∷ 2 ∷ []
 
 -- a tariff with a bad key
 bad : List ℕ
@@ -73,31 +78,42 @@ code tariff key nominal typed = commissioned tariff key nominal typed .code
 abbrev gives : (tariff : List ℕ) (key nominal typed : ℕ) → ℕ
 gives tariff key nominal typed = commissioned tariff key nominal typed .commission
 
-commissions : AllDue
-    -- below the half, 'an exact half going up', above it
+-- 'an exact half going up', and what is off the half
+halves : AllDue
     (gives tenth 7 24 0 is 2
     ∷ gives tenth 7 25 0 is 3
     ∷ gives tenth 7 26 0 is 3
+    ∷ gives tenth 7 34 0 is 3
     ∷ gives tenth 7 35 0 is 4
+    ∷ [])
+unfolding commissioned commissionRefusal goodTariff rowsOf noneTwice every member cut ruleOf searched numbered due byRow rounded _when_ _orelse_ tenth
+halves = refl
+
+commissions : AllDue
     -- raised, cut, and between
-    ∷ gives bounded 7 24 0 is 10
-    ∷ gives bounded 7 95 0 is 10
-    ∷ gives bounded 7 105 0 is 11
-    ∷ gives bounded 7 205 0 is 20
-    ∷ gives bounded 7 0 0 is 10
-    -- the largest nominal at the largest rate
-    ∷ gives all 7 999999999999 0 is 99999999
-    ∷ gives all 7 99999998 0 is 99999998
+    (gives bounded 7 0 0 is 10
+    ∷ gives bounded 7 94 0 is 10
+    ∷ gives bounded 7 150 0 is 15
+    ∷ gives bounded 7 210 0 is 20
+    -- the largest nominal at the largest rate, and the largest commission
+    ∷ gives whole 7 999999999999 0 is 99999999
+    ∷ gives whole 7 99999998 0 is 99999998
+    -- each key by its own row
+    ∷ gives two 5 30 0 is 1
+    ∷ gives two 7 30 0 is 2
+    ∷ code two 6 30 0 is 41
     -- key 0 keeps what was typed, by any good tariff
-    ∷ gives tenth 0 25 5 is 5
-    ∷ gives [] 0 25 99999999 is 99999999
-    ∷ gives tenth 7 25 99999999 is 3
+    ∷ gives tenth 0 30 5 is 5
+    ∷ gives [] 0 30 99999999 is 99999999
+    ∷ gives tenth 7 30 99999999 is 3
     -- 42, 01, 41, each before what follows it
     ∷ code bad 6 1000000000000 100000000 is 42
     ∷ code bad 0 0 5 is 42
     ∷ code tenth 6 1000000000000 0 is 1
     ∷ code tenth 6 0 100000000 is 1
     ∷ code tenth 7 0 100000000 is 1
+    ∷ code tenth 0 1000000000000 5 is 1
+    ∷ code tenth 0 0 100000000 is 1
     ∷ code tenth 0 999999999999 99999999 is 0
     ∷ code tenth 6 999999999999 99999999 is 41
     ∷ code [] 10000 0 0 is 41
@@ -106,7 +122,7 @@ commissions : AllDue
     ∷ gives tenth 7 0 100000000 is 0
     ∷ gives tenth 6 0 5 is 0
     ∷ [])
-unfolding commissioned commissionRefusal goodTariff rowsOf noneTwice every member cut ruleOf searched numbered due byRow rounded _when_ _orelse_ tenth bounded all bad
+unfolding commissioned commissionRefusal goodTariff rowsOf noneTwice every member cut ruleOf searched numbered due byRow rounded _when_ _orelse_ tenth bounded whole two bad
 commissions = refl
 
 -- a document of this key, nominal and commission
@@ -118,32 +134,40 @@ document key nominal commission =
 broken : (place : ℕ) → List ℕ → List ℕ
 broken place d = set d place 0x0A
 
-abbrev stops : (tariff tray : List ℕ) → List ℕ
-stops tariff tray = filled tariff tray .code ∷ filled tariff tray .documents ∷ []
+abbrev answer : (tariff tray : List ℕ) → List ℕ
+answer tariff tray = filled tariff tray .code ∷ filled tariff tray .documents ∷ []
 
 trays : AllDue
     -- no document, two, one with key 0 among them
-    (stops tenth [] is (0 ∷ 0 ∷ [])
-    ∷ stops tenth (document 7 25 0 ++ document 0 25 9) is (0 ∷ 2 ∷ [])
-    ∷ trayAfter tenth (document 7 25 0 ++ document 0 25 9) is (document 7 25 3 ++ document 0 25 9)
-    ∷ trayAfter all (document 7 999999999999 5) is document 7 999999999999 99999999
-    -- 42, then 25, and no document counted
-    ∷ stops bad (drop 1 (document 7 25 0)) is (42 ∷ 0 ∷ [])
-    ∷ stops tenth (drop 1 (document 7 25 0)) is (25 ∷ 0 ∷ [])
-    ∷ stops tenth (document 7 25 0 ++ 0 ∷ []) is (25 ∷ 0 ∷ [])
-    -- a bad document in the middle: its key, its nominal, its commission, also beside key 0, and an unknown key
-    ∷ stops tenth (document 7 25 0 ++ broken 41 (broken 25 (document 7 25 0)) ++ document 7 25 0) is (1 ∷ 1 ∷ [])
-    ∷ stops tenth (document 7 25 0 ++ broken 25 (document 6 25 0) ++ document 7 25 0) is (3 ∷ 1 ∷ [])
-    ∷ stops tenth (document 7 25 0 ++ broken 46 (document 0 25 0) ++ document 6 25 0) is (3 ∷ 1 ∷ [])
-    ∷ stops tenth (document 7 25 0 ++ document 6 25 0 ++ broken 41 (document 7 25 0)) is (41 ∷ 1 ∷ [])
-    ∷ trayAfter tenth (document 7 25 0 ++ document 6 25 0) is (document 7 25 0 ++ document 6 25 0)
+    (answer tenth [] is (0 ∷ 0 ∷ [])
+    ∷ answer tenth (document 7 30 0 ++ document 0 30 9) is (0 ∷ 2 ∷ [])
+    ∷ trayAfter tenth (document 7 30 0 ++ document 0 30 9) is (document 7 30 3 ++ document 0 30 9)
+    ∷ trayAfter whole (document 7 999999999999 5) is document 7 999999999999 99999999
+    -- 42, then 25, then a document's, and none counted
+    ∷ answer bad (drop 1 (document 7 30 0)) is (42 ∷ 0 ∷ [])
+    ∷ answer tenth (drop 1 (document 7 30 0)) is (25 ∷ 0 ∷ [])
+    ∷ answer tenth (document 7 30 0 ++ 0 ∷ []) is (25 ∷ 0 ∷ [])
+    ∷ answer tenth (document 6 30 0 ++ 0 ∷ []) is (25 ∷ 0 ∷ [])
+    -- a bad document in the middle: its key, its nominal and its commission, also beside key 0, and an unknown key
+    ∷ answer tenth (document 7 30 0 ++ broken 41 (broken 25 (document 7 30 0)) ++ document 7 30 0) is (1 ∷ 1 ∷ [])
+    ∷ answer tenth (document 7 30 0 ++ broken 25 (document 6 30 0) ++ document 7 30 0) is (3 ∷ 1 ∷ [])
+    ∷ answer tenth (document 7 30 0 ++ broken 46 (document 7 30 0) ++ document 6 30 0) is (3 ∷ 1 ∷ [])
+    ∷ answer tenth (document 7 30 0 ++ broken 30 (document 0 30 0) ++ document 6 30 0) is (3 ∷ 1 ∷ [])
+    ∷ answer tenth (document 7 30 0 ++ broken 43 (document 0 30 0) ++ document 6 30 0) is (3 ∷ 1 ∷ [])
+    ∷ answer tenth (document 7 30 0 ++ document 6 30 0 ++ broken 41 (document 7 30 0)) is (41 ∷ 1 ∷ [])
+    -- a refusal leaves every byte
+    ∷ trayAfter bad (document 7 30 0) is document 7 30 0
+    ∷ trayAfter tenth (document 7 30 0 ++ 0 ∷ []) is (document 7 30 0 ++ 0 ∷ [])
+    ∷ trayAfter tenth (document 7 30 0 ++ broken 42 (document 7 30 0)) is (document 7 30 0 ++ broken 42 (document 7 30 0))
+    ∷ trayAfter tenth (document 7 30 0 ++ broken 46 (document 7 30 0)) is (document 7 30 0 ++ broken 46 (document 7 30 0))
+    ∷ trayAfter tenth (document 7 30 0 ++ document 6 30 0) is (document 7 30 0 ++ document 6 30 0)
     -- the other bytes are not looked at
-    ∷ stops tenth (broken 0 (broken 24 (broken 40 (broken 47 (document 7 25 0))))) is (0 ∷ 1 ∷ [])
+    ∷ answer tenth (broken 0 (broken 24 (broken 40 (broken 47 (document 7 30 0))))) is (0 ∷ 1 ∷ [])
     ∷ [])
-unfolding filled fillRefusal firstRefusal goodBefore documentRefusal trayAfter filledDocument withCommission tariffKey nominal commission goodTariff rowsOf noneTwice every member cut ruleOf searched numbered due byRow rounded _when_ _orelse_ isDigits number byteValue packedBytes packedByte flatMap tenth all bad document broken
+unfolding filled fillRefusal firstRefusal goodBefore documentRefusal trayAfter filledDocument withCommission tariffKey nominal commission goodTariff rowsOf noneTwice every member cut ruleOf searched numbered due byRow rounded _when_ _orelse_ isDigits number byteValue packedBytes packedByte flatMap tenth whole bad document broken
 trays = refl
 
--- the key's field is the row of 01's table, which takes any digits of a presented document
-key-field : (receiving : ℕ) → take 1 (drop 15 (documentFields presented receiving)) ≡ keyField ∷ []
+-- the tariff key's field is the row of 01's table, which takes any digits of a presented document
+key-field : (receiving : ℕ) → take 1 (drop 15 (documentFields presented receiving)) ≡ tariffKeyField ∷ []
 unfolding documentFields
 key-field receiving = refl

@@ -4,4 +4,5 @@ pub mod Judged
 pub mod Kept
 pub mod Filled
 pub mod Tray
+pub mod Document
 pub mod Twice

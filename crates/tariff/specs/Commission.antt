@@ -1,4 +1,5 @@
--- 02, card 3: the commission of a tariff key, a nominal and a typed commission.
+-- 02, card 3: the commission of a tariff key, a nominal and a typed commission. It is worked out before a send, for presented documents, which
+-- the caller sees to; no definition of a session uses it, since 'the receiver still books what the message states'.
 use Prim.Native.Nat.{ℕ, _*_, _≤_}
 use mathlib.Core.Path.{_≡_}
 use mathlib.Core.Bool.{Bool, true, false, not, _&&_, cond}
@@ -26,7 +27,7 @@ cutTo greatest n = cond (ltb greatest n) greatest n
 unfoldable pub byRow : Row → (nominal : ℕ) → ℕ
 byRow r nominal = cutTo (r .greatest) (raisedTo (r .least) (rounded (nominal * r .rate)))
 
--- the row that has a key
+-- the first row that has a key
 unfoldable pub searched : List Row → (key : ℕ) → Rule
 searched rows key = numbered (λ (r : Row). r .key) Rule.ByRow Rule.Unknown rows key
 
@@ -34,12 +35,13 @@ searched rows key = numbered (λ (r : Row). r .key) Rule.ByRow Rule.Unknown rows
 unfoldable pub ruleOf : List Row → (key : ℕ) → Rule
 ruleOf rows key = cond (eqb key 0) Rule.Typed (searched rows key)
 
+-- either of these
 abbrev pub isKnown : Rule → Bool
 isKnown Rule.Typed = true
 isKnown (Rule.ByRow r) = true
 isKnown Rule.Unknown = false
 
--- the commission that a rule gives
+-- the commission that a rule gives; none that matters where there is no rule
 unfoldable pub due : Rule → (nominal typed : ℕ) → ℕ
 due Rule.Typed nominal typed = typed
 due (Rule.ByRow r) nominal typed = byRow r nominal
@@ -50,13 +52,15 @@ abbrev pub withinLimits : (nominal typed : ℕ) → Bool
 withinLimits nominal typed = leb nominal largestNominal && leb typed largestCommission
 
 -- no 'unknown key'
-abbrev pub keyKnown : (tariff : List ℕ) (key : ℕ) → Bool
-keyKnown tariff key = isKnown (ruleOf (rowsOf tariff) key)
+abbrev pub keyKnown : List Row → (key : ℕ) → Bool
+keyKnown rows key = isKnown (ruleOf rows key)
 
 -- '42 comes first, then 01, then 41'
 unfoldable pub commissionRefusal : (tariff : List ℕ) (key nominal typed : ℕ) → ℕ
 commissionRefusal tariff key nominal typed =
-    42 when not (goodTariff tariff) orelse 1 when not (withinLimits nominal typed) orelse 41 when not (keyKnown tariff key)
+    42 when not (goodTariff tariff)
+    orelse 1 when not (withinLimits nominal typed)
+    orelse 41 when not (keyKnown (rowsOf tariff) key)
 
 -- the number of each answer, and the commission, 0 beside a code
 abbrev pub commissionShown : CommissionAnswer → CommissionShown

@@ -18,7 +18,7 @@ mostKeys = 20
 abbrev pub largestKey : ℕ
 largestKey = 9999
 
--- 'a rate per ten thousand (0 to 10,000)': so that a commission is never more than its nominal
+-- 'a rate per ten thousand (0 to 10,000)': at the largest the whole nominal
 abbrev pub largestRate : ℕ
 largestRate = 10000
 
@@ -37,7 +37,7 @@ rowsOf tariff = map rowIn (pieces rowNumbers tariff)
 abbrev pub wholeRows : (tariff : List ℕ) → Bool
 wholeRows tariff = eqb (length tariff % rowNumbers) 0
 
--- no row has 'a key 0 or above 9999, a rate above 10,000, a least above its greatest, or a greatest above 99,999,999'
+-- no row has a key that is '0 or above 9999, a rate above 10,000, a least above its greatest, or a greatest above 99,999,999'
 abbrev pub rowGood : Row → Bool
 rowGood r =
     between 1 largestKey (r .key) && leb (r .rate) largestRate && leb (r .least) (r .greatest) && leb (r .greatest) largestCommission
@@ -51,7 +51,7 @@ unfoldable pub noneTwice : List ℕ → Bool
 noneTwice [] = true
 noneTwice (k ∷ ks) = not (member k ks) && noneTwice ks
 
--- 42 otherwise
+-- 42 otherwise: whole rows, at most 20 of them, no key twice, and each row good
 unfoldable pub goodTariff : (tariff : List ℕ) → Bool
 goodTariff tariff =
     wholeRows tariff && leb (length (rowsOf tariff)) mostKeys && noneTwice (keysOf (rowsOf tariff)) && every rowGood (rowsOf tariff)

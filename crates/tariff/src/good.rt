@@ -7,10 +7,12 @@ use crate::search::search;
 ghost use mathlib.Core.Path.{_≡_};
 ghost use Rattle.tariff.specs.Tariff.{goodTariff};
 
-// The most numbers of a tariff: those of 20 rows.
-const MOST_NUMBERS: usize = 20 * ROW_NUMBERS;
+const MOST_KEYS: usize = 20;
 
-// Whether a tariff earns no 42. Each key is looked for in the rows behind its own; none is read where there are too many.
+const MOST_NUMBERS: usize = MOST_KEYS * ROW_NUMBERS;
+
+// Whether a tariff earns no 42. No row is read where one is cut or there are too many; each key is looked for in the rows
+// behind its own.
 pub fn good_tariff(tariff: &[u32]) -> bool
     ensures { λ r. ⌜ r ≡ goodTariff (now (tariff .entry)) ⌝ }
 {

@@ -1,4 +1,4 @@
-// A row of a tariff: a key, and what documents with it pay.
+// A row of a tariff: a key, and what commission its documents bear.
 ghost use mathlib.Core.Path.{_≡_};
 ghost use lib.ListN.{length};
 ghost use Rattle.tariff.specs.Tariff.{rowNumbers, rowIn, rowGood};
@@ -20,7 +20,7 @@ pub struct Row {
     pub greatest: u32,
 }
 
-// The row that four numbers are.
+// The row that four numbers make up.
 pub fn row_in(numbers: &[u32]) -> Row
     requires { ⌜ length (now numbers) ≡ rowNumbers ⌝ }
     ensures { λ r. ⌜ r ≡ rowIn (now (numbers .entry)) ⌝ }

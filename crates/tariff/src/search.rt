@@ -6,7 +6,7 @@ ghost use mathlib.Core.Path.{_≡_};
 ghost use Prim.Native.Nat.{_-_, _%_, _≤_};
 ghost use lib.ListN.{length, drop};
 ghost use Rattle.tariff.specs.Tariff.{rowNumbers, rowsOf};
-ghost use Rattle.tariff.specs.Commission.{searched, ruleOf, isKnown};
+ghost use Rattle.tariff.specs.Commission.{searched, ruleOf, isKnown, keyKnown};
 
 // The typed commission is kept, a row of the tariff decides, or the key is unknown.
 pub enum Rule {
@@ -43,6 +43,7 @@ pub fn search(tariff: &[u32], from: usize, key: u32) -> Rule
     Rule::Unknown
 }
 
+// What a key says; 0 is never looked for.
 pub fn rule_of(tariff: &[u32], key: u32) -> Rule
     requires { ⌜ length (now tariff) % rowNumbers ≡ 0 ⌝ }
     ensures { λ r. ⌜ r ≡ ruleOf (rowsOf (now (tariff .entry))) key ⌝ }
@@ -51,4 +52,11 @@ pub fn rule_of(tariff: &[u32], key: u32) -> Rule
         return Rule::Typed;
     }
     search(tariff, 0, key)
+}
+
+pub fn key_known(tariff: &[u32], key: u32) -> bool
+    requires { ⌜ length (now tariff) % rowNumbers ≡ 0 ⌝ }
+    ensures { λ r. ⌜ r ≡ keyKnown (rowsOf (now (tariff .entry))) key ⌝ }
+{
+    is_known(rule_of(tariff, key))
 }

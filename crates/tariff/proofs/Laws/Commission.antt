@@ -36,11 +36,11 @@ module _ (tariff : List ℕ) (key nominal typed : ℕ) where
     over-limits over = rw (good, over)
 
     module _ (within : withinLimits nominal typed ≡ true) where
-      pub unknown-key : keyKnown tariff key ≡ false → Answered CommissionAnswer.UnknownKey
+      pub unknown-key : keyKnown (rowsOf tariff) key ≡ false → Answered CommissionAnswer.UnknownKey
       unfolding commissioned commissionRefusal _when_ _orelse_
       unknown-key none = rw (good, within, none)
 
-      pub given : keyKnown tariff key ≡ true → Answered (CommissionAnswer.Given (due (ruleOf (rowsOf tariff) key) nominal typed))
+      pub given : keyKnown (rowsOf tariff) key ≡ true → Answered (CommissionAnswer.Given (due (ruleOf (rowsOf tariff) key) nominal typed))
       unfolding commissioned commissionRefusal _when_ _orelse_
       given known = rw (good, within, known)
 
@@ -95,13 +95,13 @@ limits-told nominal typed e =
     (leb-true nominal largestNominal (each .0), leb-true typed largestCommission (each .1))
 
 -- what an answer without a code is known by
-code-told : (tariff : List ℕ) (key nominal typed : ℕ) → commissionRefusal tariff key nominal typed ≡ 0 → (goodTariff tariff ≡ true) × (withinLimits nominal typed ≡ true) × (keyKnown tariff key ≡ true)
+code-told : (tariff : List ℕ) (key nominal typed : ℕ) → commissionRefusal tariff key nominal typed ≡ 0 → (goodTariff tariff ≡ true) × (withinLimits nominal typed ≡ true) × (keyKnown (rowsOf tariff) key ≡ true)
 unfolding commissionRefusal
 code-told tariff key nominal typed e =
-    all-held 42 1 41 (goodTariff tariff) (withinLimits nominal typed) (keyKnown tariff key) (lit< tt) (lit< tt) (lit< tt) e
+    all-held 42 1 41 (goodTariff tariff) (withinLimits nominal typed) (keyKnown (rowsOf tariff) key) (lit< tt) (lit< tt) (lit< tt) e
 
 -- the commission of a known key other than 0 keeps the bounds of its row
-due-bounded : (tariff : List ℕ) (key nominal typed : ℕ) → (key ≡ 0 → ⊥) → goodTariff tariff ≡ true → keyKnown tariff key ≡ true → Bounded tariff key (due (ruleOf (rowsOf tariff) key) nominal typed)
+due-bounded : (tariff : List ℕ) (key nominal typed : ℕ) → (key ≡ 0 → ⊥) → goodTariff tariff ≡ true → keyKnown (rowsOf tariff) key ≡ true → Bounded tariff key (due (ruleOf (rowsOf tariff) key) nominal typed)
 unfolding due
 due-bounded tariff key nominal typed other good known =
     rule-told tariff key good

@@ -19,15 +19,15 @@ use Rattle.packed.proofs.Laws.Writing.{packed-length, packed-digits, part-sets,
 use Rattle.codes.specs.Field.{Field, fieldGood, earning}
 use Rattle.document.specs.Limits.{documentBytes}
 use Rattle.document.specs.Operation.{presented}
-use Rattle.document.specs.Fields.{documentPosition, documentFields, fieldsGood, amountsGood}
+use Rattle.document.specs.Fields.{documentPosition, commissionField, documentFields, fieldsGood, amountsGood}
 use Rattle.document.specs.Drawee.{drawee, draweeServed}
 use Rattle.document.specs.Amounts.{nominal, commission}
 use Rattle.document.proofs.Laws.Fields.{amounts-split}
 use Rattle.tariff.specs.Tray.{tariffKey, keyDigits, withCommission}
 
--- where the commission stands
-abbrev pub place : ℕ
-place = 43
+-- where a document has its commission
+abbrev pub commissionPlace : ℕ
+commissionPlace = commissionField .position - documentPosition
 
 -- a run that ends before a place is not touched by what is written there
 set-before : (at n k : ℕ) (d : List ℕ) (v : ℕ) → at + n ≤ k → part at n (set d k v) ≡ part at n d
@@ -63,11 +63,11 @@ fields-same s t k same (f ∷ fs) e =
 module _ (c : ℕ) (d : List ℕ) where
   pub with-length : length (withCommission c d) ≡ length d
   unfolding withCommission
-  with-length = length-sets d place (packedBytes 4 c)
+  with-length = length-sets d commissionPlace (packedBytes 4 c)
 
-  before : (at n : ℕ) → at + n ≤ place → part at n (withCommission c d) ≡ part at n d
+  before : (at n : ℕ) → at + n ≤ commissionPlace → part at n (withCommission c d) ≡ part at n d
   unfolding withCommission
-  before at n h = sets-before (packedBytes 4 c) d at n place h
+  before at n h = sets-before (packedBytes 4 c) d at n commissionPlace h
 
   pub key-kept : tariffKey (withCommission c d) ≡ tariffKey d
   unfolding tariffKey
@@ -85,7 +85,7 @@ module _ (c : ℕ) (d : List ℕ) where
 
   pub fields-kept : (operation receiving : ℕ) → fieldsGood operation receiving (withCommission c d) ≡ fieldsGood operation receiving d
   unfolding fieldsGood documentFields earning every
-  fields-kept operation receiving = fields-same (withCommission c d) d place before (earning 1 (documentFields operation receiving)) refl
+  fields-kept operation receiving = fields-same (withCommission c d) d commissionPlace before (earning 1 (documentFields operation receiving)) refl
 
   pub served-kept : (operation own : ℕ) (represented : List ℕ) → draweeServed operation own represented (withCommission c d) ≡ draweeServed operation own represented d
   unfolding draweeServed drawee
@@ -93,15 +93,15 @@ module _ (c : ℕ) (d : List ℕ) where
       ap (λ (bs : List ℕ). not (eqb operation presented) || member (number bs) (own ∷ represented)) (before 31 2 (omega arith))
 
   module _ (whole : length d ≡ documentBytes) where
-    written : part place 4 (withCommission c d) ≡ packedBytes 4 c
+    written : part commissionPlace 4 (withCommission c d) ≡ packedBytes 4 c
     unfolding withCommission
-    written = part-sets (packedBytes 4 c) d place 4 (packed-length 4 c) (omega arith)
+    written = part-sets (packedBytes 4 c) d commissionPlace 4 (packed-length 4 c) (omega arith)
 
     pub commission-written : c < 100 ^ 4 → commission (withCommission c d) ≡ c
     unfolding commission withCommission
-    commission-written h = put-then-read d place 4 c (omega arith) h
+    commission-written h = put-then-read d commissionPlace 4 c (omega arith) h
 
-    pub commission-digits : areDigits (part place 4 (withCommission c d)) ≡ true
+    pub commission-digits : areDigits (part commissionPlace 4 (withCommission c d)) ≡ true
     commission-digits = ap areDigits written ∙ packed-digits 4 c
 
     pub amounts-written : (operation receiving : ℕ) → areDigits (part 25 6 d) ≡ true → amountsGood operation receiving (withCommission c d) ≡ true
@@ -110,4 +110,4 @@ module _ (c : ℕ) (d : List ℕ) where
 
     pub written-again : withCommission c (withCommission c d) ≡ withCommission c d
     unfolding withCommission
-    written-again = sets-there (packedBytes 4 c) (withCommission c d) place 4 (packed-length 4 c) (omega (arith, with-length)) written
+    written-again = sets-there (packedBytes 4 c) (withCommission c d) commissionPlace 4 (packed-length 4 c) (omega (arith, with-length)) written

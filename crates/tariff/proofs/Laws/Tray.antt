@@ -9,8 +9,8 @@ use borrow.Author.Tests.{eq-eqb, ne-eqb}
 use Rattle.codes.specs.Chain.{_when_, _orelse_}
 use Rattle.document.specs.Limits.{documentBytes}
 use Rattle.document.specs.Part.{documentsOf}
-use Rattle.tariff.specs.declared.tray.FillAnswer.{FillAnswer}
-use Rattle.tariff.specs.declared.tray.FillShown.{FillShown}
+use Rattle.tariff.specs.declared.filled.FillAnswer.{FillAnswer}
+use Rattle.tariff.specs.declared.filled.FillShown.{FillShown}
 use Rattle.tariff.specs.Tariff.{rowsOf, goodTariff}
 use Rattle.tariff.specs.Tray.{fillRefusal, fillShown, filled, filledDocument, trayAfter}
 use Rattle.tariff.specs.Inner.Judged.{judged}

@@ -6,18 +6,18 @@ use native.Mathlib.Omega.{arith}
 use borrow.Author.Needs.{needs}
 use borrow.Author.Tests.{leb-true, leb-false}
 use lib.Dec.{leb}
-use Rattle.tariff.specs.Rounding.{rounded}
+use Rattle.tariff.specs.Rounding.{tenThousand, rounded}
 use Rattle.tariff.proofs.rounding.rounded.Statement.{statement}
 use Rattle.tariff.proofs.rounding.rounded.Tie as tie
 
 -- the units that a product comes to: within half a unit of it, and upwards where it is an exact half
-half-up : (n r : ℕ) → r * 10000 ≤ n + 5000 → n + 5000 < r * 10000 + 10000 → r ≡ rounded n
+half-up : (n r : ℕ) → r * tenThousand ≤ n + 5000 → n + 5000 < r * tenThousand + tenThousand → r ≡ rounded n
 unfolding rounded
-half-up n r low high = go (leb 5000 (n % 10000)) refl
+half-up n r low high = go (leb tenThousand (2 * (n % tenThousand))) refl
   where
-    go : (t : Bool) → leb 5000 (n % 10000) ≡ t → r ≡ cond t (suc (n / 10000)) (n / 10000)
-    go true e = omega (arith, leb-true 5000 (n % 10000) e)
-    go false e = omega (arith, leb-false 5000 (n % 10000) e)
+    go : (t : Bool) → leb tenThousand (2 * (n % tenThousand)) ≡ t → r ≡ cond t (suc (n / tenThousand)) (n / tenThousand)
+    go true e = omega (arith, leb-true tenThousand (2 * (n % tenThousand)) e)
+    go false e = omega (arith, leb-false tenThousand (2 * (n % tenThousand)) e)
 
 add-result : tie.Need-add-result
 add-result c = search needs

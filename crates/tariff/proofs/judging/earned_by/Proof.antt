@@ -3,11 +3,11 @@ use mathlib.Core.Path.{ap, sym, _∙_}
 use mathlib.Core.Bool.{_&&_}
 use borrow.Author.Needs.{needs}
 use Rattle.tariff.specs.Tariff.{rowsOf}
-use Rattle.tariff.specs.Commission.{ruleOf, isKnown}
+use Rattle.tariff.specs.Commission.{keyKnown}
 use Rattle.tariff.specs.Tray.{tariffKey}
 use Rattle.tariff.proofs.Laws.Judged.{wrong-key, wrong-amount, unknown-key, nothing}
-use Rattle.tariff.proofs.tray.earned_by.Statement.{statement}
-use Rattle.tariff.proofs.tray.earned_by.Tie as tie
+use Rattle.tariff.proofs.judging.earned_by.Statement.{statement}
+use Rattle.tariff.proofs.judging.earned_by.Tie as tie
 
 are-digits-requires : tie.Need-are-digits-requires
 are-digits-requires c κs = search needs
@@ -21,20 +21,16 @@ are-digits-requires-3 c κs = search needs
 number2-requires : tie.Need-number2-requires
 number2-requires c κs = search needs
 
-cast-rule-of : tie.Need-cast-rule-of
-cast-rule-of c = search needs
+cast-key-known : tie.Need-cast-key-known
+cast-key-known c = search needs
 
-rule-of-requires : tie.Need-rule-of-requires
-rule-of-requires c κs = search needs
-
-is-known-requires : tie.Need-is-known-requires
-is-known-requires c κs = search needs
+key-known-requires : tie.Need-key-known-requires
+key-known-requires c κs = search needs
 
 returns : tie.Need-returns
 unfolding tariffKey
 returns c =
-    let r = c .before .before in
-    let k = r .before in
+    let k = c .before .before in
     let m = k .before .before in
     let f = m .before .before in
     let a = f .before .before .before .before .args in
@@ -42,13 +38,12 @@ returns c =
     nothing rows (a .d .now)
     (sym (f .before .are-digits .ensures) ∙ f .if1 .taken)
     (sym (λ i. m .before .are-digits2 .ensures i && m .are-digits3 .ensures i) ∙ k .before .if2 .taken)
-    (sym (c .before .is-known .ensures ∙ ap isKnown (r .rule-of .ensures ∙ ap (ruleOf rows) (k .number2 .ensures))) ∙ c .if3 .taken)
+    (sym (c .before .key-known .ensures ∙ ap (keyKnown rows) (k .number2 .ensures)) ∙ c .if3 .taken)
 
 returns-2 : tie.Need-returns-2
 unfolding tariffKey
 returns-2 c =
-    let r = c .before .before in
-    let k = r .before in
+    let k = c .before .before in
     let m = k .before .before in
     let f = m .before .before in
     let a = f .before .before .before .before .args in
@@ -56,7 +51,7 @@ returns-2 c =
     unknown-key rows (a .d .now)
     (sym (f .before .are-digits .ensures) ∙ f .if1 .taken)
     (sym (λ i. m .before .are-digits2 .ensures i && m .are-digits3 .ensures i) ∙ k .before .if2 .taken)
-    (sym (c .before .is-known .ensures ∙ ap isKnown (r .rule-of .ensures ∙ ap (ruleOf rows) (k .number2 .ensures))) ∙ c .if3 .left)
+    (sym (c .before .key-known .ensures ∙ ap (keyKnown rows) (k .number2 .ensures)) ∙ c .if3 .left)
 
 returns-3 : tie.Need-returns-3
 returns-3 c =
@@ -80,9 +75,8 @@ earned-by-spec =
     are-digits-requires-2
     are-digits-requires-3
     number2-requires
-    cast-rule-of
-    rule-of-requires
-    is-known-requires
+    cast-key-known
+    key-known-requires
     returns
     returns-2
     returns-3

@@ -2,9 +2,9 @@
 use mathlib.Core.Path.{ap}
 use borrow.Author.Needs.{needs}
 use lib.Dec.{eqb}
-use Rattle.tariff.specs.declared.tray.FillShown.{FillShown}
-use Rattle.tariff.proofs.tray.is_filled.Statement.{statement}
-use Rattle.tariff.proofs.tray.is_filled.Tie as tie
+use Rattle.tariff.specs.declared.filled.FillShown.{FillShown}
+use Rattle.tariff.proofs.filled.is_filled.Statement.{statement}
+use Rattle.tariff.proofs.filled.is_filled.Tie as tie
 
 fill-shown-requires : tie.Need-fill-shown-requires
 fill-shown-requires c κs = search needs

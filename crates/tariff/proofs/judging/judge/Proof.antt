@@ -1,23 +1,18 @@
 -- `judge` goes through the documents. The invariant: what the documents that are left decide is what all decide, those passed being counted.
 -- The measure is what is left.
-use mathlib.Core.Path.{_≡_, ap, sym, subst, _∙_}
-use mathlib.Core.List.{List}
-use Prim.Native.Nat.{ℕ, _+_, _-_, _%_, _≤_}
+use mathlib.Core.Path.{_≡_, ap, sym, _∙_}
+use Prim.Native.Nat.{_-_, _%_, _≤_}
 use native.Mathlib.Omega.{arith}
 use borrow.Author.Needs.{needs}
-use borrow.Author.Tests.{eqb-true, eqb-false}
-use lib.Dec.{eqb, lit<}
 use lib.ListN.{length, drop}
-use Rattle.packed.specs.Part.{part}
 use Rattle.packed.proofs.Laws.Part.{part-length, part-all}
-use Rattle.packed.proofs.Laws.Pieces.{pieces-at, pieces-end}
 use Rattle.document.specs.Limits.{documentBytes}
 use Rattle.document.specs.Part.{documentsOf}
 use Rattle.tariff.specs.Tariff.{rowsOf}
-use Rattle.tariff.specs.Tray.{documentRefusal}
-use Rattle.tariff.proofs.Laws.Judged.{Passed, none-passed, stops, passes, done}
-use Rattle.tariff.proofs.tray.judge.Statement.{statement}
-use Rattle.tariff.proofs.tray.judge.Tie as tie
+use Rattle.tariff.specs.Inner.Judged.{earnedNumber}
+use Rattle.tariff.proofs.Laws.Judged.{Passed, none-passed, stops-at, passes-at, done-at}
+use Rattle.tariff.proofs.judging.judge.Statement.{statement}
+use Rattle.tariff.proofs.judging.judge.Tie as tie
 
 abbrev Inv-loop : tie.InvT-loop
 Inv-loop tariff tray place₀ at₀ place at =
@@ -59,20 +54,18 @@ is-nothing-requires c κs = search needs
 add-place : tie.Need-add-place Inv-loop μ-loop
 add-place c = search needs
 
+answer-at-requires : tie.Need-answer-at-requires Inv-loop μ-loop
+answer-at-requires c κs = search needs
+
 returns : tie.Need-returns Inv-loop μ-loop
 returns c =
-    let e = c .before .before in
+    let n = c .before .before in
+    let e = n .before in
     let t = e .before .before .before in
     let s = t .before .before .before in
-    let at = t .loop .at in
-    let tray = s .args .tray .now in
-    let rows = rowsOf (s .args .tariff .now) in
-    let d = part at documentBytes tray in
-    let number = e .earned-by .ensures ∙ ap (documentRefusal rows) (part-all at documentBytes tray) in
-    let bad = eqb-false (documentRefusal rows d) 0 (sym (ap (λ (n : ℕ). eqb n 0) number) ∙ sym (c .before .is-nothing .ensures) ∙ c .if1 .left) in
-    let left = subst (λ (ds : List (List ℕ)). Passed rows (documentsOf tray) ds (t .loop .place)) (pieces-at documentBytes (lit< tt) at tray (omega arith)) (t .loop .inv .3) in
-    (λ i. record { code = number i; documents = t .loop .place })
-    ∙ stops rows (documentsOf tray) (t .loop .place) d (documentsOf (drop (at + documentBytes) tray)) left bad
+    c .answer-at .ensures
+    ∙ stops-at (rowsOf (s .args .tariff .now)) (s .args .tray .now) (t .loop .at) (t .loop .place) (t .loop .inv .3) (omega arith)
+    (earnedNumber (e .earned-by .result)) (e .earned-by .ensures) (sym (n .is-nothing .ensures) ∙ c .before .if1 .left)
 
 loop-less : tie.Need-loop-less Inv-loop μ-loop
 loop-less c = omega arith
@@ -82,23 +75,15 @@ loop-again c =
     let e = c .before .before in
     let t = e .before .before .before in
     let s = t .before .before .before in
-    let at = t .loop .at in
-    let tray = s .args .tray .now in
-    let rows = rowsOf (s .args .tariff .now) in
-    let d = part at documentBytes tray in
-    let number = e .earned-by .ensures ∙ ap (documentRefusal rows) (part-all at documentBytes tray) in
-    let good = eqb-true (documentRefusal rows d) 0 (sym (ap (λ (n : ℕ). eqb n 0) number) ∙ sym (c .before .is-nothing .ensures) ∙ c .if1 .taken) in
-    let left = subst (λ (ds : List (List ℕ)). Passed rows (documentsOf tray) ds (t .loop .place)) (pieces-at documentBytes (lit< tt) at tray (omega arith)) (t .loop .inv .3) in
-    (omega arith, omega arith, omega arith, passes rows (documentsOf tray) (t .loop .place) d (documentsOf (drop (at + documentBytes) tray)) left good)
+    let good = passes-at (rowsOf (s .args .tariff .now)) (s .args .tray .now) (t .loop .at) (t .loop .place) (t .loop .inv .3) (omega arith)
+    (earnedNumber (e .earned-by .result)) (e .earned-by .ensures) (sym (c .before .is-nothing .ensures) ∙ c .if1 .taken) in
+    (omega arith, omega arith, omega arith, good)
 
 returns-2 : tie.Need-returns-2 Inv-loop μ-loop
 returns-2 c =
     let t = c .before in
     let s = t .before .before .before in
-    let tray = s .args .tray .now in
-    let rows = rowsOf (s .args .tariff .now) in
-    done rows (documentsOf tray) (t .loop .place)
-    (subst (λ (ds : List (List ℕ)). Passed rows (documentsOf tray) ds (t .loop .place)) (pieces-end documentBytes (lit< tt) (t .loop .at) tray (omega arith)) (t .loop .inv .3))
+    done-at (rowsOf (s .args .tariff .now)) (s .args .tray .now) (t .loop .at) (t .loop .place) (t .loop .inv .3) (omega arith)
 
 pub judge-spec : {M : Type 1} → statement M
 judge-spec =
@@ -114,6 +99,7 @@ judge-spec =
     earned-by-requires
     is-nothing-requires
     add-place
+    answer-at-requires
     returns
     loop-less
     loop-again

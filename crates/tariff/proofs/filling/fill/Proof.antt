@@ -11,8 +11,8 @@ use Rattle.document.specs.Part.{documentsOf}
 use Rattle.tariff.specs.Tariff.{rowsOf}
 use Rattle.tariff.specs.Tray.{filledDocument}
 use Rattle.tariff.proofs.Laws.Filled.{filledFrom, from-start, to-end, same-tray-length, one-filled}
-use Rattle.tariff.proofs.tray.fill.Statement.{statement}
-use Rattle.tariff.proofs.tray.fill.Tie as tie
+use Rattle.tariff.proofs.filling.fill.Statement.{statement}
+use Rattle.tariff.proofs.filling.fill.Tie as tie
 
 abbrev Inv-loop : tie.InvT-loop
 Inv-loop tariff tray₀ at₀ tray at =

@@ -14,8 +14,8 @@ use Rattle.tariff.specs.Inner.Bounds.{rateOf}
 use Rattle.tariff.proofs.Laws.Rows.{whole-rows}
 use Rattle.tariff.proofs.Laws.Commission.{rate-most}
 use Rattle.tariff.proofs.Laws.Filled.{kept-key, written-key}
-use Rattle.tariff.proofs.tray.fill_document.Statement.{statement}
-use Rattle.tariff.proofs.tray.fill_document.Tie as tie
+use Rattle.tariff.proofs.filling.fill_document.Statement.{statement}
+use Rattle.tariff.proofs.filling.fill_document.Tie as tie
 
 number2-requires : tie.Need-number2-requires
 number2-requires c κs = search needs

@@ -3,8 +3,8 @@ use mathlib.Core.Path.{ap}
 use Prim.Native.Nat.{ℕ}
 use borrow.Author.Needs.{needs}
 use lib.Dec.{eqb}
-use Rattle.tariff.proofs.tray.is_nothing.Statement.{statement}
-use Rattle.tariff.proofs.tray.is_nothing.Tie as tie
+use Rattle.tariff.proofs.judging.is_nothing.Statement.{statement}
+use Rattle.tariff.proofs.judging.is_nothing.Tie as tie
 
 earned-number-requires : tie.Need-earned-number-requires
 earned-number-requires c κs = search needs
