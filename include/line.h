@@ -1,7 +1,7 @@
 /*
  * For C and C++ callers: the detail check, link with libdetail.a; a whole
- * evening of two engines over trays, scripts of evenings, next working days
- * and compensation dates, commissions by tariff key, link with libentries.a.
+ * evening of two engines over trays, scripts of evenings, next working days,
+ * compensation dates and commissions by tariff key, link with libentries.a.
  * Both libraries may be linked into one program.
  *
  * They are built for x86-64 Linux, with the System V calling convention, and
@@ -218,8 +218,8 @@ line_compensation line_compensation_date(uint32_t date);
  *   its rate       per ten thousand, 0 to 10,000
  *   the least      commission, smallest units, not above the greatest
  *   the greatest   commission, at most 99,999,999
- * Anything else, a length that is no multiple of 4 too, is a bad tariff. One
- * of length 0 is good and knows key 0 alone.
+ * Anything else is a bad tariff; so is a length that is no multiple of 4. A
+ * tariff of length 0 is good and knows key 0 alone.
  */
 
 /* A commission, or why there is none. */
@@ -232,9 +232,10 @@ typedef struct line_commissioned {
  * Works out the commission of a presented document from its tariff key, its
  * nominal and the commission that was typed: nominal times rate divided by
  * 10,000, an exact half going up, then raised to the key's least or cut to its
- * greatest. Key 0 keeps the typed commission. Link with libentries.a.
+ * greatest. Key 0 keeps the typed commission. Any numbers may be passed. Link
+ * with libentries.a.
  *
- * Codes, the first that applies, with any numbers passed:
+ * Codes, the first that applies:
  *   42  a bad tariff, also with key 0
  *    1  a nominal above 999,999,999,999 or a typed commission above
  *       99,999,999, whatever the key
@@ -242,8 +243,8 @@ typedef struct line_commissioned {
  * They are plain numbers: 42 is forty-two.
  *
  * Lengths: tariff_len counts numbers, not keys or bytes, and any length may be
- * passed as long as its bytes fit in PTRDIFF_MAX. More than 80 get 42 with
- * nothing read.
+ * passed as long as its bytes fit in PTRDIFF_MAX. More than 80, and a length
+ * that is no multiple of 4, get 42 with nothing read.
  *
  * Pointers: tariff must be valid for reading its whole length and aligned as
  * uint32_t. A null pointer is allowed with length 0.
@@ -266,9 +267,10 @@ typedef struct line_filled {
 
 /*
  * Works out the commission of every document of a tray of presented documents,
- * 51 bytes each, and writes it into the document: four bytes, packed digits,
- * of each document whose tariff key is not 0. All other bytes are kept. Link
- * with libentries.a.
+ * 51 bytes each, and writes it into each whose tariff key is not 0. Counted
+ * from 0, a document has its nominal in bytes 25 to 30, its tariff key in 41
+ * and 42, its commission in 43 to 46, all packed digits. Link with
+ * libentries.a.
  *
  * Codes, the first that applies, with nothing written:
  *   42  a bad tariff
@@ -277,15 +279,21 @@ typedef struct line_filled {
  *    1  a tariff key with a non-digit
  *    3  a nominal or a commission with a non-digit, whatever the key
  *   41  a key that is neither 0 nor in the tariff
- * Nothing else of a document is looked at: the detail check and the send do.
+ * The rest of a document is left to the detail check and the send.
  *
- * A tray of returns must not be passed: what stands at the key's place of a
- * return is its reason.
+ * Pass presented documents only: a return has its reason where the key stands,
+ * and the call would take it for a key.
  *
- * Lengths, pointers and threads: the tariff's are as for line_commission.
- * tray_len counts bytes, up to PTRDIFF_MAX; tray must be valid for reading and
- * writing its whole length and must not overlap the tariff, and of several
- * threads each has its own. A null pointer is allowed with length 0.
+ * Lengths: tariff_len is as for line_commission; tray_len counts bytes, up to
+ * PTRDIFF_MAX. 42 and 25 are given with nothing of the tray read.
+ *
+ * Pointers: the tariff's is as for line_commission; tray must be valid for
+ * reading and writing its whole length, and the two must not overlap. A null
+ * pointer is allowed with length 0.
+ *
+ * The call changes those commission bytes, nothing else, and keeps nothing.
+ * There is no global state, so several threads may call at once, each with its
+ * own tray, and on the same tariff while nobody writes it.
  */
 line_filled line_fill_commissions(const uint32_t *tariff, size_t tariff_len,
                                   uint8_t *tray, size_t tray_len);

@@ -3,29 +3,12 @@
    asks line_compensation_date for dates of every kind.
    Use: calendar_test, without arguments. */
 #include "line.h"
+#include "same.h"
 #include "unreadable.h"
-
-#include <inttypes.h>
-#include <stdio.h>
-#include <string.h>
 
 #define MORE 400
 /* What a place has before the call: no day. */
 #define UNTOUCHED 999
-
-#define COUNT(list) (sizeof(list) / sizeof *(list))
-
-static unsigned passed, failed;
-
-static void same(const char *what, uint32_t got, uint32_t wanted)
-{
-    if (got == wanted) {
-        passed++;
-        return;
-    }
-    failed++;
-    printf("%s: %" PRIu32 ", not %" PRIu32 "\n", what, got, wanted);
-}
 
 static uint16_t days[MORE];
 
@@ -41,7 +24,7 @@ static void try_list(const char *what, const uint16_t *list, size_t count,
     same(what, line_next_days(list, count, days, places), wanted);
     for (i = 0; i < MORE; i++)
         right += (days[i] != UNTOUCHED) == (i < table);
-    same(what, (uint32_t)right, MORE);
+    same(what, (int64_t)right, MORE);
 }
 
 /* A list with 365, 366 and 400 places; the table of the last is left. */
@@ -85,7 +68,7 @@ static void try_good_lists(void)
     uint16_t list[LINE_YEAR_DAYS];
     size_t count = unworked_2028(list), i;
 
-    same("unworked days of 2028", (uint32_t)count, 110);
+    same("unworked days of 2028", (int64_t)count, 110);
     try_places("2028", list, count);
     same_days("2028", 3, 7, 364, 0, 0);
 
@@ -174,6 +157,5 @@ int main(void)
     try_bad_lists();
     try_reading();
     try_dates();
-    printf("%u numbers passed, %u failed\n", passed, failed);
-    return failed > 0;
+    return counted();
 }

@@ -3,28 +3,15 @@
    Use: exchange_test, without arguments. */
 #include "example.h"
 #include "line.h"
+#include "same.h"
 #include "unreadable.h"
 
-#include <inttypes.h>
-#include <stdio.h>
 #include <string.h>
 
 /* The places of the receiving entity, the drawee and the nominal. */
 #define ENTITY 18
 #define DRAWEE 31
 #define NOMINAL 25
-
-static int passed, failed;
-
-static void same(const char *what, int64_t got, int64_t wanted)
-{
-    if (got == wanted) {
-        passed++;
-        return;
-    }
-    failed++;
-    fprintf(stderr, "%s: %" PRId64 ", not %" PRId64 "\n", what, got, wanted);
-}
 
 static void same_sums(const char *what, line_sums got, line_sums wanted)
 {
@@ -111,6 +98,5 @@ int main(void)
     run("a cut tray", example, 50, back, refused);
     try_lengths_alone();
 
-    printf("%d of %d numbers as wanted\n", passed, passed + failed);
-    return failed != 0;
+    return counted();
 }

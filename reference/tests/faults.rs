@@ -54,7 +54,7 @@ const SUBJECTS: [Subject; 2] = [
         play: tariff_script::play,
         generated: tariff::generated,
         fixed: tariff::fixed,
-        least: 24,
+        least: 28,
     },
 ];
 

@@ -1,8 +1,10 @@
 //! The commission of one presented document.
 
-use super::keys::{self, Key, MOST_COMMISSION, MOST_RATE};
+use super::keys::{self, Key, MOST_COMMISSION};
 use super::rounding::rounded;
 
+/// Rates are counted in so many parts of the nominal.
+pub const PARTS: u64 = 10_000;
 /// What the twelve digits of a document can state.
 pub const MOST_NOMINAL: u64 = 999_999_999_999;
 
@@ -49,7 +51,7 @@ pub fn by_key(keys: &[Key], number: u32, nominal: u64, typed: u64) -> Option<u64
 
 /// The nominal has at most twelve digits and the rate five, so that the product fits.
 fn worked_out(key: &Key, nominal: u64) -> u64 {
-    let commission = rounded(nominal * u64::from(key.rate), u64::from(MOST_RATE));
+    let commission = rounded(nominal * u64::from(key.rate), PARTS);
     commission
         .max(u64::from(key.least))
         .min(u64::from(key.greatest))

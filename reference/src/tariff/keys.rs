@@ -4,7 +4,7 @@
 pub const NUMBERS: usize = 4;
 pub const MOST_KEYS: usize = 20;
 pub const LAST_NUMBER: u32 = 9_999;
-/// Takes the whole nominal: rates are per ten thousand.
+/// Takes the whole nominal.
 pub const MOST_RATE: u32 = 10_000;
 /// What the eight digits of a document can state.
 pub const MOST_COMMISSION: u32 = 99_999_999;

@@ -1,12 +1,11 @@
 //! Nominals, commissions and keys at random, many of them where the answers change.
 
 use crate::random::Random;
-use crate::tariff::commission::MOST_NOMINAL;
+use crate::tariff::commission::{MOST_NOMINAL, PARTS};
 use crate::tariff::keys::{Key, LAST_NUMBER, MOST_COMMISSION, MOST_RATE};
 
 /// Products of nominal and rate count ten-thousandths of a unit of commission.
-const UNIT: u64 = MOST_RATE as u64;
-const HALF: u64 = UNIT / 2;
+const HALF: u64 = PARTS / 2;
 
 /// Of any number of digits up to this one, each number of digits as often as the others.
 fn of_digits(random: &mut Random, most: usize) -> u64 {
@@ -79,9 +78,9 @@ pub fn nominal_for(random: &mut Random, key: &Key) -> u64 {
 
 /// Not every rate has an exact half; ten thousand above one is another.
 fn near_a_half(random: &mut Random, rate: u32) -> u64 {
-    let gives_a_half = |nominal: &u64| nominal * u64::from(rate) % UNIT == HALF;
-    let first = (0..UNIT).find(gives_a_half);
-    let nominal = first.unwrap_or(0) + UNIT * of_digits(random, 4);
+    let gives_a_half = |nominal: &u64| nominal * u64::from(rate) % PARTS == HALF;
+    let first = (0..PARTS).find(gives_a_half);
+    let nominal = first.unwrap_or(0) + PARTS * of_digits(random, 4);
     (nominal + random.one_of(&[0, 1, 1, 1, 2])).saturating_sub(1)
 }
 

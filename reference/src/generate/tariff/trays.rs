@@ -5,6 +5,7 @@ use super::{amounts, lent, number_and_nominal, spoils, unknown};
 use crate::bodies::Document;
 use crate::packed;
 use crate::random::Random;
+use crate::session::detail::DOCUMENT;
 use crate::tariff::keys::{Key, LAST_NUMBER};
 use crate::tariff::tray::{COMMISSION, NOMINAL, TARIFF_KEY};
 use crate::tariff_script::tray;
@@ -22,7 +23,7 @@ pub fn documents(random: &mut Random, keys: &[Key], count: usize) -> Vec<Documen
 }
 
 fn document(random: &mut Random, keys: &[Key]) -> Document {
-    let mut document = [0; 51];
+    let mut document = [0; DOCUMENT];
     document.fill_with(|| random.byte());
     let (number, nominal) = number_and_nominal(random, keys);
     stating(document, number, nominal, amounts::typed(random))
@@ -130,7 +131,7 @@ fn no_whole_documents(random: &mut Random, keys: &[Key]) -> String {
         let mut documents = documents(random, keys, count);
         spoil_often(random, keys, &mut documents[0]);
         let last = documents.len() - 1;
-        let bytes = &documents.as_flattened()[..51 * last + left_over];
+        let bytes = &documents.as_flattened()[..DOCUMENT * last + left_over];
         text += &tray(&lent(keys), bytes);
         text += &tray(&spoils::any(random, keys), bytes);
     }
