@@ -55,12 +55,15 @@ good-tariffs : AllDue
 unfolding goodTariff rowsOf noneTwice every member cut keys
 good-tariffs = refl
 
--- a tenth, with bounds that no case reaches and with 10 and 20; the whole nominal; and two keys with nothing but bounds
+-- a tenth, with bounds that no case reaches and with 10 and 20; the smallest rate; the whole nominal; two keys with nothing but bounds
 tenth : List ℕ
 tenth = 7 ∷ 1000 ∷ 0 ∷ 99999999 ∷ []
 
 bounded : List ℕ
 bounded = 7 ∷ 1000 ∷ 10 ∷ 20 ∷ []
+
+smallest : List ℕ
+smallest = 7 ∷ 1 ∷ 0 ∷ 99999999 ∷ []
 
 whole : List ℕ
 whole = 7 ∷ 10000 ∷ 0 ∷ 99999999 ∷ []
@@ -85,8 +88,11 @@ halves : AllDue
     ∷ gives tenth 7 26 0 is 3
     ∷ gives tenth 7 34 0 is 3
     ∷ gives tenth 7 35 0 is 4
+    ∷ gives smallest 7 4999 0 is 0
+    ∷ gives smallest 7 5000 0 is 1
+    ∷ gives smallest 7 5001 0 is 1
     ∷ [])
-unfolding commissioned commissionRefusal goodTariff rowsOf noneTwice every member cut ruleOf searched numbered due byRow rounded _when_ _orelse_ tenth
+unfolding commissioned commissionRefusal goodTariff rowsOf noneTwice every member cut ruleOf searched numbered due byRow rounded _when_ _orelse_ tenth smallest
 halves = refl
 
 commissions : AllDue
@@ -143,6 +149,7 @@ trays : AllDue
     ∷ answer tenth (document 7 30 0 ++ document 0 30 9) is (0 ∷ 2 ∷ [])
     ∷ trayAfter tenth (document 7 30 0 ++ document 0 30 9) is (document 7 30 3 ++ document 0 30 9)
     ∷ trayAfter whole (document 7 999999999999 5) is document 7 999999999999 99999999
+    ∷ trayAfter (1 ∷ 0 ∷ 4 ∷ 4 ∷ []) (document 1 30 0) is document 1 30 4
     -- 42, then 25, then a document's, and none counted
     ∷ answer bad (drop 1 (document 7 30 0)) is (42 ∷ 0 ∷ [])
     ∷ answer tenth (drop 1 (document 7 30 0)) is (25 ∷ 0 ∷ [])
