@@ -1,6 +1,5 @@
 // What a reading of documents finds, one or many: whether none earns 01, 03 or 06, and their totals.
 use crate::COMMISSION;
-use crate::COMMISSION_BYTES;
 use crate::NOMINAL;
 use crate::NOMINAL_BYTES;
 use crate::digits::all_digits;
@@ -11,6 +10,7 @@ use amounts::Documents;
 use amounts::Nominal;
 use amounts::Totals;
 use packed::number::number;
+use packed::number::number4;
 ghost use mathlib.Core.Path.{_≡_};
 ghost use lib.ListN.{length};
 ghost use Rattle.amounts.specs.Inner.Fits.{SumFits};
@@ -62,6 +62,7 @@ pub fn read_document(d: &[u8], operation: u8, receiving: u16, represented: &[u16
     ensures bound { λ r. ⌜ Within 1 (r .totals) ⌝ }
 {
     let digits = all_digits(d);
+    let commission = number4(d, COMMISSION) as u64;
     Found {
         fields: digits.fields & values_good(d, operation, receiving),
         amounts: digits.amounts,
@@ -69,7 +70,7 @@ pub fn read_document(d: &[u8], operation: u8, receiving: u16, represented: &[u16
         totals: Totals {
             documents: Documents(1),
             nominal: Nominal(number(d, NOMINAL, NOMINAL_BYTES)),
-            commission: Commission(number(d, COMMISSION, COMMISSION_BYTES)),
+            commission: Commission(commission),
         },
     }
 }

@@ -12,11 +12,14 @@ use codes::code::Code;
 use packed::digits::are_digits;
 use packed::number::number;
 use packed::number::number2;
+use packed::number::number4;
 use packed::writing::put;
 ghost use mathlib.Core.Path.{_≡_};
 ghost use Prim.Native.Nat.{_+_, _≤_};
 ghost use lib.ListN.{length};
 ghost use lib.Seq.{sets};
+ghost use Rattle.packed.specs.Part.{part};
+ghost use Rattle.packed.specs.Number.{number};
 ghost use Rattle.message.specs.Limits.{lotTotalBytes, sessionTotalBytes};
 ghost use Rattle.message.specs.Layout.{readBody, writtenBody};
 ghost use Rattle.message.specs.Inner.Widths.{totalFields, total};
@@ -55,6 +58,19 @@ pub enum ReadTotal {
     Wrong(Code),
 }
 
+// The documents, whatever their digits, in a field of this width. The four bytes of a session total have a reading of
+// their own.
+fn documents_of(body: &[u8], width: usize) -> u64
+    requires { ⌜ 5 + width ≤ length (now body) ⌝ }
+    requires { ⌜ width ≤ 9 ⌝ }
+    ensures { λ r. ⌜ r ≡ number (part 5 width (now (body .entry))) ⌝ }
+{
+    if width == SESSION_DOCUMENTS {
+        return number4(body, DOCUMENTS) as u64;
+    }
+    number(body, DOCUMENTS, width)
+}
+
 // The four numbers, whatever their digits, where documents, nominal and commission have these widths.
 fn fields_of(body: &[u8], documents: usize, nominal: usize, commission: usize) -> Total
     requires { ⌜ 5 + documents + nominal + commission ≤ length (now body) ⌝ }
@@ -67,7 +83,7 @@ fn fields_of(body: &[u8], documents: usize, nominal: usize, commission: usize) -
     Total {
         number: number2(body, FIELDS),
         stated: Totals {
-            documents: Documents(number(body, DOCUMENTS, documents)),
+            documents: Documents(documents_of(body, documents)),
             nominal: Nominal(number(body, nominal_at, nominal)),
             commission: Commission(number(body, nominal_at + nominal, commission)),
         },

@@ -6,10 +6,11 @@ ghost use Rattle.packed.specs.Part.{part};
 ghost use Rattle.packed.specs.Number.{byteValue, number};
 
 // The value of one byte, 0 to 165.
-pub fn byte_value(b: u8) -> u64
-    ensures { λ r. ⌜ r ≡ byteValue b ⌝ }
+pub fn byte_value(b: u8) -> u16
+    ensures value { λ r. ⌜ r ≡ byteValue b ⌝ }
+    ensures bound { λ r. ⌜ r ≤ 165 ⌝ }
 {
-    let wide = b as u64;
+    let wide = b as u16;
     wide - wide / 16 * 6
 }
 
@@ -25,24 +26,26 @@ pub fn number(s: &[u8], at: usize, n: usize) -> u64
     let mut value: u64 = 0;
     let mut i = at;
     while i < end {
-        value = value * 100 + byte_value(s[i]);
+        value = value * 100 + byte_value(s[i]) as u64;
         i += 1;
     }
     value
 }
 
-// The value of two bytes, as an entity or an order number.
+// The value of two bytes, as an entity or an order number. The largest is 16,665, and nothing on the way needs more than
+// 16 bits.
 pub fn number2(s: &[u8], at: usize) -> u16
     requires { ⌜ at + 2 ≤ length (now s) ⌝ }
     ensures { λ r. ⌜ r ≡ number (part at 2 (now (s .entry))) ⌝ }
 {
-    number(s, at, 2) as u16
+    byte_value(s[at]) * 100 + byte_value(s[at + 1])
 }
 
-// The value of four bytes, as a serial or a document's number.
+// The value of four bytes, as a serial or a commission. The largest is 166,666,665, and nothing on the way needs more than
+// 32 bits.
 pub fn number4(s: &[u8], at: usize) -> u32
     requires { ⌜ at + 4 ≤ length (now s) ⌝ }
     ensures { λ r. ⌜ r ≡ number (part at 4 (now (s .entry))) ⌝ }
 {
-    number(s, at, 4) as u32
+    number2(s, at) as u32 * 10_000 + number2(s, at + 2) as u32
 }

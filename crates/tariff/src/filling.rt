@@ -10,6 +10,7 @@ use document::NOMINAL;
 use document::NOMINAL_BYTES;
 use packed::number::number;
 use packed::number::number2;
+use packed::number::number4;
 use packed::writing::put;
 ghost use mathlib.Core.Path.{_≡_};
 ghost use mathlib.Core.Bool.{true};
@@ -30,7 +31,7 @@ fn fill_document(tariff: &[u32], d: &mut [u8])
     let key = number2(d, TARIFF_KEY) as u32;
     if key != 0 {
         let nominal = number(d, NOMINAL, NOMINAL_BYTES);
-        let typed = number(d, COMMISSION, COMMISSION_BYTES);
+        let typed = number4(d, COMMISSION) as u64;
         let rule = rule_of(tariff, key);
         put(d, COMMISSION, COMMISSION_BYTES, due(rule, nominal, typed));
     }

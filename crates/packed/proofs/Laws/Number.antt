@@ -1,19 +1,22 @@
--- Laws of the value of packed bytes: the step of a reading, the value of two runs end to end, the bounds, and that digits of one length and
--- one value are the same bytes.
+-- Laws of the value of packed bytes: the value of two runs end to end, which every reading rests on, the bounds, and that digits of one
+-- length and one value are the same bytes.
 use mathlib.Core.Path.{_≡_, refl, ap, sym, _∙_}
 use mathlib.Core.Bool.{true}
 use mathlib.Core.List.{List, [], _∷_, _++_}
-use Prim.Native.Nat.{ℕ, _+_, _*_, _^_, _/_, _%_, _≤_, _<_}
+use Prim.Native.Nat.{ℕ, zero, suc, _+_, _*_, _^_, _/_, _%_, _≤_, _<_}
 use native.Mathlib.Nat.{zero-mul, zero-add, add-zero, mul-one, add-mul, mul-assoc, add-assoc, pow-suc, pow-succ', pow-le-pow-right}
 use native.Mathlib.Numerals.{add-one}
 use native.Mathlib.Omega.{arith}
 use lib.Arith.{digits-lt, digits-div, digits-mod}
-use lib.Dec.{lit<}
+use lib.Dec.{lit<, lit≤}
 use lib.Pow.{pow-add}
-use lib.ListN.{length, length-append}
+use lib.ListN.{length, length-append, getD}
+use lib.Seq.{drop-cons}
+use Rattle.packed.specs.Part.{part}
 use Rattle.packed.specs.Every.{every}
 use Rattle.packed.specs.Digits.{isDigits, areDigits}
 use Rattle.packed.specs.Number.{byteValue, number}
+use Rattle.packed.proofs.Laws.Part.{part-length, part-split}
 use Rattle.packed.proofs.Laws.Every.{every-cons}
 use Rattle.packed.proofs.Laws.Digits.{halves}
 
@@ -22,26 +25,34 @@ example : number (0x00 ∷ 0x00 ∷ 0x00 ∷ 0x01 ∷ 0x50 ∷ 0x00 ∷ []) ≡ 
 unfolding number byteValue
 example = refl
 
--- a value v read so far, and the bytes that are left
-pub numberAfter : ℕ → List ℕ → ℕ
-numberAfter v bs = v * 100 ^ length bs + number bs
+-- and what no digits are worth at most, in two bytes and in four
+most-two : number (0xFF ∷ 0xFF ∷ []) ≡ 16665
+unfolding number byteValue
+most-two = refl
 
-pub after-none : (v : ℕ) → numberAfter v [] ≡ v
-unfolding numberAfter number
-after-none v = add-zero (v * 1) ∙ mul-one v
-
-pub after-start : (bs : List ℕ) → numberAfter 0 bs ≡ number bs
-unfolding numberAfter
-after-start bs = rw (zero-mul, zero-add)
-
-pub after-step : (v b : ℕ) (bs : List ℕ) → numberAfter (v * 100 + byteValue b) bs ≡ numberAfter v (b ∷ bs)
-unfolding numberAfter number
-after-step v b bs = simp (pow-succ', add-mul, mul-assoc, add-assoc)
+most-four : number (0xFF ∷ 0xFF ∷ 0xFF ∷ 0xFF ∷ []) ≡ 166666665
+unfolding number byteValue
+most-four = refl
 
 pub number-append : (xs ys : List ℕ) → number (xs ++ ys) ≡ number xs * 100 ^ length ys + number ys
 unfolding number
 number-append [] ys = rw (zero-mul, zero-add)
 number-append (x ∷ xs) ys = simp (number-append xs ys, length-append xs ys, pow-add, add-mul, mul-assoc, add-assoc)
+
+-- the law behind every reading, whatever its width: of two runs end to end the first weighs a hundred for each byte of the second
+pub number-split : (at m n : ℕ) (s : List ℕ) → at + m + n ≤ length s → number (part at (m + n) s) ≡ number (part at m s) * 100 ^ n + number (part (at + m) n s)
+number-split at m n s h =
+    ap number (part-split at m n s)
+    ∙ number-append (part at m s) (part (at + m) n s)
+    ∙ ap (λ (k : ℕ). number (part at m s) * 100 ^ k + number (part (at + m) n s)) (part-length (at + m) n s h)
+
+pub number-one : (at : ℕ) (s : List ℕ) → at < length s → number (part at 1 s) ≡ byteValue (getD s at 0)
+unfolding number
+number-one at s h = rw (drop-cons s at 0) (add-zero (byteValue (getD s at 0) * 1) ∙ mul-one (byteValue (getD s at 0)))
+
+-- and one byte more
+pub number-step : (at n : ℕ) (s : List ℕ) → at + n < length s → number (part at (n + 1) s) ≡ number (part at n s) * 100 + byteValue (getD s (at + n) 0)
+number-step at n s h = number-split at n 1 s (omega arith) ∙ ap (λ (v : ℕ). number (part at n s) * 100 + v) (number-one (at + n) s h)
 
 -- a value is at most that of k bytes FF, each worth 165: 165 * (100 ^ k - 1) / 99, here without the division
 abbrev pub Grown : (k v : ℕ) → Type 0
@@ -51,12 +62,21 @@ pub byte-most : (b : ℕ) → b < 256 → byteValue b ≤ 165
 unfolding byteValue
 byte-most b h = omega arith
 
+grown-step : (k v p : ℕ) → Grown k v → p ≤ 165 → Grown (k + 1) (v * 100 + p)
+grown-step k v p g h = rw (add-one, pow-suc) (omega arith)
+
+-- which holds of any bytes
+pub number-grown : (at n : ℕ) (s : List ℕ) → ((i : ℕ) → getD s i 0 < 256) → at + n ≤ length s → Grown n (number (part at n s))
+unfolding number
+number-grown at zero s bytes h = lit≤ tt
+number-grown at (suc n) s bytes h =
+    let b = getD s (at + n) 0 in
+    rw (← add-one n, number-step at n s (omega arith))
+    (grown-step n (number (part at n s)) (byteValue b) (number-grown at n s bytes (omega arith)) (byte-most b (bytes (at + n))))
+
 -- so nine bytes fit 64 bits: after eight the value is below 2 * 10 ^ 16, and the ninth makes it a hundred times that
 pub grown-eight : (k v : ℕ) → k ≤ 8 → Grown k v → v ≤ 16666666666666665
 grown-eight k v h g = omega (arith, pow-le-pow-right {n = 100} (lit< tt) h)
-
-pub grown-step : (k v p : ℕ) → Grown k v → p ≤ 165 → Grown (k + 1) (v * 100 + p)
-grown-step k v p g h = rw (add-one, pow-suc) (omega arith)
 
 pub byte-below : (b : ℕ) → isDigits b ≡ true → byteValue b < 100
 unfolding byteValue

@@ -1,8 +1,10 @@
 -- `read_document` puts together what the tests and the readings of amounts find.
 use mathlib.Core.Path.{sym, _∙_}
 use mathlib.Core.Bool.{_&&_}
+use Prim.Native.Nat.{ℕ}
 use native.Mathlib.Omega.{arith}
 use borrow.Author.Needs.{needs}
+use Rattle.packed.proofs.Laws.Number.{number-grown}
 use Rattle.amounts.specs.Totals.{totals}
 use Rattle.document.specs.Amounts.{nominal, commission}
 use Rattle.document.proofs.Laws.Fields.{fields-split, amounts-split}
@@ -11,6 +13,12 @@ use Rattle.document.proofs.found.read_document.Tie as tie
 
 all-digits-requires : tie.Need-all-digits-requires
 all-digits-requires c κs = search needs
+
+number4-requires : tie.Need-number4-requires
+number4-requires c κs = search needs
+
+cast-commission : tie.Need-cast-commission
+cast-commission c = search needs
 
 values-good-requires : tie.Need-values-good-requires
 values-good-requires c κs = search needs
@@ -21,19 +29,19 @@ drawee-served-requires c κs = search needs
 number-requires : tie.Need-number-requires
 number-requires c κs = search needs
 
-number-requires-2 : tie.Need-number-requires-2
-number-requires-2 c κs = search needs
-
 returns : tie.Need-returns
 unfolding nominal commission
 returns c =
-    let t = c .before .before .before .before .before in
-    let a = t .before .before .before .args in
+    let r = c .before .before .before .before in
+    let t = r .before in
+    let s = t .before .before in
+    let a = s .before .args in
     let digits = t .all-digits .ensures in
-    let fields = (λ i. digits .0 i && c .before .before .before .before .values-good .ensures i) ∙ sym (fields-split (a .operation) (a .receiving) (a .d .now)) in
-    let amounts = digits .1 ∙ sym (amounts-split (a .operation) (a .receiving) (a .d .now)) in (
-      λ i. record { fields = fields i; amounts = amounts i; served = c .before .before .drawee-served .ensures i; totals = totals 1 (c .before .number .ensures .0 i) (c .number2 .ensures .0 i) },
-      record { documents = omega arith; nominal = omega arith; commission = omega arith },
+    let fields = (λ i. digits .0 i && c .before .before .before .values-good .ensures i) ∙ sym (fields-split (a .operation) (a .receiving) (a .d .now)) in
+    let amounts = digits .1 ∙ sym (amounts-split (a .operation) (a .receiving) (a .d .now)) in
+    let grown = number-grown 43 4 (a .d .now) (λ (i : ℕ). s .shared-slice-known .given i .fits) (omega arith) in (
+      λ i. record { fields = fields i; amounts = amounts i; served = c .before .drawee-served .ensures i; totals = totals 1 (c .number .ensures .0 i) (r .number4 .ensures i) },
+      record { documents = omega arith; nominal = omega arith; commission = omega (arith, r .number4 .ensures, grown) },
     )
 
 pub read-document-spec : {M : Type 1} → statement M
@@ -41,8 +49,9 @@ read-document-spec =
     tie.close
     (tie.spec
     all-digits-requires
+    number4-requires
+    cast-commission
     values-good-requires
     drawee-served-requires
     number-requires
-    number-requires-2
     returns)

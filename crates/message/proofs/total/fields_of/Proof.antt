@@ -16,26 +16,26 @@ add-nominal-at c = search needs
 number2-requires : tie.Need-number2-requires
 number2-requires c κs = search needs
 
+documents-of-requires : tie.Need-documents-of-requires
+documents-of-requires c κs = search needs
+
 number-requires : tie.Need-number-requires
 number-requires c κs = search needs
-
-number-requires-2 : tie.Need-number-requires-2
-number-requires-2 c κs = search needs
 
 add-number : tie.Need-add-number
 add-number c = search needs
 
-number-requires-3 : tie.Need-number-requires-3
-number-requires-3 c κs = search needs
+number-requires-2 : tie.Need-number-requires-2
+number-requires-2 c κs = search needs
 
 returns : tie.Need-returns
 unfolding totalFields
 returns c =
     let a = c .before .before .before .before .before .args in
     let at : ℕ → ℕ → ℕ = λ (width place : ℕ). number (part place width (a .body .now)) in
-    let nominal = c .before .number3 .ensures .0 ∙ ap (at (a .nominal)) (sym (nominal-at (a .documents) (a .nominal) (a .commission))) in
-    let commission = c .number4 .ensures .0 ∙ ap (at (a .commission)) (sym (commission-at (a .documents) (a .nominal) (a .commission))) in
-    λ i. record { number = c .before .before .before .number2 .ensures i; stated = totals (c .before .before .number .ensures .0 i) (nominal i) (commission i) }
+    let nominal = c .before .number .ensures .0 ∙ ap (at (a .nominal)) (sym (nominal-at (a .documents) (a .nominal) (a .commission))) in
+    let commission = c .number3 .ensures .0 ∙ ap (at (a .commission)) (sym (commission-at (a .documents) (a .nominal) (a .commission))) in
+    λ i. record { number = c .before .before .before .number2 .ensures i; stated = totals (c .before .before .documents-of .ensures i) (nominal i) (commission i) }
 
 pub fields-of-spec : {M : Type 1} → statement M
 fields-of-spec =
@@ -43,8 +43,8 @@ fields-of-spec =
     (tie.spec
     add-nominal-at
     number2-requires
+    documents-of-requires
     number-requires
-    number-requires-2
     add-number
-    number-requires-3
+    number-requires-2
     returns)

@@ -26,8 +26,11 @@ cast-key c = search needs
 number-requires : tie.Need-number-requires
 number-requires c κs = search needs
 
-number-requires-2 : tie.Need-number-requires-2
-number-requires-2 c κs = search needs
+number4-requires : tie.Need-number4-requires
+number4-requires c κs = search needs
+
+cast-typed : tie.Need-cast-typed
+cast-typed c = search needs
 
 rule-of-requires : tie.Need-rule-of-requires
 rule-of-requires c κs =
@@ -63,7 +66,7 @@ returns c =
     let d = s .args .d .now in
     let rows = rowsOf (s .args .tariff .now) in
     let rule = r .rule-of .ensures ∙ ap (ruleOf rows) (k .number2 .ensures) in
-    let worth = u .due .ensures ∙ (λ i. due (rule i) (n .number .ensures .0 i) (m .number3 .ensures .0 i)) in
+    let worth = u .due .ensures ∙ (λ i. due (rule i) (n .number .ensures .0 i) (m .number4 .ensures i)) in
     p .put .ensures
     ∙ ap (λ (v : ℕ). sets d 43 (packedBytes 4 v)) worth
     ∙ written-key rows d (λ e. n .before .before .if1 .taken (k .number2 .ensures ∙ e))
@@ -84,7 +87,8 @@ fill-document-spec =
     number2-requires
     cast-key
     number-requires
-    number-requires-2
+    number4-requires
+    cast-typed
     rule-of-requires
     due-requires
     put-requires
