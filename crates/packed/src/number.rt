@@ -5,12 +5,12 @@ ghost use lib.ListN.{length};
 ghost use Rattle.packed.specs.Part.{part};
 ghost use Rattle.packed.specs.Number.{byteValue, number};
 
-// The value of one byte, 0 to 165.
-pub fn byte_value(b: u8) -> u16
+// The value of one byte.
+pub fn byte_value(b: u8) -> u32
     ensures value { λ r. ⌜ r ≡ byteValue b ⌝ }
     ensures bound { λ r. ⌜ r ≤ 165 ⌝ }
 {
-    let wide = b as u16;
+    let wide = b as u32;
     wide - wide / 16 * 6
 }
 
@@ -32,20 +32,23 @@ pub fn number(s: &[u8], at: usize, n: usize) -> u64
     value
 }
 
-// The value of two bytes, as an entity or an order number. The largest is 16,665, and nothing on the way needs more than
-// 16 bits.
+// The value of two bytes, as an entity or an order number: 16,665 at most, and nothing on the way needs more than 16 bits.
+// Both bytes are taken as one number, in which the digits weigh 4,096, 256, 16 and 1; less 6 for each 16, 60 for each 256
+// and 600 for each 4,096 they weigh 1,000, 100, 10 and 1.
 pub fn number2(s: &[u8], at: usize) -> u16
     requires { ⌜ at + 2 ≤ length (now s) ⌝ }
     ensures { λ r. ⌜ r ≡ number (part at 2 (now (s .entry))) ⌝ }
 {
-    byte_value(s[at]) * 100 + byte_value(s[at + 1])
+    let both = s[at] as u16 * 256 + s[at + 1] as u16;
+    both - both / 16 * 6 - both / 256 * 60 - both / 4096 * 600
 }
 
-// The value of four bytes, as a serial or a commission. The largest is 166,666,665, and nothing on the way needs more than
-// 32 bits.
+// The value of four bytes, as a serial or a commission: 166,666,665 at most, and nothing on the way needs more than 32 bits.
 pub fn number4(s: &[u8], at: usize) -> u32
     requires { ⌜ at + 4 ≤ length (now s) ⌝ }
     ensures { λ r. ⌜ r ≡ number (part at 4 (now (s .entry))) ⌝ }
 {
-    number2(s, at) as u32 * 10_000 + number2(s, at + 2) as u32
+    let two = byte_value(s[at]) * 100 + byte_value(s[at + 1]);
+    let three = two * 100 + byte_value(s[at + 2]);
+    three * 100 + byte_value(s[at + 3])
 }

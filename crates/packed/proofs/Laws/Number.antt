@@ -1,9 +1,9 @@
--- Laws of the value of packed bytes: the value of two runs end to end, which every reading rests on, the bounds, and that digits of one
--- length and one value are the same bytes.
+-- Laws of the value of packed bytes: one byte more, which every reading goes by, whatever its width; two bytes as one number; the bounds; and
+-- that digits of one length and one value are the same bytes.
 use mathlib.Core.Path.{_≡_, refl, ap, sym, _∙_}
 use mathlib.Core.Bool.{true}
 use mathlib.Core.List.{List, [], _∷_, _++_}
-use Prim.Native.Nat.{ℕ, zero, suc, _+_, _*_, _^_, _/_, _%_, _≤_, _<_}
+use Prim.Native.Nat.{ℕ, zero, suc, _+_, _-_, _*_, _^_, _/_, _%_, _≤_, _<_}
 use native.Mathlib.Nat.{zero-mul, zero-add, add-zero, mul-one, add-mul, mul-assoc, add-assoc, pow-suc, pow-succ', pow-le-pow-right}
 use native.Mathlib.Numerals.{add-one}
 use native.Mathlib.Omega.{arith}
@@ -25,7 +25,7 @@ example : number (0x00 ∷ 0x00 ∷ 0x00 ∷ 0x01 ∷ 0x50 ∷ 0x00 ∷ []) ≡ 
 unfolding number byteValue
 example = refl
 
--- and what no digits are worth at most, in two bytes and in four
+-- and the most that two bytes and four are worth, which no digits reach
 most-two : number (0xFF ∷ 0xFF ∷ []) ≡ 16665
 unfolding number byteValue
 most-two = refl
@@ -39,8 +39,8 @@ unfolding number
 number-append [] ys = rw (zero-mul, zero-add)
 number-append (x ∷ xs) ys = simp (number-append xs ys, length-append xs ys, pow-add, add-mul, mul-assoc, add-assoc)
 
--- the law behind every reading, whatever its width: of two runs end to end the first weighs a hundred for each byte of the second
-pub number-split : (at m n : ℕ) (s : List ℕ) → at + m + n ≤ length s → number (part at (m + n) s) ≡ number (part at m s) * 100 ^ n + number (part (at + m) n s)
+-- of two runs end to end the first weighs a hundred for each byte of the second
+number-split : (at m n : ℕ) (s : List ℕ) → at + m + n ≤ length s → number (part at (m + n) s) ≡ number (part at m s) * 100 ^ n + number (part (at + m) n s)
 number-split at m n s h =
     ap number (part-split at m n s)
     ∙ number-append (part at m s) (part (at + m) n s)
@@ -50,15 +50,31 @@ pub number-one : (at : ℕ) (s : List ℕ) → at < length s → number (part at
 unfolding number
 number-one at s h = rw (drop-cons s at 0) (add-zero (byteValue (getD s at 0) * 1) ∙ mul-one (byteValue (getD s at 0)))
 
--- and one byte more
+-- the law behind every reading: with one byte more, a hundred times what was read and the byte
 pub number-step : (at n : ℕ) (s : List ℕ) → at + n < length s → number (part at (n + 1) s) ≡ number (part at n s) * 100 + byteValue (getD s (at + n) 0)
 number-step at n s h = number-split at n 1 s (omega arith) ∙ ap (λ (v : ℕ). number (part at n s) * 100 + v) (number-one (at + n) s h)
+
+-- two bytes as one number: without its last digit, its last two, its last three; and less 6 for each 16, 60 for each 256, 600 for each 4,096,
+-- which leaves 10, 100 and 1,000 of them
+module _ (x y : ℕ) (h : y < 256) where
+  by-16 : (x * 256 + y) / 16 ≡ x * 16 + y / 16
+  by-16 = omega arith
+
+  by-256 : (x * 256 + y) / 256 ≡ x
+  by-256 = omega arith
+
+  by-4096 : (x * 256 + y) / 4096 ≡ x / 16
+  by-4096 = omega arith
+
+  pub two-bytes : x * 256 + y - (x * 256 + y) / 16 * 6 - (x * 256 + y) / 256 * 60 - (x * 256 + y) / 4096 * 600 ≡ byteValue x * 100 + byteValue y
+  unfolding byteValue
+  two-bytes = rw (by-16, by-256, by-4096) (omega arith)
 
 -- a value is at most that of k bytes FF, each worth 165: 165 * (100 ^ k - 1) / 99, here without the division
 abbrev pub Grown : (k v : ℕ) → Type 0
 Grown k v = 3 * v + 5 ≤ 5 * 100 ^ k
 
-pub byte-most : (b : ℕ) → b < 256 → byteValue b ≤ 165
+byte-most : (b : ℕ) → b < 256 → byteValue b ≤ 165
 unfolding byteValue
 byte-most b h = omega arith
 
