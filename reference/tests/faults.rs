@@ -96,7 +96,7 @@ struct Caught {
 #[test]
 fn every_fault_is_caught() {
     let faults = faults();
-    assert!(faults.len() >= 100, "only {} faults", faults.len());
+    assert!(faults.len() >= 170, "only {} faults", faults.len());
     let workshop = Workshop::new();
     assert!(
         matches!(workshop.outcome(0, None), Outcome::Missed),

@@ -5,7 +5,7 @@ use super::centre::Sort;
 use super::course;
 use super::end::End;
 use super::evening::Evening;
-use super::fields;
+use super::fields::{self, PAST_16_BITS};
 use super::message;
 use crate::bodies::RETURN;
 use crate::hex;
@@ -34,8 +34,16 @@ pub fn present(evening: &mut Evening) {
         5 => reply.truncate(random.one_of(&[0, 12, 15])),
         6 => reply.push(0),
         7 | 8 => reply[15] = random.one_of(&KNOWN_CODES),
+        9 => reply_far_ahead(evening, &reply),
         _ => {}
     }
+    evening.reply(End::A, &hex::write(&reply), &reply);
+}
+
+/// Before the good reply one whose serial would be the same in 16 bits.
+fn reply_far_ahead(evening: &mut Evening, good: &[u8]) {
+    let mut reply = good.to_vec();
+    fields::raise(&mut reply[8..12], PAST_16_BITS);
     evening.reply(End::A, &hex::write(&reply), &reply);
 }
 

@@ -4,7 +4,7 @@
 use super::edged_sends;
 use super::end::End;
 use super::evening::{Evening, HEADER_LIMITS};
-use super::fields;
+use super::fields::{self, PAST_16_BITS};
 use super::foreign::Foreign;
 use super::message;
 use crate::bodies::PRESENTED;
@@ -39,12 +39,15 @@ fn move_on(evening: &mut Evening) {
     }
 }
 
-/// The last serial again with another body, or one that is not due.
+/// The last serial again with another body, or one that is not due. In 16 bits two of these would
+/// be the last and the next.
 fn other_serial(evening: &mut Evening, foreign: &mut Foreign) {
     let body = foreign.body(evening);
     let pair = foreign.pair(evening);
     let last = foreign.serial;
-    let serials = [last, last, last.saturating_sub(1), last + 2, 99_999_999];
+    let far = last + PAST_16_BITS;
+    let before = last.saturating_sub(1);
+    let serials = [last, last, before, last + 2, far, far + 1, 99_999_999];
     let serial = evening.draft.random.one_of(&serials);
     foreign.hand_whole(evening, &message::message(pair, serial, &body));
 }

@@ -4,6 +4,11 @@ use super::message::packed;
 use crate::packed;
 use crate::random::Random;
 
+/// So much more would be the same number in 8 bits.
+pub const PAST_8_BITS: u64 = 1 << 8;
+/// So much more would be the same number in 16 bits.
+pub const PAST_16_BITS: u64 = 1 << 16;
+
 /// A packed field at the paper's position; ends of amounts stand in the tables once more.
 pub struct Field {
     first: usize,
@@ -102,6 +107,11 @@ pub fn change(random: &mut Random, bytes: &mut [u8], origin: isize, fields: &[Fi
         14 => random.digits(place),
         _ => place.reverse(),
     }
+}
+
+/// The packed number becomes so much more.
+pub fn raise(place: &mut [u8], by: u64) {
+    packed::write(packed::value(place) + by, place);
 }
 
 /// One half of one byte becomes more than 9.

@@ -4,6 +4,7 @@
 use super::course;
 use super::end::End;
 use super::evening::{Evening, HEADER_LIMITS};
+use super::fields::{self, PAST_16_BITS, PAST_8_BITS};
 use super::foreign::Foreign;
 use super::message;
 use crate::bodies::PRESENTED;
@@ -125,12 +126,16 @@ fn foreign_total(evening: &mut Evening, foreign: &Foreign, number: u64) -> Vec<u
     message::lot_total(number, stated)
 }
 
-/// Refused, then accepted, then too late.
+/// Refused, then accepted, then too late. With fewer bits the second and the third would be good.
 fn end_foreign(evening: &mut Evening, foreign: &mut Foreign) {
     let good = foreign.session_total();
     let mut bad = good.clone();
     bad[evening.draft.random.one_of(&[4, 8, 17, 24])] ^= 1;
-    for body in [&bad, &good, &good] {
+    let mut more_lots = good.clone();
+    fields::raise(&mut more_lots[3..5], PAST_8_BITS);
+    let mut more_documents = good.clone();
+    fields::raise(&mut more_documents[5..9], PAST_16_BITS);
+    for body in [&bad, &more_lots, &more_documents, &good, &good] {
         foreign.hand(evening, body);
     }
     let header = foreign.header(evening, 9_999);

@@ -1,8 +1,10 @@
 -- `number2` takes both bytes as one number.
-use Prim.Native.Nat.{_+_, _<_}
+use mathlib.Core.Path.{ap, sym, _∙_}
+use Prim.Native.Nat.{ℕ, _+_, _*_, _<_}
 use native.Mathlib.Omega.{arith}
 use borrow.Author.Needs.{needs}
 use lib.ListN.{getD}
+use Rattle.packed.specs.Number.{byteValue}
 use Rattle.packed.proofs.Laws.Number.{number-one, number-step, two-bytes}
 use Rattle.packed.proofs.number.number2.Statement.{statement}
 use Rattle.packed.proofs.number.number2.Tie as tie
@@ -56,7 +58,11 @@ sub-result-3 c = omega (arith, first c, second c)
 returns : tie.Need-returns
 returns c =
     let a = c .before .before .args in
-    omega (arith, two-bytes (getD (a .s .now) (a .at) 0) (getD (a .s .now) (a .at + 1) 0) (second c), number-one (a .at) (a .s .now) (omega arith), number-step (a .at) 1 (a .s .now) (omega arith))
+    let high = getD (a .s .now) (a .at) 0 in
+    let low = getD (a .s .now) (a .at + 1) 0 in
+    two-bytes high low (second c)
+    ∙ ap (λ (v : ℕ). v * 100 + byteValue low) (sym (number-one (a .at) (a .s .now) (omega arith)))
+    ∙ sym (number-step (a .at) 1 (a .s .now) (omega arith))
 
 pub number2-spec : {M : Type 1} → statement M
 number2-spec =
