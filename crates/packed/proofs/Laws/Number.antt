@@ -1,5 +1,5 @@
--- Laws of the value of packed bytes: one byte more, which every reading goes by, whatever its width; two bytes as one number; the bounds; and
--- that digits of one length and one value are the same bytes.
+-- Laws of the value of packed bytes: two runs end to end; one byte more, by which every reading goes; two bytes as one number; the bounds;
+-- and that digits of one length and one value are the same bytes.
 use mathlib.Core.Path.{_≡_, refl, ap, sym, _∙_}
 use mathlib.Core.Bool.{true}
 use mathlib.Core.List.{List, [], _∷_, _++_}
@@ -39,23 +39,19 @@ unfolding number
 number-append [] ys = rw (zero-mul, zero-add)
 number-append (x ∷ xs) ys = simp (number-append xs ys, length-append xs ys, pow-add, add-mul, mul-assoc, add-assoc)
 
--- of two runs end to end the first weighs a hundred for each byte of the second
-number-split : (at m n : ℕ) (s : List ℕ) → at + m + n ≤ length s → number (part at (m + n) s) ≡ number (part at m s) * 100 ^ n + number (part (at + m) n s)
-number-split at m n s h =
-    ap number (part-split at m n s)
-    ∙ number-append (part at m s) (part (at + m) n s)
-    ∙ ap (λ (k : ℕ). number (part at m s) * 100 ^ k + number (part (at + m) n s)) (part-length (at + m) n s h)
-
 pub number-one : (at : ℕ) (s : List ℕ) → at < length s → number (part at 1 s) ≡ byteValue (getD s at 0)
 unfolding number
 number-one at s h = rw (drop-cons s at 0) (add-zero (byteValue (getD s at 0) * 1) ∙ mul-one (byteValue (getD s at 0)))
 
 -- the law behind every reading: with one byte more, a hundred times what was read and the byte
 pub number-step : (at n : ℕ) (s : List ℕ) → at + n < length s → number (part at (n + 1) s) ≡ number (part at n s) * 100 + byteValue (getD s (at + n) 0)
-number-step at n s h = number-split at n 1 s (omega arith) ∙ ap (λ (v : ℕ). number (part at n s) * 100 + v) (number-one (at + n) s h)
+number-step at n s h =
+    ap number (part-split at n 1 s)
+    ∙ number-append (part at n s) (part (at + n) 1 s)
+    ∙ rw (part-length (at + n) 1 s (omega arith), number-one (at + n) s h)
 
--- two bytes as one number: without its last digit, its last two, its last three; and less 6 for each 16, 60 for each 256, 600 for each 4,096,
--- which leaves 10, 100 and 1,000 of them
+-- two bytes as one number: how many 16s, 256s and 4,096s it has; and that 6 less for each 16, 60 less for each 256 and 600 less for each
+-- 4,096, all together, leave the value of the two bytes
 module _ (x y : ℕ) (h : y < 256) where
   by-16 : (x * 256 + y) / 16 ≡ x * 16 + y / 16
   by-16 = omega arith
@@ -81,7 +77,7 @@ byte-most b h = omega arith
 grown-step : (k v p : ℕ) → Grown k v → p ≤ 165 → Grown (k + 1) (v * 100 + p)
 grown-step k v p g h = rw (add-one, pow-suc) (omega arith)
 
--- which holds of any bytes
+-- the value of any run of bytes has grown no more than that
 pub number-grown : (at n : ℕ) (s : List ℕ) → ((i : ℕ) → getD s i 0 < 256) → at + n ≤ length s → Grown n (number (part at n s))
 unfolding number
 number-grown at zero s bytes h = lit≤ tt
