@@ -126,7 +126,7 @@ fn foreign_total(evening: &mut Evening, foreign: &Foreign, number: u64) -> Vec<u
     message::lot_total(number, stated)
 }
 
-/// Three refused, one accepted, one too late. With fewer bits the second and the third would be good.
+/// Three refused, one accepted, one too late. In fewer bits the second and third would be good.
 fn end_foreign(evening: &mut Evening, foreign: &mut Foreign) {
     let good = foreign.session_total();
     let mut bad = good.clone();

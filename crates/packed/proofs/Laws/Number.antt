@@ -26,13 +26,9 @@ unfolding number byteValue
 example = refl
 
 -- and the most that two bytes and four are worth, which no digits reach
-most-two : number (0xFF ∷ 0xFF ∷ []) ≡ 16665
+most : (number (0xFF ∷ 0xFF ∷ []) ≡ 16665) × (number (0xFF ∷ 0xFF ∷ 0xFF ∷ 0xFF ∷ []) ≡ 166666665)
 unfolding number byteValue
-most-two = refl
-
-most-four : number (0xFF ∷ 0xFF ∷ 0xFF ∷ 0xFF ∷ []) ≡ 166666665
-unfolding number byteValue
-most-four = refl
+most = (refl, refl)
 
 pub number-append : (xs ys : List ℕ) → number (xs ++ ys) ≡ number xs * 100 ^ length ys + number ys
 unfolding number
