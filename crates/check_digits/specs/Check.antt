@@ -1,0 +1,50 @@
+-- 02, card 5: the three checks of what a clerk has keyed, a number and the check digit that is printed beside it.
+use Prim.Native.Nat.{ℕ, _^_, _%_, _<_}
+use mathlib.Core.Path.{_≡_}
+use mathlib.Core.Bool.{Bool, not, _&&_}
+use lib.Dec.{ltb, eqb}
+use Rattle.codes.specs.Chain.{_when_}
+use Rattle.check_digits.specs.Weighted.{weightedDigit}
+use Rattle.check_digits.specs.declared.check.KeyedAnswer.{KeyedAnswer}
+
+-- 'Document digit: the number modulo 7'
+abbrev pub documentDigit : (n : ℕ) → ℕ
+documentDigit n = n % 7
+
+-- a check: how many digits its numbers have at most, and the check digit that a number has
+pub record Check : Type 0 where
+  pub digits : ℕ
+  pub digitOf : ℕ → ℕ
+
+-- 'a number longer than 7, 8 or 10 digits in turn': that of a document, an entity with its branch as one number, an account
+abbrev pub ofNumber : Check
+ofNumber = record { digits = 7; digitOf = documentDigit }
+
+abbrev pub ofBranch : Check
+ofBranch = record { digits = 8; digitOf = weightedDigit }
+
+abbrev pub ofAccount : Check
+ofAccount = record { digits = 10; digitOf = weightedDigit }
+
+-- the digit matches, and the number is no longer than allowed
+abbrev pub passes : Check → (n digit : ℕ) → Bool
+passes c n digit = eqb digit (c .digitOf n) && ltb n (10 ^ c .digits)
+
+-- 'A digit that does not match, or a number longer than' allowed, 'is 43'
+abbrev pub keyedRefusal : Check → (n digit : ℕ) → ℕ
+keyedRefusal c n digit = 43 when not (passes c n digit)
+
+-- the paper's number of each answer
+abbrev pub keyedNumber : KeyedAnswer → ℕ
+keyedNumber KeyedAnswer.Passes = 0
+keyedNumber KeyedAnswer.Fails = 43
+
+-- a digit above 9 passes with no number
+abbrev pub AboveNineFails : Check → Type 0
+AboveNineFails c = (n digit : ℕ) → 9 < digit → keyedRefusal c n digit ≡ 43
+
+-- claimed of all three, and proved in proofs/Laws/Check
+pub record EveryDigitOneFigure : Type 0 where
+  pub number : AboveNineFails ofNumber
+  pub branch : AboveNineFails ofBranch
+  pub account : AboveNineFails ofAccount
