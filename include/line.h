@@ -1,8 +1,8 @@
 /*
  * For C and C++ callers: the detail check, link with libdetail.a; a whole
  * evening of two engines over trays, scripts of evenings, next working days,
- * compensation dates and commissions by tariff key, link with libentries.a.
- * Both libraries may be linked into one program.
+ * compensation dates, commissions by tariff key and check digits, link with
+ * libentries.a. Both libraries may be linked into one program.
  *
  * They are built for x86-64 Linux, with the System V calling convention, and
  * may be linked into a program or a shared object. libdetail.a needs nothing
@@ -297,6 +297,27 @@ typedef struct line_filled {
  */
 line_filled line_fill_commissions(const uint32_t *tariff, size_t tariff_len,
                                   uint8_t *tray, size_t tray_len);
+
+/*
+ * Check a number and the check digit that a clerk has keyed from a document:
+ *   line_check_number   the document's number, at most 7 digits; its digit is
+ *                       what is left when it is divided by 7
+ *   line_check_branch   entity and branch as one number, at most 8 digits:
+ *                       entity 0072 with branch 0101 is 720101
+ *   line_check_account  the account, at most 10 digits
+ * The digit of the last two is worked out by weights (docs/CHECK-DIGITS.md,
+ * which also says which wrong digits slip through). Link with libentries.a.
+ *
+ * Each returns 0 where the digit matches; 43 where it does not, as no digit
+ * above 9 does, or where the number is longer. Any numbers may be passed.
+ *
+ * There is no global state, so several threads may call at once.
+ */
+uint8_t line_check_number(uint64_t number, uint8_t digit);
+
+uint8_t line_check_branch(uint64_t number, uint8_t digit);
+
+uint8_t line_check_account(uint64_t number, uint8_t digit);
 
 /*
  * The functions of the libraries themselves take no null pointer. So in C and

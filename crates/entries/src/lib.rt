@@ -2,6 +2,7 @@
 // their own what was asked for since. include/line.h says how each is called.
 pub mod commissions;
 pub mod days;
+pub mod keyed;
 
 use exchange::evening::exchange;
 use exchange::shown::Evening;

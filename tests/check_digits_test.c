@@ -1,0 +1,86 @@
+/* Checks numbers with their check digits through line_check_number,
+   line_check_branch and line_check_account: the paper's examples, accounts
+   worked by hand, the limits of length, digits that are none, and numbers with
+   one digit wrong.
+   Use: check_digits_test, without arguments. */
+#include "line.h"
+#include "same.h"
+
+typedef uint8_t check(uint64_t number, uint8_t digit);
+
+/* Of the 256 digits that may be keyed, the one that is due passes alone. */
+static void try_digits(const char *what, check *checked, uint64_t number, unsigned due)
+{
+    unsigned digit;
+
+    for (digit = 0; digit <= UINT8_MAX; digit++)
+        same(what, checked(number, (uint8_t)digit), digit == due ? 0 : 43);
+}
+
+/* Whatever the digit, the number is too long. */
+static void try_long(const char *what, check *checked, uint64_t number)
+{
+    try_digits(what, checked, number, UINT8_MAX + 1);
+}
+
+static void try_numbers(void)
+{
+    try_digits("2434157", line_check_number, 2434157, 5);
+    try_digits("one wrong digit, by seven", line_check_number, 9434157, 5);
+    try_digits("one wrong digit, by one", line_check_number, 3434157, 6);
+    try_digits("number 0", line_check_number, 0, 0);
+    try_digits("the largest number", line_check_number, 9999999, 2);
+    try_long("8 digits", line_check_number, 10000000);
+    try_long("the largest of 64 bits", line_check_number, UINT64_MAX);
+    try_long("the example and 2 to the 32nd", line_check_number, 2434157 + (UINT64_C(1) << 32));
+}
+
+static void try_branches(void)
+{
+    try_digits("0072 0101", line_check_branch, 720101, 9);
+    try_digits("0072 0110", line_check_branch, 720110, 1);
+    try_digits("0072 0114, remainder 1 for 10", line_check_branch, 720114, 1);
+    try_digits("0000 0000", line_check_branch, 0, 0);
+    try_digits("9999 9999", line_check_branch, 99999999, 5);
+    try_long("9 digits", line_check_branch, 100000000);
+    try_long("an account", line_check_branch, 1234567890);
+    try_long("0072 0101 and 2 to the 32nd", line_check_branch, 720101 + (UINT64_C(1) << 32));
+}
+
+/* By hand:
+   0000123456: 36 + 15 + 28 + 27 + 20 + 5 = 131, which leaves 10 and gives 1;
+   1234567890: 0 + 27 + 56 + 63 + 60 + 25 + 32 + 12 + 4 + 1 = 280, which leaves
+   5 and gives 6; 9999999999: 9 times 55 = 495, which leaves 0 and gives 0. */
+static void try_accounts(void)
+{
+    try_digits("0000123456", line_check_account, 123456, 1);
+    try_digits("1234567890", line_check_account, 1234567890, 6);
+    try_digits("9999999999", line_check_account, UINT64_C(9999999999), 0);
+    try_digits("0072 0101 as an account", line_check_account, 720101, 9);
+    try_long("11 digits", line_check_account, UINT64_C(10000000000));
+    try_long("2 to the 63rd", line_check_account, UINT64_C(1) << 63);
+}
+
+/* A one at each place and nothing else: its weight taken from 11, which is 10
+   at the last place and 1 at that of the weight 10. */
+static void try_places(void)
+{
+    static const uint8_t due[] = { 5, 8, 4, 2, 1, 6, 3, 7, 9, 1 };
+    uint64_t number = 1;
+    unsigned place;
+
+    for (place = 0; place < COUNT(due); place++, number *= 10) {
+        try_digits("one digit of an account", line_check_account, number, due[place]);
+        if (place < 8)
+            try_digits("one digit of a branch", line_check_branch, number, due[place]);
+    }
+}
+
+int main(void)
+{
+    try_numbers();
+    try_branches();
+    try_accounts();
+    try_places();
+    return counted();
+}
