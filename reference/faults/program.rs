@@ -1,10 +1,12 @@
-//! The engine, the script interpreter, the calendar and the tariff, meant to have one fault in
-//! them. Plays the scripts of the files named as arguments and tells the first whose answers differ
-//! from those noted there, or that makes the player panic.
+//! The engine, the script interpreter, the calendar, the tariff and the check digits, meant to have
+//! one fault in them. Plays the scripts of the files named as arguments and tells the first whose
+//! answers differ from those noted there, or that makes the player panic.
 
 mod asked;
 mod calendar;
 mod calendar_script;
+mod check_digits;
+mod check_digits_script;
 mod checked;
 mod hex;
 mod packed;
@@ -49,6 +51,7 @@ fn first_that_differs(corpus: &[u8]) -> Option<String> {
         let play = match words[0] {
             "trays" => tray_script::play,
             name if name.starts_with("calendar") => calendar_script::play,
+            name if name.starts_with("check digits") => check_digits_script::play,
             name if name.starts_with("tariff") => tariff_script::play,
             _ => script::play,
         };

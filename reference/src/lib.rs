@@ -2,13 +2,16 @@
 //! The detail check stands here four times: written plainly, tuned, by columns, and as the line's
 //! exported function. The session and the script interpreter are built on the plain check, and
 //! know two sets of rules: today's, which hold where none is named, and the circular's. The
-//! calendar uses nothing of them, the tariff only how a document's numbers are packed.
+//! calendar and the check digits use nothing of them, the tariff only how a document's numbers are
+//! packed.
 
 pub mod asked;
 pub mod bodies;
 pub mod books;
 pub mod calendar;
 pub mod calendar_script;
+pub mod check_digits;
+pub mod check_digits_script;
 pub mod columns;
 pub mod compare;
 pub mod corpus;

@@ -1,6 +1,6 @@
 //! The bindings to what the line exports for C: the detail check that its driver calls, the
-//! script player, the calendar and the commissions for the comparison, and the evening for
-//! measurements.
+//! script player, the calendar, the commissions and the check digits for the comparison, and the
+//! evening for measurements.
 
 use crate::calendar::compensation::Compensation;
 use crate::session::report::{AwaitedTotal, Report};
@@ -151,6 +151,13 @@ unsafe extern "C" {
         tray: *mut u8,
         tray_len: usize,
     ) -> Filled;
+
+    // SAFETY: nothing is lent, and any numbers may be passed; so with the two below.
+    safe fn line_check_number(number: u64, digit: u8) -> u8;
+
+    safe fn line_check_branch(number: u64, digit: u8) -> u8;
+
+    safe fn line_check_account(number: u64, digit: u8) -> u8;
 }
 
 pub fn check(body: &[u8], own: u16, represented: &[u16]) -> Checked {
@@ -217,6 +224,18 @@ pub fn fill_commissions(tariff: &[u32], tray: &mut [u8]) -> Filled {
     // stated number of items during the call, the second also for writing; the two stretches lie
     // apart, and the function keeps neither of them.
     unsafe { line_fill_commissions(tariff.as_ptr(), tariff.len(), tray.as_mut_ptr(), tray.len()) }
+}
+
+pub fn check_number(number: u64, digit: u8) -> u8 {
+    line_check_number(number, digit)
+}
+
+pub fn check_branch(number: u64, digit: u8) -> u8 {
+    line_check_branch(number, digit)
+}
+
+pub fn check_account(number: u64, digit: u8) -> u8 {
+    line_check_account(number, digit)
 }
 
 /// Plays as far as the answers fit in `output`. `wire` is where written bytes are remembered.

@@ -70,6 +70,11 @@ impl Random {
         first + self.below(last - first + 1)
     }
 
+    /// With so many digits, zeros in front among them.
+    pub fn number(&mut self, digits: usize) -> u64 {
+        (0..digits).fold(0, |number, _| 10 * number + self.below(10) as u64)
+    }
+
     pub fn bytes(&mut self, count: usize) -> Vec<u8> {
         (0..count).map(|_| self.byte()).collect()
     }

@@ -2,8 +2,8 @@
 //! show in the answers. The unmodified reference says what the answers should be.
 
 use reference::compare::Play;
-use reference::corpus::{calendar, corpus, generated, tariff, tray_corpus, Script};
-use reference::{calendar_script, script, tariff_script, tray_script};
+use reference::corpus::{calendar, check_digits, corpus, generated, tariff, tray_corpus, Script};
+use reference::{calendar_script, check_digits_script, script, tariff_script, tray_script};
 use std::collections::HashSet;
 use std::fs;
 use std::path::{Path, PathBuf};
@@ -14,9 +14,10 @@ use std::thread;
 
 const COMPILERS: usize = 2;
 /// The sources that the small program is made of, and where it starts.
-const SOURCES: [&str; 9] = [
+const SOURCES: [&str; 10] = [
     "asked.rs",
     "calendar_script.rs",
+    "check_digits_script.rs",
     "checked.rs",
     "hex.rs",
     "packed.rs",
@@ -25,7 +26,7 @@ const SOURCES: [&str; 9] = [
     "tariff_script.rs",
     "tray_script.rs",
 ];
-const FOLDERS: [&str; 4] = ["calendar", "script", "session", "tariff"];
+const FOLDERS: [&str; 5] = ["calendar", "check_digits", "script", "session", "tariff"];
 const PROGRAM: &str = "faults/program.rs";
 /// No call of a script reaches what is in it.
 const TRAYS: &str = "src/session/trays.rs";
@@ -41,13 +42,20 @@ struct Subject {
     least: usize,
 }
 
-const SUBJECTS: [Subject; 2] = [
+const SUBJECTS: [Subject; 3] = [
     Subject {
         name: "calendar",
         play: calendar_script::play,
         generated: calendar::generated,
         fixed: calendar::fixed,
         least: 19,
+    },
+    Subject {
+        name: "check_digits",
+        play: check_digits_script::play,
+        generated: check_digits::generated,
+        fixed: check_digits::fixed,
+        least: 18,
     },
     Subject {
         name: "tariff",
@@ -96,7 +104,7 @@ struct Caught {
 #[test]
 fn every_fault_is_caught() {
     let faults = faults();
-    assert!(faults.len() >= 170, "only {} faults", faults.len());
+    assert!(faults.len() >= 188, "only {} faults", faults.len());
     let workshop = Workshop::new();
     assert!(
         matches!(workshop.outcome(0, None), Outcome::Missed),

@@ -1,8 +1,9 @@
 //! Scripts to compare players with: generated ones in the main, then the blocks of the open
 //! points, lines about the format itself and the memory of written bytes; tray calls; and questions
-//! about calendar and tariff. What the answers must be, the reference says.
+//! about calendar, tariff and check digits. What the answers must be, the reference says.
 
 pub mod calendar;
+pub mod check_digits;
 pub mod format;
 pub mod memory;
 pub mod tariff;

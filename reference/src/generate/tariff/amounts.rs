@@ -10,7 +10,7 @@ const HALF: u64 = PARTS / 2;
 /// Of any number of digits up to this one, each number of digits as often as the others.
 fn of_digits(random: &mut Random, most: usize) -> u64 {
     let digits = random.within(0, most);
-    (0..digits).fold(0, |number, _| 10 * number + random.below(10) as u64)
+    random.number(digits)
 }
 
 pub fn key(random: &mut Random) -> Key {
