@@ -1,5 +1,5 @@
 -- 02, card 5: the values that it prints, accounts worked by hand, the edges of each check, and what slips through, computed from the definitions.
-use mathlib.Core.Path.{_≡_, refl}
+use mathlib.Core.Path.{refl}
 use mathlib.Core.List.{[], _∷_}
 use Rattle.codes.specs.Chain.{_when_}
 use Rattle.codes.proofs.Cases.{_is_, AllDue}

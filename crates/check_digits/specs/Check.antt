@@ -39,12 +39,12 @@ abbrev pub keyedNumber : KeyedAnswer → ℕ
 keyedNumber KeyedAnswer.Passes = 0
 keyedNumber KeyedAnswer.Fails = 43
 
--- a digit above 9 passes with no number
-abbrev pub AboveNineFails : Check → Type 0
-AboveNineFails c = (n digit : ℕ) → 9 < digit → keyedRefusal c n digit ≡ 43
+-- whatever the number, no digit above 9 passes
+abbrev pub FailsAboveNine : Check → Type 0
+FailsAboveNine c = (n digit : ℕ) → 9 < digit → keyedRefusal c n digit ≡ 43
 
--- claimed of all three, and proved in proofs/Laws/Check
-pub record EveryDigitOneFigure : Type 0 where
-  pub number : AboveNineFails ofNumber
-  pub branch : AboveNineFails ofBranch
-  pub account : AboveNineFails ofAccount
+-- claimed, and proved in proofs/Laws/Check
+pub record EachFailsAboveNine : Type 0 where
+  pub number : FailsAboveNine ofNumber
+  pub branch : FailsAboveNine ofBranch
+  pub account : FailsAboveNine ofAccount

@@ -10,7 +10,7 @@ unfoldable pub weights : List ℕ
 weights = 6 ∷ 3 ∷ 7 ∷ 9 ∷ 10 ∷ 5 ∷ 8 ∷ 4 ∷ 2 ∷ 1 ∷ []
 
 -- the digits of a number from a place up, each times its weight, added up
-unfoldable pub weightedFrom : (place : ℕ) (weights : List ℕ) (n : ℕ) → ℕ
+unfoldable pub weightedFrom : (place : ℕ) (ws : List ℕ) (n : ℕ) → ℕ
 weightedFrom place [] n = 0
 weightedFrom place (w ∷ ws) n = digitAt place n * w + weightedFrom (suc place) ws n
 
@@ -18,12 +18,13 @@ weightedFrom place (w ∷ ws) n = digitAt place n * w + weightedFrom (suc place)
 abbrev pub weightedSum : (n : ℕ) → ℕ
 weightedSum n = weightedFrom 0 weights n
 
-abbrev pub eleven : ℕ
-eleven = 11
+-- what the sum is divided by, and what its remainder is taken from
+abbrev pub modulus : ℕ
+modulus = 11
 
 -- 'the sum modulo 11'
 unfoldable pub remainder : (n : ℕ) → ℕ
-remainder n = weightedSum n % eleven
+remainder n = weightedSum n % modulus
 
 -- '10 becomes 1 and 11 becomes 0'
 unfoldable pub oneFigure : (left : ℕ) → ℕ
@@ -31,4 +32,4 @@ oneFigure left = cond (eqb left 10) 1 (cond (eqb left 11) 0 left)
 
 -- 'taken from 11'
 unfoldable pub weightedDigit : (n : ℕ) → ℕ
-weightedDigit n = oneFigure (eleven - remainder n)
+weightedDigit n = oneFigure (modulus - remainder n)

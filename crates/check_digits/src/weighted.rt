@@ -9,6 +9,8 @@ const PLACES: usize = 10;
 // From the units up.
 const WEIGHTS: [u64; PLACES] = [6, 3, 7, 9, 10, 5, 8, 4, 2, 1];
 
+const MODULUS: u64 = 11;
+
 fn weight(place: usize) -> u64
     requires { ⌜ place < length weights ⌝ }
     ensures { λ r. ⌜ r ≡ getD weights place 0 ⌝ }
@@ -44,9 +46,9 @@ fn one_figure(left: u64) -> u64
     left
 }
 
-// What the sum leaves modulo 11, taken from 11, as one figure.
+// The remainder of the sum, taken from 11, as one figure.
 pub fn weighted_digit(number: u64) -> u64
     ensures { λ r. ⌜ r ≡ weightedDigit number ⌝ }
 {
-    one_figure(11 - weighted_sum(number) % 11)
+    one_figure(MODULUS - weighted_sum(number) % MODULUS)
 }

@@ -1,17 +1,16 @@
 -- What passes a check is known by its digit and its length; and every check digit is one figure.
-use mathlib.Core.Path.{_≡_, ap, sym, _∙_}
-use mathlib.Core.Bool.{Bool, true, false, not, _&&_}
+use mathlib.Core.Path.{_≡_}
 use mathlib.Core.Logic.{_↔_}
-use Prim.Native.Nat.{ℕ, _-_, _^_, _%_, _<_}
+use Prim.Native.Nat.{ℕ, _-_, _^_, _<_}
 use native.Mathlib.Omega.{arith}
 use borrow.Author.Tests.{eq-eqb, ne-eqb, lt-ltb, eqb-true, ltb-true}
 use lib.Dec.{eqb, ltb, lit<}
 use Rattle.packed.proofs.Laws.Told.{both}
 use Rattle.codes.specs.Chain.{_when_}
 use Rattle.codes.proofs.Laws.Chain.{none-held}
-use Rattle.check_digits.specs.Weighted.{eleven, remainder, oneFigure, weightedDigit}
-use Rattle.check_digits.specs.Check.{Check, documentDigit, ofNumber, ofBranch, ofAccount, passes, keyedRefusal, AboveNineFails, EveryDigitOneFigure}
-use Rattle.check_digits.proofs.Laws.Weighted.{Taken, nothing, one, rest, taken}
+use Rattle.check_digits.specs.Weighted.{modulus, remainder, oneFigure, weightedDigit}
+use Rattle.check_digits.specs.Check.{Check, documentDigit, ofNumber, ofBranch, ofAccount, passes, keyedRefusal, FailsAboveNine, EachFailsAboveNine}
+use Rattle.check_digits.proofs.Laws.Weighted.{remainder-below, Taken, nothing, one, rest, taken}
 
 pub passes-exactly : (c : Check) (n digit : ℕ) → (keyedRefusal c n digit ≡ 0) ↔ ((digit ≡ c .digitOf n) × (n < 10 ^ c .digits))
 unfolding _when_
@@ -23,7 +22,7 @@ passes-exactly c n digit = (
 )
 
 -- a digit that is one figure is matched by nothing above 9
-above-nine : (c : Check) → ((n : ℕ) → c .digitOf n < 10) → AboveNineFails c
+above-nine : (c : Check) → ((n : ℕ) → c .digitOf n < 10) → FailsAboveNine c
 unfolding _when_
 above-nine c small n digit h = rw (ne-eqb digit (c .digitOf n) (λ e. omega (arith, small n)))
 
@@ -35,16 +34,12 @@ taken-small r d (nothing p q) = omega arith
 taken-small r d (one p q) = omega arith
 taken-small r d (rest p q) = omega arith
 
-pub remainder-below : (n : ℕ) → remainder n < eleven
-unfolding remainder
-remainder-below n = omega arith
-
 weighted-small : (n : ℕ) → weightedDigit n < 10
 unfolding weightedDigit
-weighted-small n = taken-small (remainder n) (oneFigure (eleven - remainder n)) (taken (remainder n) (remainder-below n))
+weighted-small n = taken-small (remainder n) (oneFigure (modulus - remainder n)) (taken (remainder n) (remainder-below n))
 
-pub every-digit-one-figure : EveryDigitOneFigure
-every-digit-one-figure =
+pub each-fails-above-nine : EachFailsAboveNine
+each-fails-above-nine =
     record {
       number = above-nine ofNumber document-small;
       branch = above-nine ofBranch weighted-small;

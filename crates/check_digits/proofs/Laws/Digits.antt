@@ -10,7 +10,7 @@ use lib.Dec.{eqb, lit<}
 use Rattle.check_digits.specs.Digits.{digitAt, withDigit, OneDigitChanged}
 
 -- the digit at a place is that of a tenth at the place below
-pub shifted : (place n : ℕ) → n / 10 ^ suc place ≡ n / 10 / 10 ^ place
+shifted : (place n : ℕ) → n / 10 ^ suc place ≡ n / 10 / 10 ^ place
 shifted place n = rw pow-succ' (sym (div-div-eq-div-mul n 10 (10 ^ place)))
 
 pub tenth-shifted : (place n : ℕ) → n / 10 ^ place / 10 ≡ n / 10 ^ (place + 1)
@@ -35,7 +35,7 @@ unfolding withDigit
 exchanged place digit n = omega (arith, worth place n)
 
 -- so a digit above the units is changed in the number's tenth
-pub with-shifted : (place digit n : ℕ) → withDigit (suc place) digit n ≡ withDigit place digit (n / 10) * 10 + n % 10
+with-shifted : (place digit n : ℕ) → withDigit (suc place) digit n ≡ withDigit place digit (n / 10) * 10 + n % 10
 with-shifted place digit n =
     let above = rw (digit-shifted place n, pow-suc 10 place) at (exchanged (suc place) digit n) in
     omega (arith, above, exchanged place digit (n / 10))
@@ -44,7 +44,7 @@ pub tenth : (place digit n : ℕ) → withDigit (suc place) digit n / 10 ≡ wit
 tenth place digit n = omega (arith, with-shifted place digit n)
 
 -- the units are the end of that way
-pub digit-units : (n : ℕ) → digitAt 0 n ≡ n % 10
+digit-units : (n : ℕ) → digitAt 0 n ≡ n % 10
 unfolding digitAt
 digit-units n = omega arith
 

@@ -1,6 +1,6 @@
 -- Numbers modulo m: summands and factors that may be cancelled. A factor may where it has an inverse, and that is all that is asked of 10
 -- modulo 7 and of a weight modulo 11.
-use mathlib.Core.Path.{_≡_, refl, ap, sym, _∙_}
+use mathlib.Core.Path.{_≡_, ap, sym, _∙_}
 use mathlib.Core.Logic.{_↔_}
 use Prim.Native.Nat.{ℕ, zero, suc, _+_, _*_, _^_, _/_, _%_}
 use native.Mathlib.Nat.{pow-zero, pow-suc, one-mul, mod-add-div, mod-add-mod, add-mul-mod-self-left}
@@ -22,7 +22,7 @@ module _ (k : ℕ) where
       ∙ add-mul-mod-self-left y m a
 
   -- a factor may be reduced first
-  pub reduced : (a w : ℕ) → a % m * w % m ≡ a * w % m
+  reduced : (a w : ℕ) → a % m * w % m ≡ a * w % m
   reduced a w =
       sym (add-mul-mod-self-left (a % m * w) m (a / m * w))
       ∙ ap (λ (n : ℕ). n % m) {x = a % m * w + m * (a / m * w)} {y = a * w} (omega (arith, ap (λ (n : ℕ). n * w) (mod-add-div a m)))

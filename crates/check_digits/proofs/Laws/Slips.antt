@@ -2,71 +2,74 @@
 -- the claim.
 use mathlib.Core.Path.{_≡_, refl}
 use mathlib.Core.Bool.{Bool, true, false}
-use mathlib.Core.Logic.{_↔_, _⊎_, inl, inr}
-use Prim.Native.Nat.{ℕ, _+_, _^_, _%_, _≤_, _<_}
+use mathlib.Core.Logic.{_↔_, inl, inr}
+use Prim.Native.Nat.{ℕ, _^_, _%_, _≤_}
 use native.Mathlib.Omega.{arith}
 use borrow.Author.Tests.{ltb-true, ltb-false}
 use lib.Dec.{ltb, lit≤}
 use lib.ListN.{length}
-use Rattle.check_digits.specs.Digits.{digitAt, withDigit, OneDigitChanged}
+use Rattle.check_digits.specs.Digits.{digitAt, withDigit}
 use Rattle.check_digits.specs.Weighted.{weights, remainder, oneFigure, weightedDigit}
 use Rattle.check_digits.specs.Check.{Check, documentDigit, ofNumber}
-use Rattle.check_digits.specs.Slips.{PassesExactlyWhen, DifferBySeven, OneAndTen, SlipsThrough}
+use Rattle.check_digits.specs.Slips.{WrongDigit, PassesExactlyWhen, DifferBySeven, OneAndTen, SlipsThrough}
 use Rattle.check_digits.proofs.Laws.Modulo.{same-exactly, power}
 use Rattle.check_digits.proofs.Laws.Digits.{digit-below, exchanged, one-digit-changed}
-use Rattle.check_digits.proofs.Laws.Weighted.{remainder-changed, same-digit}
-use Rattle.check_digits.proofs.Laws.Check.{passes-exactly, remainder-below}
+use Rattle.check_digits.proofs.Laws.Weighted.{remainder-below, remainder-changed, same-digit}
+use Rattle.check_digits.proofs.Laws.Check.{passes-exactly}
 
 -- for every check: what passes is told by the two check digits
-by-digits : (c : Check) (Slip : (n place digit : ℕ) → Type 0) → ((n place digit : ℕ) → place < c .digits → digit < 10 → (digit ≡ digitAt place n → ⊥) → (c .digitOf n ≡ c .digitOf (withDigit place digit n)) ↔ Slip n place digit) → PassesExactlyWhen c Slip
-by-digits c Slip exactly n place digit short l h other =
-    let passes = passes-exactly c (withDigit place digit n) (c .digitOf n) in
-    let slips = exactly n place digit l h other in
-    (λ e. slips .0 (passes .0 e .0), λ s. passes .1 (slips .1 s, one-digit-changed .within (c .digits) place digit n h l short))
+by-digits : (c : Check) (Slip : (n place wrong : ℕ) → Type 0) → ((n place wrong : ℕ) → WrongDigit c n place wrong → (c .digitOf n ≡ c .digitOf (withDigit place wrong n)) ↔ Slip n place wrong) → PassesExactlyWhen c Slip
+by-digits c Slip exactly n place wrong w =
+    let passes = passes-exactly c (withDigit place wrong n) (c .digitOf n) in
+    let slips = exactly n place wrong w in
+    (λ e. slips .0 (passes .0 e .0), λ s. passes .1 (slips .1 s, one-digit-changed .within (c .digits) place wrong n (w .figure) (w .placed) (w .short)))
 
 -- modulo 7: 10 has the inverse 5, and so has each of its powers
-document-digits : (n place digit : ℕ) → digit < 10 → (digit ≡ digitAt place n → ⊥) → (documentDigit n ≡ documentDigit (withDigit place digit n)) ↔ DifferBySeven n place digit
-document-digits n place digit h other = (λ e. apart (same .0 e), λ d. same .1 (alike d))
+document-digits : (n place wrong : ℕ) → WrongDigit ofNumber n place wrong → (documentDigit n ≡ documentDigit (withDigit place wrong n)) ↔ DifferBySeven n place wrong
+document-digits n place wrong w = (λ e. apart (same .0 e), λ d. same .1 (alike d))
   where
     old : ℕ
     old = digitAt place n
 
-    same : (n % 7 ≡ withDigit place digit n % 7) ↔ (old % 7 ≡ digit % 7)
-    same = same-exactly 6 (10 ^ place) (5 ^ place) (power 6 10 5 refl place) n (withDigit place digit n) old digit (exchanged place digit n)
+    same : (n % 7 ≡ withDigit place wrong n % 7) ↔ (old % 7 ≡ wrong % 7)
+    same = same-exactly 6 (10 ^ place) (5 ^ place) (power 6 10 5 refl place) n (withDigit place wrong n) old wrong (exchanged place wrong n)
 
-    apart : old % 7 ≡ digit % 7 → DifferBySeven n place digit
-    apart e = go (ltb old digit) refl
+    apart : old % 7 ≡ wrong % 7 → DifferBySeven n place wrong
+    apart e = go (ltb old wrong) refl
       where
-        go : (t : Bool) → ltb old digit ≡ t → DifferBySeven n place digit
-        go true k = inr (omega (arith, ltb-true old digit k, digit-below place n))
-        go false k = inl (omega (arith, ltb-false old digit k, digit-below place n))
+        go : (t : Bool) → ltb old wrong ≡ t → DifferBySeven n place wrong
+        go true k = inr (omega (arith, ltb-true old wrong k, digit-below place n))
+        go false k = inl (omega (arith, ltb-false old wrong k, digit-below place n, w .other))
 
-    alike : DifferBySeven n place digit → old % 7 ≡ digit % 7
+    alike : DifferBySeven n place wrong → old % 7 ≡ wrong % 7
     alike (inl e) = omega arith
     alike (inr e) = omega arith
 
--- modulo 11: the remainders differ, and so do the digits that they are taken to, but for 1 and 10
-weighted-digits : (n place digit : ℕ) → place < length weights → digit < 10 → (digit ≡ digitAt place n → ⊥) → (weightedDigit n ≡ weightedDigit (withDigit place digit n)) ↔ OneAndTen n place digit
-unfolding weightedDigit
-weighted-digits n place digit l h other =
-    let changed = withDigit place digit n in
-    same-digit (remainder n) (remainder changed) (remainder-below n) (remainder-below changed) (remainder-changed n place digit l h other)
+-- modulo 11: the remainders differ, and so do the digits that they are taken to, but for 1 and 10; there is a weight for every digit that is
+-- allowed
+module _ (digits : ℕ) (few : digits ≤ length weights) where
+  abbrev byWeights : Check
+  byWeights = record { digits = digits; digitOf = weightedDigit }
 
--- a check that goes by weights allows no more digits than there are weights
-weighted-slips : (digits : ℕ) → digits ≤ length weights → PassesExactlyWhen (record { digits = digits; digitOf = weightedDigit }) OneAndTen
-weighted-slips digits few =
-    by-digits (record { digits = digits; digitOf = weightedDigit }) OneAndTen (λ n place digit l. weighted-digits n place digit (omega arith))
+  weighted-digits : (n place wrong : ℕ) → WrongDigit byWeights n place wrong → (weightedDigit n ≡ weightedDigit (withDigit place wrong n)) ↔ OneAndTen n place wrong
+  unfolding weightedDigit
+  weighted-digits n place wrong w =
+      let changed = withDigit place wrong n in
+      same-digit (remainder n) (remainder changed) (remainder-below n) (remainder-below changed) (remainder-changed n place wrong (omega arith) (w .figure) (w .other))
 
-printed-one : (n place digit : ℕ) → OneAndTen n place digit → weightedDigit n ≡ 1
+  weighted-slips : PassesExactlyWhen byWeights OneAndTen
+  weighted-slips = by-digits byWeights OneAndTen weighted-digits
+
+printed-one : (n place wrong : ℕ) → OneAndTen n place wrong → weightedDigit n ≡ 1
 unfolding weightedDigit oneFigure
-printed-one n place digit (inl (old, new)) = rw old
-printed-one n place digit (inr (old, new)) = rw old
+printed-one n place wrong (inl (old, new)) = rw old
+printed-one n place wrong (inr (old, new)) = rw old
 
 pub slips-through : SlipsThrough
 unfolding weights
 slips-through =
     record {
-      number = by-digits ofNumber DifferBySeven (λ n place digit l. document-digits n place digit);
+      number = by-digits ofNumber DifferBySeven document-digits;
       branch = weighted-slips 8 (lit≤ tt);
       account = weighted-slips 10 (lit≤ tt);
       printedOne = printed-one;

@@ -11,8 +11,8 @@ use lib.Dec.{eqb, leb}
 use lib.ListN.{length, drop, getD}
 use lib.Seq.{drop-cons}
 use Rattle.packed.proofs.Laws.Told.{both}
-use Rattle.check_digits.specs.Digits.{digitAt, withDigit, OneDigitChanged}
-use Rattle.check_digits.specs.Weighted.{weights, weightedFrom, eleven, remainder, oneFigure, weightedDigit}
+use Rattle.check_digits.specs.Digits.{digitAt, withDigit}
+use Rattle.check_digits.specs.Weighted.{weights, weightedFrom, modulus, remainder, oneFigure}
 use Rattle.check_digits.proofs.Laws.Modulo.{same-exactly}
 use Rattle.check_digits.proofs.Laws.Digits.{digit-shifted, digit-below, tenth, units-tenth, one-digit-changed}
 
@@ -33,7 +33,7 @@ weighted-shifted place (w ∷ ws) n = rw (digit-shifted place n, weighted-shifte
 
 -- one digit changed: the sum loses the old digit times its weight, and gains the new one
 module _ (digit : ℕ) (h : digit < 10) where
-  pub exchanged-sum : (place n : ℕ) (ws : List ℕ) → place < length ws → weightedFrom 0 ws (withDigit place digit n) + digitAt place n * getD ws place 0 ≡ weightedFrom 0 ws n + digit * getD ws place 0
+  exchanged-sum : (place n : ℕ) (ws : List ℕ) → place < length ws → weightedFrom 0 ws (withDigit place digit n) + digitAt place n * getD ws place 0 ≡ weightedFrom 0 ws n + digit * getD ws place 0
   unfolding weightedFrom
   exchanged-sum zero n [] l = absurd (omega arith)
   exchanged-sum (suc p) n [] l = absurd (omega arith)
@@ -71,11 +71,11 @@ pub product-most : (n place : ℕ) → place < length weights → n % 10 * getD 
 product-most n place h = mul-le-mul {n₂ = 9} {m₂ = 10} (omega arith) (weight-most place h)
 
 -- no weight is a multiple of 11: that of each place has an inverse, two at the units and twice as much with each place
-pub weight-inverse : (place : ℕ) → place < length weights → getD weights place 0 * 2 ^ suc place % eleven ≡ 1
+weight-inverse : (place : ℕ) → place < length weights → getD weights place 0 * 2 ^ suc place % modulus ≡ 1
 unfolding weights
 weight-inverse place h =
-    eqb-true (getD weights place 0 * 2 ^ suc place % eleven) 1
-    (each-below (λ p. eqb (getD weights p 0 * 2 ^ suc p % eleven) 1) 10 refl place h)
+    eqb-true (getD weights place 0 * 2 ^ suc place % modulus) 1
+    (each-below (λ p. eqb (getD weights p 0 * 2 ^ suc p % modulus) 1) 10 refl place h)
 
 -- so one wrong digit always changes the remainder
 pub remainder-changed : (n place digit : ℕ) → place < length weights → digit < 10 → (digit ≡ digitAt place n → ⊥) → remainder n ≡ remainder (withDigit place digit n) → ⊥
@@ -85,26 +85,30 @@ remainder-changed n place digit l h other same =
     let alike = same-exactly 10 w (2 ^ suc place) (weight-inverse place l) (weightedFrom 0 weights n) (weightedFrom 0 weights (withDigit place digit n)) (digitAt place n) digit (exchanged-sum digit h place n weights l) .0 same in
     other (omega (arith, alike, digit-below place n))
 
+pub remainder-below : (n : ℕ) → remainder n < modulus
+unfolding remainder
+remainder-below n = omega arith
+
 -- what a remainder is taken to
 pub data Taken (r d : ℕ) : Type 0 where
   nothing : r ≡ 0 → d ≡ 0 → Taken r d
   one : r ≡ 1 → d ≡ 1 → Taken r d
   rest : 2 ≤ r → d + r ≡ 11 → Taken r d
 
-pub taken : (r : ℕ) → r < eleven → Taken r (oneFigure (eleven - r))
+pub taken : (r : ℕ) → r < modulus → Taken r (oneFigure (modulus - r))
 unfolding oneFigure
-taken r h = go (eqb (eleven - r) 10) refl (eqb (eleven - r) 11) refl
+taken r h = go (eqb (modulus - r) 10) refl (eqb (modulus - r) 11) refl
   where
-    go : (a : Bool) → eqb (eleven - r) 10 ≡ a → (b : Bool) → eqb (eleven - r) 11 ≡ b → Taken r (cond a 1 (cond b 0 (eleven - r)))
-    go true e b f = one (omega (arith, eqb-true (eleven - r) 10 e)) refl
-    go false e true f = nothing (omega (arith, eqb-true (eleven - r) 11 f)) refl
-    go false e false f = rest (omega (arith, eqb-false (eleven - r) 10 e, eqb-false (eleven - r) 11 f)) (omega arith)
+    go : (a : Bool) → eqb (modulus - r) 10 ≡ a → (b : Bool) → eqb (modulus - r) 11 ≡ b → Taken r (cond a 1 (cond b 0 (modulus - r)))
+    go true e b f = one (omega (arith, eqb-true (modulus - r) 10 e)) refl
+    go false e true f = nothing (omega (arith, eqb-true (modulus - r) 11 f)) refl
+    go false e false f = rest (omega (arith, eqb-false (modulus - r) 10 e, eqb-false (modulus - r) 11 f)) (omega arith)
 
 -- two remainders are taken to the same digit where they are the same, or 1 and 10
-pub same-digit : (r s : ℕ) → r < eleven → s < eleven → (r ≡ s → ⊥) → (oneFigure (eleven - r) ≡ oneFigure (eleven - s)) ↔ (((r ≡ 1) × (s ≡ 10)) ⊎ ((r ≡ 10) × (s ≡ 1)))
+pub same-digit : (r s : ℕ) → r < modulus → s < modulus → (r ≡ s → ⊥) → (oneFigure (modulus - r) ≡ oneFigure (modulus - s)) ↔ (((r ≡ 1) × (s ≡ 10)) ⊎ ((r ≡ 10) × (s ≡ 1)))
 unfolding oneFigure
 same-digit r s h k apart =
-    (λ e. go (oneFigure (eleven - r)) (oneFigure (eleven - s)) e (taken r h) (taken s k), back)
+    (λ e. go (oneFigure (modulus - r)) (oneFigure (modulus - s)) e (taken r h) (taken s k), back)
   where
     go : (d f : ℕ) → d ≡ f → Taken r d → Taken s f → ((r ≡ 1) × (s ≡ 10)) ⊎ ((r ≡ 10) × (s ≡ 1))
     go d f e (nothing p x) (nothing q y) = absurd (apart (omega arith))
@@ -117,6 +121,6 @@ same-digit r s h k apart =
     go d f e (rest p x) (one q y) = inr (omega arith, q)
     go d f e (rest p x) (rest q y) = absurd (apart (omega arith))
 
-    back : ((r ≡ 1) × (s ≡ 10)) ⊎ ((r ≡ 10) × (s ≡ 1)) → oneFigure (eleven - r) ≡ oneFigure (eleven - s)
+    back : ((r ≡ 1) × (s ≡ 10)) ⊎ ((r ≡ 10) × (s ≡ 1)) → oneFigure (modulus - r) ≡ oneFigure (modulus - s)
     back (inl (p, q)) = rw (p, q)
     back (inr (p, q)) = rw (p, q)
