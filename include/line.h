@@ -302,14 +302,15 @@ line_filled line_fill_commissions(const uint32_t *tariff, size_t tariff_len,
  * Check a number and the check digit that a clerk has keyed from a document:
  *   line_check_number   the document's number, at most 7 digits; its digit is
  *                       what is left when it is divided by 7
- *   line_check_branch   entity and branch as one number, at most 8 digits:
+ *   line_check_branch   entity times 10,000 and the branch, at most 8 digits:
  *                       entity 0072 with branch 0101 is 720101
  *   line_check_account  the account, at most 10 digits
  * The digit of the last two is worked out by weights (docs/CHECK-DIGITS.md,
  * which also says which wrong digits slip through). Link with libentries.a.
  *
- * Each returns 0 where the digit matches; 43 where it does not, as no digit
- * above 9 does, or where the number is longer. Any numbers may be passed.
+ * Each returns 0 where the number is no longer than that and the digit is its
+ * own, else 43. They are plain numbers: 43 is forty-three. A digit above 9 is
+ * no number's own. Any numbers may be passed.
  *
  * There is no global state, so several threads may call at once.
  */

@@ -40,6 +40,7 @@ static void try_branches(void)
     try_digits("0072 0101", line_check_branch, 720101, 9);
     try_digits("0072 0110", line_check_branch, 720110, 1);
     try_digits("0072 0114, remainder 1 for 10", line_check_branch, 720114, 1);
+    try_digits("0072 101, a zero of the branch left out", line_check_branch, 72101, 9);
     try_digits("0000 0000", line_check_branch, 0, 0);
     try_digits("9999 9999", line_check_branch, 99999999, 5);
     try_long("9 digits", line_check_branch, 100000000);
@@ -49,11 +50,13 @@ static void try_branches(void)
 
 /* By hand:
    0000123456: 36 + 15 + 28 + 27 + 20 + 5 = 131, which leaves 10 and gives 1;
+   0000123458: 48 + 15 + 28 + 27 + 20 + 5 = 143, which leaves 0 and gives 0;
    1234567890: 0 + 27 + 56 + 63 + 60 + 25 + 32 + 12 + 4 + 1 = 280, which leaves
    5 and gives 6; 9999999999: 9 times 55 = 495, which leaves 0 and gives 0. */
 static void try_accounts(void)
 {
     try_digits("0000123456", line_check_account, 123456, 1);
+    try_digits("0000123458", line_check_account, 123458, 0);
     try_digits("1234567890", line_check_account, 1234567890, 6);
     try_digits("9999999999", line_check_account, UINT64_C(9999999999), 0);
     try_digits("0072 0101 as an account", line_check_account, 720101, 9);
@@ -61,8 +64,8 @@ static void try_accounts(void)
     try_long("2 to the 63rd", line_check_account, UINT64_C(1) << 63);
 }
 
-/* A one at each place and nothing else: its weight taken from 11, which is 10
-   at the last place and 1 at that of the weight 10. */
+/* A one at each place and nothing else: its weight taken from 11. At the
+   highest place that is 10, which becomes 1; at the weight 10 it is 1 itself. */
 static void try_places(void)
 {
     static const uint8_t due[] = { 5, 8, 4, 2, 1, 6, 3, 7, 9, 1 };

@@ -24,9 +24,10 @@ digits : AllDue
     ∷ weightedSum 720110 is 65
     ∷ remainder 720110 is 10
     ∷ weightedDigit 720110 is 1
-    -- accounts: 131 leaves 10, 280 leaves 5, 495 leaves nothing; and one that leaves 1
+    -- accounts: 131 leaves 10, 143 leaves nothing, 280 leaves 5, 495 leaves nothing; and one that leaves 1
     ∷ weightedSum 123456 is 131
     ∷ weightedDigit 123456 is 1
+    ∷ weightedDigit 123458 is 0
     ∷ weightedSum 1234567890 is 280
     ∷ weightedDigit 1234567890 is 6
     ∷ weightedSum 9999999999 is 495

@@ -8,23 +8,30 @@ use Rattle.check_digits.specs.Weighted.{weightedDigit}
 use Rattle.check_digits.specs.declared.check.KeyedAnswer.{KeyedAnswer}
 
 -- 'Document digit: the number modulo 7'
+abbrev pub documentModulus : ℕ
+documentModulus = 7
+
 abbrev pub documentDigit : (n : ℕ) → ℕ
-documentDigit n = n % 7
+documentDigit n = n % documentModulus
 
 -- a check: how many digits its numbers have at most, and the check digit that a number has
 pub record Check : Type 0 where
   pub digits : ℕ
   pub digitOf : ℕ → ℕ
 
--- 'a number longer than 7, 8 or 10 digits in turn': that of a document, an entity with its branch as one number, an account
+-- by weights, with so many digits at most
+abbrev pub byWeights : (digits : ℕ) → Check
+byWeights digits = record { digits = digits; digitOf = weightedDigit }
+
+-- '7, 8 or 10 digits in turn': a document's number; an entity and behind it its branch, as one number; an account
 abbrev pub ofNumber : Check
 ofNumber = record { digits = 7; digitOf = documentDigit }
 
 abbrev pub ofBranch : Check
-ofBranch = record { digits = 8; digitOf = weightedDigit }
+ofBranch = byWeights 8
 
 abbrev pub ofAccount : Check
-ofAccount = record { digits = 10; digitOf = weightedDigit }
+ofAccount = byWeights 10
 
 -- the digit matches, and the number is no longer than allowed
 abbrev pub passes : Check → (n digit : ℕ) → Bool

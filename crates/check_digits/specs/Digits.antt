@@ -10,8 +10,8 @@ digitAt place n = n / 10 ^ place % 10
 unfoldable pub withDigit : (place digit n : ℕ) → ℕ
 withDigit place digit n = n - digitAt place n * 10 ^ place + digit * 10 ^ place
 
--- claimed, and proved in proofs/Laws/Digits: it has the digit there and every other digit as it was, at a place within so many digits it stays
--- within them, and a number whose digits are the same but at one place is no other than this one
+-- claimed, and proved in proofs/Laws/Digits: it has the digit there, and every other digit as it was; a number of at most so many digits, changed
+-- at one of them, has no more; and a number that has the same digits at all other places is this one
 pub record OneDigitChanged : Type 0 where
   pub there : (place digit n : ℕ) → digit < 10 → digitAt place (withDigit place digit n) ≡ digit
   pub elsewhere : (place digit n other : ℕ) → digit < 10 → (other ≡ place → ⊥) → digitAt other (withDigit place digit n) ≡ digitAt other n

@@ -3,7 +3,7 @@ use Prim.Native.Nat.{ℕ, _+_, _^_, _<_}
 use mathlib.Core.Path.{_≡_}
 use mathlib.Core.Logic.{_↔_, _⊎_}
 use Rattle.check_digits.specs.Digits.{digitAt, withDigit}
-use Rattle.check_digits.specs.Weighted.{remainder, weightedDigit}
+use Rattle.check_digits.specs.Weighted.{remainder}
 use Rattle.check_digits.specs.Check.{Check, ofNumber, ofBranch, ofAccount, keyedRefusal}
 
 -- a number no longer than allowed, one of its places, and another digit than stands there
@@ -13,10 +13,13 @@ pub record WrongDigit (c : Check) (n place wrong : ℕ) : Type 0 where
   pub figure : wrong < 10
   pub other : wrong ≡ digitAt place n → ⊥
 
--- with every wrong digit: what is keyed passes, beside the check digit of the right number, exactly when it is as `Slip` says
+-- the answer to the number with the wrong digit, keyed with the check digit of the right one
+abbrev pub answerTo : Check → (n place wrong : ℕ) → ℕ
+answerTo c n place wrong = keyedRefusal c (withDigit place wrong n) (c .digitOf n)
+
+-- every wrong digit passes exactly when it is as `Slip` says
 abbrev pub PassesExactlyWhen : Check → (Slip : (n place wrong : ℕ) → Type 0) → Type 0
-PassesExactlyWhen c Slip =
-    (n place wrong : ℕ) → WrongDigit c n place wrong → (keyedRefusal c (withDigit place wrong n) (c .digitOf n) ≡ 0) ↔ Slip n place wrong
+PassesExactlyWhen c Slip = (n place wrong : ℕ) → WrongDigit c n place wrong → (answerTo c n place wrong ≡ 0) ↔ Slip n place wrong
 
 -- 'old and new differ by 7'
 abbrev pub DifferBySeven : (n place wrong : ℕ) → Type 0
@@ -29,9 +32,14 @@ OneAndTen n place wrong =
     let new = remainder (withDigit place wrong n) in
     ((old ≡ 1) × (new ≡ 10)) ⊎ ((old ≡ 10) × (new ≡ 1))
 
--- claimed, and proved in proofs/Laws/Slips; by the last no wrong digit passes where another check digit than 1 is printed
+-- so none passes where another check digit than 1 is printed
+abbrev pub CaughtUnlessOne : Check → Type 0
+CaughtUnlessOne c = (n place wrong : ℕ) → WrongDigit c n place wrong → (c .digitOf n ≡ 1 → ⊥) → answerTo c n place wrong ≡ 43
+
+-- claimed, and proved in proofs/Laws/Slips
 pub record SlipsThrough : Type 0 where
   pub number : PassesExactlyWhen ofNumber DifferBySeven
   pub branch : PassesExactlyWhen ofBranch OneAndTen
   pub account : PassesExactlyWhen ofAccount OneAndTen
-  pub printedOne : (n place wrong : ℕ) → OneAndTen n place wrong → weightedDigit n ≡ 1
+  pub branchCaught : CaughtUnlessOne ofBranch
+  pub accountCaught : CaughtUnlessOne ofAccount

@@ -14,22 +14,22 @@ unfoldable pub weightedFrom : (place : ℕ) (ws : List ℕ) (n : ℕ) → ℕ
 weightedFrom place [] n = 0
 weightedFrom place (w ∷ ws) n = digitAt place n * w + weightedFrom (suc place) ws n
 
--- 'the sum' of all of them
+-- 'the sum', of the ten lowest digits; a longer number has its 43 whatever comes out
 abbrev pub weightedSum : (n : ℕ) → ℕ
 weightedSum n = weightedFrom 0 weights n
 
 -- what the sum is divided by, and what its remainder is taken from
-abbrev pub modulus : ℕ
-modulus = 11
+abbrev pub weightedModulus : ℕ
+weightedModulus = 11
 
 -- 'the sum modulo 11'
 unfoldable pub remainder : (n : ℕ) → ℕ
-remainder n = weightedSum n % modulus
+remainder n = weightedSum n % weightedModulus
 
 -- '10 becomes 1 and 11 becomes 0'
-unfoldable pub oneFigure : (left : ℕ) → ℕ
-oneFigure left = cond (eqb left 10) 1 (cond (eqb left 11) 0 left)
+unfoldable pub oneFigure : (difference : ℕ) → ℕ
+oneFigure difference = cond (eqb difference 10) 1 (cond (eqb difference 11) 0 difference)
 
 -- 'taken from 11'
 unfoldable pub weightedDigit : (n : ℕ) → ℕ
-weightedDigit n = oneFigure (modulus - remainder n)
+weightedDigit n = oneFigure (weightedModulus - remainder n)

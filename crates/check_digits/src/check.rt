@@ -7,12 +7,14 @@ ghost use Rattle.codes.specs.Chain.{_when_};
 ghost use Rattle.check_digits.specs.Weighted.{weightedDigit};
 ghost use Rattle.check_digits.specs.Check.{ofNumber, ofBranch, ofAccount, keyedRefusal, keyedNumber};
 
+const DOCUMENT_MODULUS: u64 = 7;
+
 // The smallest numbers that are too long, with 8, 9 and 11 digits.
-const LONGER_NUMBER: u64 = 10_000_000;
+const TOO_LONG_NUMBER: u64 = 10_000_000;
 
-const LONGER_BRANCH: u64 = 100_000_000;
+const TOO_LONG_BRANCH: u64 = 100_000_000;
 
-const LONGER_ACCOUNT: u64 = 10_000_000_000;
+const TOO_LONG_ACCOUNT: u64 = 10_000_000_000;
 
 pub enum KeyedAnswer {
     Passes,
@@ -42,26 +44,26 @@ fn judged(passes: bool) -> KeyedAnswer
 pub fn check_number(number: u64, digit: u8) -> KeyedAnswer
     ensures { λ r. ⌜ keyedNumber r ≡ keyedRefusal ofNumber number digit ⌝ }
 {
-    judged((digit as u64 == number % 7) & (number < LONGER_NUMBER))
+    judged((digit as u64 == number % DOCUMENT_MODULUS) & (number < TOO_LONG_NUMBER))
 }
 
 // What entity with branch and account have in common.
-fn check_weighted(number: u64, longer: u64, digit: u8) -> KeyedAnswer
-    ensures { λ r. ⌜ keyedNumber r ≡ (43 when not (eqb digit (weightedDigit number) && ltb number longer)) ⌝ }
+fn check_weighted(number: u64, too_long: u64, digit: u8) -> KeyedAnswer
+    ensures { λ r. ⌜ keyedNumber r ≡ (43 when not (eqb digit (weightedDigit number) && ltb number «too_long»)) ⌝ }
 {
-    judged((digit as u64 == weighted_digit(number)) & (number < longer))
+    judged((digit as u64 == weighted_digit(number)) & (number < too_long))
 }
 
 // An entity with its branch behind it, as one number of at most 8 digits.
 pub fn check_branch(number: u64, digit: u8) -> KeyedAnswer
     ensures { λ r. ⌜ keyedNumber r ≡ keyedRefusal ofBranch number digit ⌝ }
 {
-    check_weighted(number, LONGER_BRANCH, digit)
+    check_weighted(number, TOO_LONG_BRANCH, digit)
 }
 
 // An account, of at most 10 digits.
 pub fn check_account(number: u64, digit: u8) -> KeyedAnswer
     ensures { λ r. ⌜ keyedNumber r ≡ keyedRefusal ofAccount number digit ⌝ }
 {
-    check_weighted(number, LONGER_ACCOUNT, digit)
+    check_weighted(number, TOO_LONG_ACCOUNT, digit)
 }

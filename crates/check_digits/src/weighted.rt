@@ -9,7 +9,7 @@ const PLACES: usize = 10;
 // From the units up.
 const WEIGHTS: [u64; PLACES] = [6, 3, 7, 9, 10, 5, 8, 4, 2, 1];
 
-const MODULUS: u64 = 11;
+const WEIGHTED_MODULUS: u64 = 11;
 
 fn weight(place: usize) -> u64
     requires { ⌜ place < length weights ⌝ }
@@ -34,21 +34,21 @@ fn weighted_sum(number: u64) -> u64
 }
 
 // 10 becomes 1 and 11 becomes 0.
-fn one_figure(left: u64) -> u64
-    ensures { λ r. ⌜ r ≡ oneFigure left ⌝ }
+fn one_figure(difference: u64) -> u64
+    ensures { λ r. ⌜ r ≡ oneFigure difference ⌝ }
 {
-    if left == 10 {
+    if difference == 10 {
         return 1;
     }
-    if left == 11 {
+    if difference == 11 {
         return 0;
     }
-    left
+    difference
 }
 
 // The remainder of the sum, taken from 11, as one figure.
 pub fn weighted_digit(number: u64) -> u64
     ensures { λ r. ⌜ r ≡ weightedDigit number ⌝ }
 {
-    one_figure(MODULUS - weighted_sum(number) % MODULUS)
+    one_figure(WEIGHTED_MODULUS - weighted_sum(number) % WEIGHTED_MODULUS)
 }

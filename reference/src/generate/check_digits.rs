@@ -66,8 +66,8 @@ fn of_length(random: &mut Random, length: usize) -> u64 {
     with_digit(random.number(length - 1), length - 1, first)
 }
 
-/// The right digit, another one, then what is right modulo 7, but for its tens and in its lower four
-/// bits, and any number above 9.
+/// The right digit; another one; then three that a fault could take for it, 7 more, some tens more
+/// and some sixteens more; and any number above 9.
 fn about(random: &mut Random, right: u8) -> [u8; 6] {
     [
         right,

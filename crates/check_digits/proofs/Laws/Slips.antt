@@ -10,12 +10,12 @@ use lib.Dec.{ltb, lit≤}
 use lib.ListN.{length}
 use Rattle.check_digits.specs.Digits.{digitAt, withDigit}
 use Rattle.check_digits.specs.Weighted.{weights, remainder, oneFigure, weightedDigit}
-use Rattle.check_digits.specs.Check.{Check, documentDigit, ofNumber}
-use Rattle.check_digits.specs.Slips.{WrongDigit, PassesExactlyWhen, DifferBySeven, OneAndTen, SlipsThrough}
+use Rattle.check_digits.specs.Check.{Check, documentDigit, byWeights, ofNumber}
+use Rattle.check_digits.specs.Slips.{WrongDigit, PassesExactlyWhen, DifferBySeven, OneAndTen, CaughtUnlessOne, SlipsThrough}
 use Rattle.check_digits.proofs.Laws.Modulo.{same-exactly, power}
 use Rattle.check_digits.proofs.Laws.Digits.{digit-below, exchanged, one-digit-changed}
 use Rattle.check_digits.proofs.Laws.Weighted.{remainder-below, remainder-changed, same-digit}
-use Rattle.check_digits.proofs.Laws.Check.{passes-exactly}
+use Rattle.check_digits.proofs.Laws.Check.{passes-exactly, caught}
 
 -- for every check: what passes is told by the two check digits
 by-digits : (c : Check) (Slip : (n place wrong : ℕ) → Type 0) → ((n place wrong : ℕ) → WrongDigit c n place wrong → (c .digitOf n ≡ c .digitOf (withDigit place wrong n)) ↔ Slip n place wrong) → PassesExactlyWhen c Slip
@@ -45,25 +45,28 @@ document-digits n place wrong w = (λ e. apart (same .0 e), λ d. same .1 (alike
     alike (inl e) = omega arith
     alike (inr e) = omega arith
 
+printed-one : (n place wrong : ℕ) → OneAndTen n place wrong → weightedDigit n ≡ 1
+unfolding weightedDigit oneFigure
+printed-one n place wrong (inl (old, new)) = rw old
+printed-one n place wrong (inr (old, new)) = rw old
+
 -- modulo 11: the remainders differ, and so do the digits that they are taken to, but for 1 and 10; there is a weight for every digit that is
 -- allowed
 module _ (digits : ℕ) (few : digits ≤ length weights) where
-  abbrev byWeights : Check
-  byWeights = record { digits = digits; digitOf = weightedDigit }
-
-  weighted-digits : (n place wrong : ℕ) → WrongDigit byWeights n place wrong → (weightedDigit n ≡ weightedDigit (withDigit place wrong n)) ↔ OneAndTen n place wrong
+  weighted-digits : (n place wrong : ℕ) → WrongDigit (byWeights digits) n place wrong → (weightedDigit n ≡ weightedDigit (withDigit place wrong n)) ↔ OneAndTen n place wrong
   unfolding weightedDigit
   weighted-digits n place wrong w =
       let changed = withDigit place wrong n in
       same-digit (remainder n) (remainder changed) (remainder-below n) (remainder-below changed) (remainder-changed n place wrong (omega arith) (w .figure) (w .other))
 
-  weighted-slips : PassesExactlyWhen byWeights OneAndTen
-  weighted-slips = by-digits byWeights OneAndTen weighted-digits
+  weighted-slips : PassesExactlyWhen (byWeights digits) OneAndTen
+  weighted-slips = by-digits (byWeights digits) OneAndTen weighted-digits
 
-printed-one : (n place wrong : ℕ) → OneAndTen n place wrong → weightedDigit n ≡ 1
-unfolding weightedDigit oneFigure
-printed-one n place wrong (inl (old, new)) = rw old
-printed-one n place wrong (inr (old, new)) = rw old
+  -- what does not pass is caught, and the check digit of either remainder is 1
+  weighted-caught : CaughtUnlessOne (byWeights digits)
+  weighted-caught n place wrong w printed =
+      caught (byWeights digits) (withDigit place wrong n) (weightedDigit n)
+      (λ e. printed (printed-one n place wrong (weighted-slips n place wrong w .0 e)))
 
 pub slips-through : SlipsThrough
 unfolding weights
@@ -72,5 +75,6 @@ slips-through =
       number = by-digits ofNumber DifferBySeven document-digits;
       branch = weighted-slips 8 (lit≤ tt);
       account = weighted-slips 10 (lit≤ tt);
-      printedOne = printed-one;
+      branchCaught = weighted-caught 8 (lit≤ tt);
+      accountCaught = weighted-caught 10 (lit≤ tt);
     }

@@ -1,6 +1,6 @@
 -- Laws of the weighted sum and its remainder: the sum step by step, what one changed digit does to it, and what a remainder is taken to.
 use mathlib.Core.Path.{_≡_, refl, ap, sym, _∙_}
-use mathlib.Core.Bool.{Bool, true, false, _&&_, cond}
+use mathlib.Core.Bool.{Bool, true, false, cond}
 use mathlib.Core.Logic.{_↔_, _⊎_, inl, inr}
 use mathlib.Core.List.{List, [], _∷_}
 use Prim.Native.Nat.{ℕ, zero, suc, _+_, _-_, _*_, _^_, _/_, _%_, _≤_, _<_}
@@ -10,9 +10,10 @@ use borrow.Author.Tests.{leb-true, eqb-true, eqb-false}
 use lib.Dec.{eqb, leb}
 use lib.ListN.{length, drop, getD}
 use lib.Seq.{drop-cons}
-use Rattle.packed.proofs.Laws.Told.{both}
+use Rattle.packed.specs.Every.{every}
+use Rattle.packed.proofs.Laws.Every.{every-cons}
 use Rattle.check_digits.specs.Digits.{digitAt, withDigit}
-use Rattle.check_digits.specs.Weighted.{weights, weightedFrom, modulus, remainder, oneFigure}
+use Rattle.check_digits.specs.Weighted.{weights, weightedFrom, weightedModulus, remainder, oneFigure}
 use Rattle.check_digits.proofs.Laws.Modulo.{same-exactly}
 use Rattle.check_digits.proofs.Laws.Digits.{digit-shifted, digit-below, tenth, units-tenth, one-digit-changed}
 
@@ -47,45 +48,35 @@ module _ (digit : ℕ) (h : digit < 10) where
       rw (one-digit-changed .elsewhere (suc p) digit n 0 h (λ e. omega arith), rest, weighted-shifted 0 ws n, digit-shifted p n)
       (omega (arith, exchanged-sum p (n / 10) ws (omega arith)))
 
--- a test of every number below a limit, and what it tells of each
-abbrev everyBelow : (ℕ → Bool) → ℕ → Bool
-everyBelow p zero = true
-everyBelow p (suc n) = everyBelow p n && p n
+-- what holds of every weight holds of that of each place
+each-weight : (p : ℕ → Bool) (ws : List ℕ) → every p ws ≡ true → (place : ℕ) → place < length ws → p (getD ws place 0) ≡ true
+each-weight p [] e place h = absurd (omega arith)
+each-weight p (w ∷ ws) e zero h = every-cons p w ws e .0
+each-weight p (w ∷ ws) e (suc q) h = each-weight p ws (every-cons p w ws e .1) q (omega arith)
 
-each-below : (p : ℕ → Bool) (limit : ℕ) → everyBelow p limit ≡ true → (n : ℕ) → n < limit → p n ≡ true
-each-below p zero e n h = absurd (omega arith)
-each-below p (suc l) e n h =
-    let told = both (everyBelow p l) (p l) e in
-    go (eqb n l) refl (told .1) (λ k. each-below p l (told .0) n k)
-  where
-    go : (t : Bool) → eqb n l ≡ t → p l ≡ true → (n < l → p n ≡ true) → p n ≡ true
-    go true at last below = ap p (eqb-true n l at) ∙ last
-    go false off last below = below (omega (arith, eqb-false n l off))
-
--- a weight is at most 10
-weight-most : (place : ℕ) → place < length weights → getD weights place 0 ≤ 10
-unfolding weights
-weight-most place h = leb-true (getD weights place 0) 10 (each-below (λ p. leb (getD weights p 0) 10) 10 refl place h)
-
+-- none is above 10
 pub product-most : (n place : ℕ) → place < length weights → n % 10 * getD weights place 0 ≤ 90
-product-most n place h = mul-le-mul {n₂ = 9} {m₂ = 10} (omega arith) (weight-most place h)
+unfolding weights every
+product-most n place h =
+    let most = leb-true (getD weights place 0) 10 (each-weight (λ w. leb w 10) weights refl place h) in
+    mul-le-mul {n₂ = 9} {m₂ = 10} (omega arith) most
 
--- no weight is a multiple of 11: that of each place has an inverse, two at the units and twice as much with each place
-weight-inverse : (place : ℕ) → place < length weights → getD weights place 0 * 2 ^ suc place % modulus ≡ 1
-unfolding weights
+-- none is a multiple of 11: each has an inverse, its own ninth power
+weight-inverse : (place : ℕ) → place < length weights → getD weights place 0 * getD weights place 0 ^ 9 % weightedModulus ≡ 1
+unfolding weights every
 weight-inverse place h =
-    eqb-true (getD weights place 0 * 2 ^ suc place % modulus) 1
-    (each-below (λ p. eqb (getD weights p 0 * 2 ^ suc p % modulus) 1) 10 refl place h)
+    let w = getD weights place 0 in
+    eqb-true (w * w ^ 9 % weightedModulus) 1 (each-weight (λ w. eqb (w * w ^ 9 % weightedModulus) 1) weights refl place h)
 
 -- so one wrong digit always changes the remainder
 pub remainder-changed : (n place digit : ℕ) → place < length weights → digit < 10 → (digit ≡ digitAt place n → ⊥) → remainder n ≡ remainder (withDigit place digit n) → ⊥
 unfolding remainder
 remainder-changed n place digit l h other same =
     let w = getD weights place 0 in
-    let alike = same-exactly 10 w (2 ^ suc place) (weight-inverse place l) (weightedFrom 0 weights n) (weightedFrom 0 weights (withDigit place digit n)) (digitAt place n) digit (exchanged-sum digit h place n weights l) .0 same in
+    let alike = same-exactly 10 w (w ^ 9) (weight-inverse place l) (weightedFrom 0 weights n) (weightedFrom 0 weights (withDigit place digit n)) (digitAt place n) digit (exchanged-sum digit h place n weights l) .0 same in
     other (omega (arith, alike, digit-below place n))
 
-pub remainder-below : (n : ℕ) → remainder n < modulus
+pub remainder-below : (n : ℕ) → remainder n < weightedModulus
 unfolding remainder
 remainder-below n = omega arith
 
@@ -95,20 +86,20 @@ pub data Taken (r d : ℕ) : Type 0 where
   one : r ≡ 1 → d ≡ 1 → Taken r d
   rest : 2 ≤ r → d + r ≡ 11 → Taken r d
 
-pub taken : (r : ℕ) → r < modulus → Taken r (oneFigure (modulus - r))
+pub taken : (r : ℕ) → r < weightedModulus → Taken r (oneFigure (weightedModulus - r))
 unfolding oneFigure
-taken r h = go (eqb (modulus - r) 10) refl (eqb (modulus - r) 11) refl
+taken r h = go (eqb (weightedModulus - r) 10) refl (eqb (weightedModulus - r) 11) refl
   where
-    go : (a : Bool) → eqb (modulus - r) 10 ≡ a → (b : Bool) → eqb (modulus - r) 11 ≡ b → Taken r (cond a 1 (cond b 0 (modulus - r)))
-    go true e b f = one (omega (arith, eqb-true (modulus - r) 10 e)) refl
-    go false e true f = nothing (omega (arith, eqb-true (modulus - r) 11 f)) refl
-    go false e false f = rest (omega (arith, eqb-false (modulus - r) 10 e, eqb-false (modulus - r) 11 f)) (omega arith)
+    go : (a : Bool) → eqb (weightedModulus - r) 10 ≡ a → (b : Bool) → eqb (weightedModulus - r) 11 ≡ b → Taken r (cond a 1 (cond b 0 (weightedModulus - r)))
+    go true e b f = one (omega (arith, eqb-true (weightedModulus - r) 10 e)) refl
+    go false e true f = nothing (omega (arith, eqb-true (weightedModulus - r) 11 f)) refl
+    go false e false f = rest (omega (arith, eqb-false (weightedModulus - r) 10 e, eqb-false (weightedModulus - r) 11 f)) (omega arith)
 
 -- two remainders are taken to the same digit where they are the same, or 1 and 10
-pub same-digit : (r s : ℕ) → r < modulus → s < modulus → (r ≡ s → ⊥) → (oneFigure (modulus - r) ≡ oneFigure (modulus - s)) ↔ (((r ≡ 1) × (s ≡ 10)) ⊎ ((r ≡ 10) × (s ≡ 1)))
+pub same-digit : (r s : ℕ) → r < weightedModulus → s < weightedModulus → (r ≡ s → ⊥) → (oneFigure (weightedModulus - r) ≡ oneFigure (weightedModulus - s)) ↔ (((r ≡ 1) × (s ≡ 10)) ⊎ ((r ≡ 10) × (s ≡ 1)))
 unfolding oneFigure
 same-digit r s h k apart =
-    (λ e. go (oneFigure (modulus - r)) (oneFigure (modulus - s)) e (taken r h) (taken s k), back)
+    (λ e. go (oneFigure (weightedModulus - r)) (oneFigure (weightedModulus - s)) e (taken r h) (taken s k), back)
   where
     go : (d f : ℕ) → d ≡ f → Taken r d → Taken s f → ((r ≡ 1) × (s ≡ 10)) ⊎ ((r ≡ 10) × (s ≡ 1))
     go d f e (nothing p x) (nothing q y) = absurd (apart (omega arith))
@@ -121,6 +112,6 @@ same-digit r s h k apart =
     go d f e (rest p x) (one q y) = inr (omega arith, q)
     go d f e (rest p x) (rest q y) = absurd (apart (omega arith))
 
-    back : ((r ≡ 1) × (s ≡ 10)) ⊎ ((r ≡ 10) × (s ≡ 1)) → oneFigure (modulus - r) ≡ oneFigure (modulus - s)
+    back : ((r ≡ 1) × (s ≡ 10)) ⊎ ((r ≡ 10) × (s ≡ 1)) → oneFigure (weightedModulus - r) ≡ oneFigure (weightedModulus - s)
     back (inl (p, q)) = rw (p, q)
     back (inr (p, q)) = rw (p, q)

@@ -16,8 +16,8 @@ returns-2 c = sym (ap oneFigure (c .if2 .taken))
 returns-3 : tie.Need-returns-3
 unfolding oneFigure
 returns-3 c =
-    let left = c .before .before .args .left in
-    rw (ne-eqb left 10 (c .before .if1 .left), ne-eqb left 11 (c .if2 .left))
+    let difference = c .before .before .args .difference in
+    rw (ne-eqb difference 10 (c .before .if1 .left), ne-eqb difference 11 (c .if2 .left))
 
 pub one-figure-spec : {M : Type 1} → statement M
 one-figure-spec = tie.close (tie.spec returns returns-2 returns-3)

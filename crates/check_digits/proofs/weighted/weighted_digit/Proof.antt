@@ -2,7 +2,7 @@
 use mathlib.Core.Path.{ap, _∙_}
 use Prim.Native.Nat.{ℕ, _-_, _%_}
 use borrow.Author.Needs.{needs}
-use Rattle.check_digits.specs.Weighted.{modulus, remainder, oneFigure, weightedDigit}
+use Rattle.check_digits.specs.Weighted.{weightedModulus, remainder, oneFigure, weightedDigit}
 use Rattle.check_digits.proofs.weighted.weighted_digit.Statement.{statement}
 use Rattle.check_digits.proofs.weighted.weighted_digit.Tie as tie
 
@@ -17,7 +17,7 @@ one-figure-requires c κs = search needs
 
 returns : tie.Need-returns
 unfolding weightedDigit remainder
-returns c = c .one-figure .ensures ∙ ap (λ (sum : ℕ). oneFigure (modulus - sum % modulus)) (c .before .weighted-sum .ensures)
+returns c = c .one-figure .ensures ∙ ap (λ (sum : ℕ). oneFigure (weightedModulus - sum % weightedModulus)) (c .before .weighted-sum .ensures)
 
 pub weighted-digit-spec : {M : Type 1} → statement M
 weighted-digit-spec =
