@@ -8,6 +8,50 @@
 
 typedef uint8_t check(uint64_t number, uint8_t digit);
 
+/* No digit is due: the number is too long. */
+#define NONE (UINT8_MAX + 1)
+
+#define TWO_TO(n) (UINT64_C(1) << (n))
+
+/* Accounts by hand:
+   0000123456: 36 + 15 + 28 + 27 + 20 + 5 = 131, which leaves 10 and gives 1;
+   0000123458: 48 + 15 + 28 + 27 + 20 + 5 = 143, which leaves 0 and gives 0;
+   1234567890: 0 + 27 + 56 + 63 + 60 + 25 + 32 + 12 + 4 + 1 = 280, which leaves
+   5 and gives 6; 9999999999: 9 times 55 = 495, which leaves 0 and gives 0. */
+static const struct row {
+    const char *what;
+    check *checked;
+    uint64_t number;
+    unsigned due;
+} rows[] = {
+    { "2434157", line_check_number, 2434157, 5 },
+    { "9 for 2, which differ by 7", line_check_number, 9434157, 5 },
+    { "3 for 2", line_check_number, 3434157, 6 },
+    { "number 0", line_check_number, 0, 0 },
+    { "the largest number", line_check_number, 9999999, 2 },
+    { "8 digits", line_check_number, 10000000, NONE },
+    { "2434157 and 2 to the 32nd", line_check_number, 2434157 + TWO_TO(32), NONE },
+    { "the largest of 64 bits", line_check_number, UINT64_MAX, NONE },
+
+    { "0072 0101", line_check_branch, 720101, 9 },
+    { "0072 0110", line_check_branch, 720110, 1 },
+    { "0072 0114, remainder 1 for 10", line_check_branch, 720114, 1 },
+    { "0072 101, a zero of the branch left out", line_check_branch, 72101, 9 },
+    { "0000 0000", line_check_branch, 0, 0 },
+    { "9999 9999", line_check_branch, 99999999, 5 },
+    { "9 digits", line_check_branch, 100000000, NONE },
+    { "an account as a branch", line_check_branch, 1234567890, NONE },
+    { "0072 0101 and 2 to the 32nd", line_check_branch, 720101 + TWO_TO(32), NONE },
+
+    { "0000123456", line_check_account, 123456, 1 },
+    { "0000123458", line_check_account, 123458, 0 },
+    { "1234567890", line_check_account, 1234567890, 6 },
+    { "9999999999", line_check_account, UINT64_C(9999999999), 0 },
+    { "0072 0101 as an account", line_check_account, 720101, 9 },
+    { "11 digits", line_check_account, UINT64_C(10000000000), NONE },
+    { "2 to the 63rd", line_check_account, TWO_TO(63), NONE },
+};
+
 /* Of the 256 digits that may be keyed, the one that is due passes alone. */
 static void try_digits(const char *what, check *checked, uint64_t number, unsigned due)
 {
@@ -15,53 +59,6 @@ static void try_digits(const char *what, check *checked, uint64_t number, unsign
 
     for (digit = 0; digit <= UINT8_MAX; digit++)
         same(what, checked(number, (uint8_t)digit), digit == due ? 0 : 43);
-}
-
-/* Whatever the digit, the number is too long. */
-static void try_long(const char *what, check *checked, uint64_t number)
-{
-    try_digits(what, checked, number, UINT8_MAX + 1);
-}
-
-static void try_numbers(void)
-{
-    try_digits("2434157", line_check_number, 2434157, 5);
-    try_digits("one wrong digit, by seven", line_check_number, 9434157, 5);
-    try_digits("one wrong digit, by one", line_check_number, 3434157, 6);
-    try_digits("number 0", line_check_number, 0, 0);
-    try_digits("the largest number", line_check_number, 9999999, 2);
-    try_long("8 digits", line_check_number, 10000000);
-    try_long("the largest of 64 bits", line_check_number, UINT64_MAX);
-    try_long("the example and 2 to the 32nd", line_check_number, 2434157 + (UINT64_C(1) << 32));
-}
-
-static void try_branches(void)
-{
-    try_digits("0072 0101", line_check_branch, 720101, 9);
-    try_digits("0072 0110", line_check_branch, 720110, 1);
-    try_digits("0072 0114, remainder 1 for 10", line_check_branch, 720114, 1);
-    try_digits("0072 101, a zero of the branch left out", line_check_branch, 72101, 9);
-    try_digits("0000 0000", line_check_branch, 0, 0);
-    try_digits("9999 9999", line_check_branch, 99999999, 5);
-    try_long("9 digits", line_check_branch, 100000000);
-    try_long("an account", line_check_branch, 1234567890);
-    try_long("0072 0101 and 2 to the 32nd", line_check_branch, 720101 + (UINT64_C(1) << 32));
-}
-
-/* By hand:
-   0000123456: 36 + 15 + 28 + 27 + 20 + 5 = 131, which leaves 10 and gives 1;
-   0000123458: 48 + 15 + 28 + 27 + 20 + 5 = 143, which leaves 0 and gives 0;
-   1234567890: 0 + 27 + 56 + 63 + 60 + 25 + 32 + 12 + 4 + 1 = 280, which leaves
-   5 and gives 6; 9999999999: 9 times 55 = 495, which leaves 0 and gives 0. */
-static void try_accounts(void)
-{
-    try_digits("0000123456", line_check_account, 123456, 1);
-    try_digits("0000123458", line_check_account, 123458, 0);
-    try_digits("1234567890", line_check_account, 1234567890, 6);
-    try_digits("9999999999", line_check_account, UINT64_C(9999999999), 0);
-    try_digits("0072 0101 as an account", line_check_account, 720101, 9);
-    try_long("11 digits", line_check_account, UINT64_C(10000000000));
-    try_long("2 to the 63rd", line_check_account, UINT64_C(1) << 63);
 }
 
 /* A one at each place and nothing else: its weight taken from 11. At the
@@ -81,9 +78,10 @@ static void try_places(void)
 
 int main(void)
 {
-    try_numbers();
-    try_branches();
-    try_accounts();
+    size_t i;
+
+    for (i = 0; i < COUNT(rows); i++)
+        try_digits(rows[i].what, rows[i].checked, rows[i].number, rows[i].due);
     try_places();
     return counted();
 }
