@@ -38,6 +38,7 @@ typedef struct line_checked {
  *    1  a field of any document, amounts aside
  *    3  a nominal or commission with a non-digit
  *    6  a presented document's drawee is neither own nor represented
+ *   44  the nominal of any document, presented or return, is zero
  * They are plain numbers: 24 is twenty-four. So are own and represented:
  * entity 0072 is 72.
  *
@@ -101,8 +102,9 @@ typedef struct line_evening {
  * direction ends with its session total. Then both ends close and report.
  *
  * What is refused or replied to with a code stays unsent: nobody mends it,
- * and the reports show what was accepted. Two lots with the same three totals
- * are such a case, so the amounts of a measurement should differ.
+ * and the reports show what was accepted. A part with a document of nominal
+ * zero is such a case, and so are two lots with the same three totals; the
+ * amounts of a measurement should differ.
  *
  * Whatever lies in the trays, each end's received sums are then the other's
  * presented ones, and neither end awaits a reply: the theorem

@@ -1,5 +1,6 @@
 /* Runs evenings through line_exchange: one of a document each way, one whose
-   near document the far end does not take, and some with a tray that is cut.
+   near document the far end does not take, two with a document for nothing,
+   which no end sends, and some with a tray that is cut.
    Use: exchange_test, without arguments. */
 #include "example.h"
 #include "line.h"
@@ -65,6 +66,11 @@ static line_evening closed(line_sums near, line_sums far)
     return e;
 }
 
+static void clear_nominal(uint8_t *document)
+{
+    memset(document + NOMINAL, 0, 6);
+}
+
 /* A tray that is cut is seen by its length, whichever it is. */
 static void try_lengths_alone(void)
 {
@@ -85,16 +91,21 @@ int main(void)
     const line_sums presented = { 1, 1, 15000, 30 };
     const line_sums returned = { 1, 1, 15099, 30 };
     const line_evening refused = { .code = 25 };
-    uint8_t back[DOCUMENT], strange[DOCUMENT];
+    uint8_t back[DOCUMENT], strange[DOCUMENT], nothing[DOCUMENT];
 
     memcpy(back, example, DOCUMENT);
     back[ENTITY + 1] = back[DRAWEE + 1] = 0x81;
     back[NOMINAL + 5] = 0x99;
     memcpy(strange, example, DOCUMENT);
     strange[DRAWEE + 1] = 0x73;
+    memcpy(nothing, example, DOCUMENT);
+    clear_nominal(nothing);
 
     run("both ways", example, 0, back, closed(presented, returned));
     run("not served", strange, 0, back, closed(none, returned));
+    run("for nothing", nothing, 0, back, closed(none, returned));
+    clear_nominal(back);
+    run("a return for nothing", example, 0, back, closed(presented, none));
     run("a cut tray", example, 50, back, refused);
     try_lengths_alone();
 

@@ -1,4 +1,4 @@
--- 01, 'Given because of the input' and 'Given because of the state': the codes that travel in replies.
+-- 01, 'Given because of the input' and 'Given because of the state', and 02, card 6: the codes that travel in replies.
 use Prim.Native.Nat.{ℕ}
 use mathlib.Core.Bool.{Bool, true, false}
 use mathlib.Core.List.{List, [], _∷_}
@@ -20,6 +20,7 @@ codeNumber Code.MixedOperations = 9  -- groups of both operations
 codeNumber Code.TooLate = 10  -- a header sent from the preclose on, or received from the cut-off on
 codeNumber Code.TooManyLots = 11  -- the direction has all the lots that it may have
 codeNumber Code.TooManyDocuments = 12  -- the lot would grow past its limit
+codeNumber Code.ForNothing = 44  -- the nominal of a document is zero
 
 -- all of them, in the order of the numbers
 unfoldable pub codes : List Code
@@ -35,6 +36,7 @@ codes =
     ∷ Code.TooLate
     ∷ Code.TooManyLots
     ∷ Code.TooManyDocuments
+    ∷ Code.ForNothing
     ∷ []
 
 -- the byte that carries a code: its number, packed

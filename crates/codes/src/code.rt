@@ -1,6 +1,6 @@
 // What a receiver answers to a message; some of the codes also stop a send. A new code is a variant, its number, its row
-// and the count here, its number and its row in specs/Code.antt, a clause of `written-then-read` and a byte of
-// `known-bytes`; the check refuses while one of them is missing.
+// and the count here, its number and its row in specs/Code.antt, a clause of `found-again`, a byte of `known-bytes`, and a
+// case of `session` in which a reply carries it; the check refuses while one of them is missing.
 use packed::writing::packed_byte;
 ghost use mathlib.Core.Path.{_≡_};
 ghost use Rattle.codes.specs.Code.{codeNumber, codeByte, readCode};
@@ -17,6 +17,7 @@ pub enum Code {
     TooLate,
     TooManyLots,
     TooManyDocuments,
+    ForNothing,
 }
 
 // A byte read as a code.
@@ -41,6 +42,7 @@ pub fn code_number(c: Code) -> u8
         Code::TooLate => 10,
         Code::TooManyLots => 11,
         Code::TooManyDocuments => 12,
+        Code::ForNothing => 44,
     }
 }
 
@@ -52,7 +54,7 @@ pub fn code_byte(c: Code) -> u8
 }
 
 // How many codes there are.
-const COUNT: usize = 11;
+const COUNT: usize = 12;
 
 // Every code, in the order of the numbers. The commonest is found first.
 const CODES: [Code; COUNT] = [
@@ -67,6 +69,7 @@ const CODES: [Code; COUNT] = [
     Code::TooLate,
     Code::TooManyLots,
     Code::TooManyDocuments,
+    Code::ForNothing,
 ];
 
 // What a byte says where a reply has its code.

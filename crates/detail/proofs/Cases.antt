@@ -1,4 +1,4 @@
--- 01, 'Detail' and 'Order, first that applies': every rule of a document where it begins and where it ends, and the codes that bytes decide, each two
+-- 01, 'Detail' and 'Order, first that applies', and 02, card 6: every rule of a document where it begins and where it ends, and the codes that bytes decide, each two
 -- neighbours where both apply: tables over the check program's body, computed.
 use mathlib.Core.Path.{_≡_, refl}
 use mathlib.Core.Bool.{Bool, true, not, _&&_}
@@ -15,7 +15,7 @@ use Rattle.packed.specs.Writing.{packedByte, packedBytes}
 use Rattle.codes.specs.Chain.{_when_, _orelse_}
 use Rattle.codes.specs.Field.{Field, earning}
 use Rattle.codes.proofs.Cases.{Case, _is_, AllDue, with-byte}
-use Rattle.document.specs.Amounts.{nominal, commission, totalsOf}
+use Rattle.document.specs.Amounts.{nominal, commission, forSomething, totalsOf}
 use Rattle.document.specs.Drawee.{drawee, draweeServed}
 use Rattle.document.specs.Fields.{documentFields, fieldsGood, amountsGood}
 use Rattle.document.specs.Operation.{presented, presentedNumber, returned, returnedNumber}
@@ -27,7 +27,7 @@ use Rattle.detail.specs.Checked.{checkedCode, checked}
 
 -- whoever unfolds this unfolds all that a case computes with
 unfoldable pub computing : Unit {0}
-unfolding checked totalsOf nominal commission checkedCode receiverCode presenterCode partSendable shapeGood oneOperation documents groups groupGood fieldsGood amountsGood documentFields monthDays draweeServed drawee member every anyOf isDigits byteValue number cut packedByte packedBytes _when_ _orelse_ earning flatMap
+unfolding checked totalsOf nominal commission forSomething checkedCode receiverCode presenterCode partSendable shapeGood oneOperation documents groups groupGood fieldsGood amountsGood documentFields monthDays draweeServed drawee member every anyOf isDigits byteValue number cut packedByte packedBytes _when_ _orelse_ earning flatMap
 computing = tt
 
 -- 01, 'The check program': a detail of one document
@@ -55,8 +55,12 @@ printed =
     ∷ []
 
 -- the same as a return, whose reason is 0001
-abbrev asReturn : List ℕ
+abbrev pub asReturn : List ℕ
 asReturn = with-byte 3 returned printed
+
+-- a detail whose first document is for nothing
+abbrev pub forNothing : List ℕ → List ℕ
+forNothing body = sets body 29 (replicate 6 0x00)
 
 -- the code of a body at entity 0072, which represents nobody
 abbrev code : List ℕ → ℕ
@@ -116,11 +120,11 @@ rules = refl
 abbrev two : (first second : List ℕ) → List ℕ
 two first second = with-byte 4 0x02 first ++ drop headBytes second
 
-abbrev twoGroups : (second : List ℕ) → List ℕ
+abbrev pub twoGroups : (second : List ℕ) → List ℕ
 twoGroups second = with-byte 4 0x04 (printed ++ drop headBytes printed ++ drop headBytes printed ++ drop headBytes printed) ++ second
 
-abbrev byBytes : List (Case ℕ)
-byBytes =
+codes-due :
+    let cases : List (Case ℕ) =
     -- free bytes and keys are not read, digits are
     code (with-byte 1 0xFF (sets printed 51 (replicate 4 0xFF))) is 0
     ∷ code (with-byte 47 0x0A printed) is 1
@@ -138,22 +142,33 @@ byBytes =
     -- a drawee is not compared in a return, and may be a represented entity
     ∷ code (with-byte 37 0x73 asReturn) is 0
     ∷ checkedCode 72 (71 ∷ 73 ∷ []) (with-byte 37 0x73 printed) is 0
-    -- 24, 01 for shape, 09, 01 for fields, 03, 06: the first of two that apply, in another document of the body or in the same
+    -- 44: a nominal of zero, of either operation, in any document, whatever the commission; a unit is enough, and no commission is needed
+    ∷ code (forNothing printed) is 44
+    ∷ code (forNothing asReturn) is 44
+    ∷ code (two printed (forNothing printed)) is 44
+    ∷ code (with-byte 35 0x01 (forNothing printed)) is 0
+    ∷ code (with-byte 51 0x00 printed) is 0
+    -- 24, 01 for shape, 09, 01 for fields, 03, 06, 44: the first of two that apply, in another document of the body or in the same
     ∷ checkedCode 10000 [] [] is 24
     ∷ code (twoGroups (with-byte 4 0x00 asReturn)) is 1
     ∷ code (twoGroups (with-byte 22 0x53 asReturn)) is 9
     ∷ code (two (with-byte 35 0x0A printed) (with-byte 22 0x53 printed)) is 1
     ∷ code (two (with-byte 37 0x73 printed) (with-byte 35 0x0A printed)) is 3
+    ∷ code (two (forNothing printed) (with-byte 37 0x73 printed)) is 6
     -- 24: entities to 9999, and eight of them
     ∷ checkedCode 9999 (replicate 8 9999) [] is 1
     ∷ checkedCode 72 (10000 ∷ []) printed is 24
     ∷ checkedCode 72 (replicate 9 0) printed is 24
     ∷ []
+    in
+    AllDue cases
+unfolding computing
+codes-due = refl
 
--- a presenter's own, of a part for entity 0072: an operation, 1 to 200 whole documents; then 01 for fields and 03, and never 06
-abbrev own : List (Case ℕ)
-own =
+-- a presenter's own, of a part for entity 0072: an operation, 1 to 200 whole documents; then 01 for fields, 03 and 44, and never 06
+own-due :
     let part = drop headBytes printed in
+    let cases : List (Case ℕ) =
     presenterCode presentedNumber 72 part is 0
     ∷ presenterCode returnedNumber 72 part is 0
     ∷ presenterCode 31 72 part is 1
@@ -165,14 +180,12 @@ own =
     ∷ (1 when not (partSendable presentedNumber (replicate (201 * 51) 0x00))) is 1
     ∷ presenterCode presentedNumber 73 part is 1
     ∷ presenterCode presentedNumber 72 (drop headBytes (with-byte 35 0x0A printed) ++ drop headBytes (with-byte 22 0x53 printed)) is 1
-    ∷ presenterCode presentedNumber 72 (drop headBytes (with-byte 35 0x0A printed)) is 3
+    ∷ presenterCode presentedNumber 72 (drop headBytes (forNothing printed) ++ drop headBytes (with-byte 35 0x0A printed)) is 3
+    ∷ presenterCode presentedNumber 72 (drop headBytes (with-byte 37 0x73 (forNothing printed))) is 44
+    ∷ presenterCode returnedNumber 72 (part ++ drop headBytes (forNothing printed)) is 44
     ∷ presenterCode presentedNumber 72 (drop headBytes (with-byte 37 0x73 printed)) is 0
     ∷ []
-
-codes-due : AllDue byBytes
-unfolding computing
-codes-due = refl
-
-own-due : AllDue own
+    in
+    AllDue cases
 unfolding computing
 own-due = refl

@@ -39,7 +39,13 @@ pub fn read_detail(body: &[u8], own: u16, represented: &[u16]) -> Verdict
     if is_accepted(code) {
         let found = read_groups(body, operation_of(body), own, represented);
         let totals = found.totals;
-        return judge(found.fields, found.amounts, found.served, totals);
+        return judge(
+            found.fields,
+            found.amounts,
+            found.served,
+            found.something,
+            totals,
+        );
     }
     refused(code)
 }
@@ -63,7 +69,7 @@ pub fn read_part(operation: u8, part: &[u8], partner: u16) -> Verdict
         let nobody = [0u16; 1];
         let found = read_documents(part, packed_byte(operation as u64), partner, &nobody[..0]);
         let totals = found.totals;
-        return judge(found.fields, found.amounts, true, totals);
+        return judge(found.fields, found.amounts, true, found.something, totals);
     }
     refused(Code::WrongField)
 }

@@ -34,16 +34,19 @@ pub fn refused(code: Code) -> Verdict
     }
 }
 
-// The first of 01, 03 and 06 that a document earns, or 00.
-pub fn judge(fields: bool, amounts: bool, served: bool, totals: Totals) -> Verdict
-    ensures code { λ r. ⌜ codeNumber (r .code) ≡ judged fields amounts served ⌝ }
+// The first of 01, 03, 06 and 44 that a document earns, or 00.
+pub fn judge(fields: bool, amounts: bool, served: bool, something: bool, totals: Totals) -> Verdict
+    ensures code { λ r. ⌜ codeNumber (r .code) ≡ judged fields amounts served something ⌝ }
     ensures totals { λ r. ⌜ r .totals ≡ ifAccepted (codeNumber (r .code)) totals ⌝ }
 {
     let code = or_else(
         when(Code::WrongField, !fields),
         or_else(
             when(Code::WrongAmount, !amounts),
-            when(Code::WrongDrawee, !served),
+            or_else(
+                when(Code::WrongDrawee, !served),
+                when(Code::ForNothing, !something),
+            ),
         ),
     );
     Verdict {

@@ -1,6 +1,8 @@
--- 01, 'Detail': what documents are worth, and the commission on them.
+-- 01, 'Detail': what documents are worth, and the commission on them. 02, card 6: a document for nothing.
 use Prim.Native.Nat.{ℕ}
+use mathlib.Core.Bool.{Bool}
 use mathlib.Core.List.{List, [], _∷_}
+use lib.Dec.{ltb}
 use Rattle.codes.specs.Field.{fieldNumber}
 use Rattle.amounts.specs.declared.Totals.{Totals}
 use Rattle.amounts.specs.Totals.{totals, zeros, plus}
@@ -13,6 +15,10 @@ nominal d = fieldNumber documentPosition d nominalField
 -- positions 48-51
 unfoldable pub commission : List ℕ → ℕ
 commission d = fieldNumber documentPosition d commissionField
+
+-- 44 otherwise: the nominal is not zero, of a presented document and of a return
+unfoldable pub forSomething : List ℕ → Bool
+forSomething d = ltb 0 (nominal d)
 
 -- the totals of one document
 abbrev pub documentTotals : List ℕ → Totals

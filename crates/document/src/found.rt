@@ -1,4 +1,4 @@
-// What a reading of documents finds, one or many: whether none earns 01, 03 or 06, and their totals.
+// What a reading of documents finds, one or many: whether none earns 01, 03, 06 or 44, and their totals.
 use crate::COMMISSION;
 use crate::NOMINAL;
 use crate::NOMINAL_BYTES;
@@ -22,6 +22,7 @@ pub struct Found {
     pub fields: bool,
     pub amounts: bool,
     pub served: bool,
+    pub something: bool,
     pub totals: Totals,
 }
 
@@ -34,6 +35,7 @@ impl Found {
             fields: true,
             amounts: true,
             served: true,
+            something: true,
             totals: Totals::zeros(),
         }
     }
@@ -49,6 +51,7 @@ impl Found {
             fields: self.fields & other.fields,
             amounts: self.amounts & other.amounts,
             served: self.served & other.served,
+            something: self.something & other.something,
             totals: these.plus(those),
         }
     }
@@ -63,13 +66,15 @@ pub fn read_document(d: &[u8], operation: u8, receiving: u16, represented: &[u16
 {
     let digits = all_digits(d);
     let commission = number4(d, COMMISSION) as u64;
+    let nominal = number(d, NOMINAL, NOMINAL_BYTES);
     Found {
         fields: digits.fields & values_good(d, operation, receiving),
         amounts: digits.amounts,
         served: drawee_served(d, operation, receiving, represented),
+        something: 0 < nominal,
         totals: Totals {
             documents: Documents(1),
-            nominal: Nominal(number(d, NOMINAL, NOMINAL_BYTES)),
+            nominal: Nominal(nominal),
             commission: Commission(commission),
         },
     }

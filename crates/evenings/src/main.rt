@@ -40,6 +40,7 @@ fn hours() {
 fn refusals() {
     evening(b"duplicate.script");
     evening(b"zeros.script");
+    evening(b"for_nothing.script");
     evening(b"many_lots.script");
     evening(b"full_lot.script");
 }

@@ -1,4 +1,4 @@
--- 01, 'Cases', and 02, card 2: the starred ones, each beside what the papers say of it: one table, one theorem. A second table has 07 clause by
+-- 01, 'Cases', and 02, cards 2 and 6: the starred ones, each beside what the papers say of it: one table, one theorem. A second table has 07 clause by
 -- clause, a third what else decides a number, a start among it, and the closes.
 use mathlib.Core.Path.{refl}
 use mathlib.Core.Bool.{true, false}
@@ -15,7 +15,7 @@ use Rattle.document.specs.Operation.{presented, presentedNumber}
 use Rattle.detail.specs.Limits.{headBytes}
 use Rattle.detail.specs.declared.checked.Checked.{Checked}
 use Rattle.detail.specs.Checked.{fourNumbers, programChecked}
-use Rattle.detail.proofs.Cases.{printed}
+use Rattle.detail.proofs.Cases.{printed, forNothing}
 use Rattle.session.specs.declared.counters.Counters.{Counters}
 use Rattle.session.specs.declared.counters.OpenLot.{OpenLot}
 use Rattle.session.specs.declared.session.Close.{Close}
@@ -95,9 +95,12 @@ openReceiver = after (arriving 80000 1 (Sent.header 7) ∷ []) receiver
 abbrev pub holding : (documents : ℕ) → Engine → Engine
 holding n e = record { session = e .session; presenting = adding presented (totals n 0 0); receiving = adding presented (totals n 0 0) }
 
--- the printed document as a detail, and the total of a lot that has it alone
+-- the printed document as a detail, and for nothing; and the total of a lot that has it alone
 abbrev pub detail : Sent
 detail = Sent.detail presentedNumber (drop headBytes printed)
+
+abbrev pub detailForNothing : Sent
+detailForNothing = Sent.detail presentedNumber (drop headBytes (forNothing printed))
 
 abbrev pub total : (lot : ℕ) → Sent
 total n = Sent.lotTotal n (totals 1 15000 30)
@@ -128,6 +131,10 @@ starred-cases :
     ∷ checkedOf (with-byte 36 0x00 (with-byte 37 0x73 printed)) is shows 6 zeros
     ∷ checkedOf (with-byte 35 0x0A (with-byte 22 0x53 printed)) is shows 1 zeros
     ∷ checkedOf [] is shows 1 zeros
+    -- for nothing; with a byte 35 that is no digit; with a drawee that is not served
+    ∷ checkedOf (forNothing printed) is shows 44 zeros
+    ∷ checkedOf (with-byte 35 0x0A (forNothing printed)) is shows 3 zeros
+    ∷ checkedOf (with-byte 37 0x73 (forNothing printed)) is shows 6 zeros
     -- a header sent at 83,699 and at 83,700; received at 83,729 and at 83,730
     ∷ numberOf presenter (sending 83699 (Sent.header 7)) is Answer.number 0
     ∷ numberOf presenter (sending 83700 (Sent.header 7)) is Answer.number 10
@@ -207,7 +214,7 @@ representing = after (arriving 80000 1 (Sent.header 7) ∷ []) (withEmpty (start
 abbrev pub withDrawee : (byte : ℕ) → Sent
 withDrawee b = Sent.detail presentedNumber (drop headBytes (with-byte 37 b printed))
 
--- a header but for its operation, which is noneOpen of 01's
+-- a header but for its operation, which is none of 01's
 abbrev strange : Call
 strange = Call.receive 80000 (with-byte 15 0x02 (messageFrom End.near 1 (Sent.header 7)))
 
@@ -265,6 +272,7 @@ every-number :
     ∷ numberOf receiver (Call.reply 80000 (replyTo End.near 1 (Sent.header 7) Code.Accepted)) is Answer.number 33
     ∷ numberOf presenter (Call.reply 80000 (with-byte 16 0x13 (replyTo End.near 1 (Sent.header 7) Code.Accepted))) is Answer.number 22
     ∷ numberOf presenter (replied 80000 End.near 1 (Sent.header 7) Code.Accepted) is Answer.number 35
+    ∷ numberOf (after (sending 80000 (Sent.header 7) ∷ []) presenter) (replied 80000 End.near 1 (Sent.header 7) Code.ForNothing) is Answer.number 0
     ∷ numberOf (after (sending 80000 (Sent.header 7) ∷ []) presenter) (replied 80000 End.near 1 (total 7) Code.Accepted) is Answer.number 35
     ∷ numberOf receiver (arriving 80000 2 (Sent.header 7)) is Answer.number 35
     -- 34, 36, 23
@@ -310,6 +318,8 @@ every-number :
     -- 06 asks the represented entities too
     ∷ replyOf representing (arriving 80000 2 (withDrawee 0x73)) is Answer.reply 0 86 0 7 1
     ∷ replyOf representing (arriving 80000 2 (withDrawee 0x74)) is Answer.reply 0 86 6 7 0
+    -- after 44 the lot goes on
+    ∷ replyOf (after (arriving 80000 2 detailForNothing ∷ []) openReceiver) (arriving 80000 3 detail) is Answer.reply 0 86 0 7 1
     -- 01 for another operation; neither that nor a refused session total ends the direction, at either end
     ∷ replyOf receiver strange is Answer.reply 0 86 1 0 0
     ∷ replyOf (after (strange ∷ []) receiver) (arriving 80000 2 (Sent.header 7)) is Answer.reply 0 86 0 7 0
@@ -329,7 +339,7 @@ every-number :
     ∷ startOf 140328 81 81 [] is Answer.number 24
     ∷ startOf 140328 81 72 (replicate 9 0) is Answer.number 24
     ∷ startOf 140328 81 72 (10000 ∷ []) is Answer.number 24
-    -- the close is in order where both directions have ended, and a second before the hour there is noneOpen
+    -- the close is in order where both directions have ended, and a second before the hour there is none
     ∷ closeOf bothEnded (Call.clock 84599) is Answer.close Close.Open
     ∷ closeOf bothEnded (Call.clock 84600) is Answer.close Close.Ordered
     ∷ closeOf endedPresenter (Call.clock 84600) is Answer.close Close.Forced

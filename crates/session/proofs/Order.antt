@@ -20,7 +20,7 @@ use Rattle.session.specs.Sending.{Send}
 use Rattle.session.specs.Engine.{Call, Engine}
 use Rattle.session.specs.Ends.{End}
 use Rattle.session.proofs.Examples.{computing, Sent, messageFrom, replyTo, sending}
-use Rattle.session.proofs.Cases.{Answer, numberOf, numberInRoom, replyOf, presenter, receiver, arriving, after, openPresenter, openReceiver, holding, detail, withDrawee, total, five, withLots, withSerial, onePast, noneOpen, sevenOpen}
+use Rattle.session.proofs.Cases.{Answer, numberOf, numberInRoom, replyOf, presenter, receiver, arriving, after, openPresenter, openReceiver, holding, detail, detailForNothing, total, five, withLots, withSerial, onePast, noneOpen, sevenOpen}
 
 -- at the close, and with a header that awaits its reply
 abbrev closed : Engine
@@ -68,10 +68,10 @@ in-order :
     ∷ replyOf onePast (arriving cutOff 4 (Sent.header 7)) is Answer.reply 0 86 10 0 0
     ∷ replyOf (withLots mostLots onePast) (arriving 80000 4 (Sent.header 7)) is Answer.reply 0 86 4 0 0
     -- a detail sent: its own codes, then 07, 12; no calls lead to documents with no lot open, so 07 before 12 is of the definitions alone
-    ∷ numberOf presenter (Call.send 80000 (Send.detail presentedNumber (drop headBytes (with-byte 35 0x0A printed)))) is Answer.number 3
+    ∷ numberOf presenter (sending 80000 detailForNothing) is Answer.number 44
     ∷ numberOf (holding mostLotDocuments presenter) (sending 80000 detail) is Answer.number (lotSequence false noneOpen)
     -- received
-    ∷ replyOf receiver (arriving 80000 1 (withDrawee 0x73)) is Answer.reply 0 86 6 0 0
+    ∷ replyOf receiver (arriving 80000 1 detailForNothing) is Answer.reply 0 86 44 0 0
     ∷ replyOf (holding mostLotDocuments receiver) (arriving 80000 1 detail) is Answer.reply 0 86 (lotSequence false noneOpen) 0 mostLotDocuments
     -- a lot total received: 03, 07, 04, 08
     ∷ replyOf receiver (noDigit 1 34 (total 7)) is Answer.reply 0 87 3 0 0

@@ -258,10 +258,13 @@ settled-late : Leads found (record { refused = 35 ∷ []; replies = replicate 4 
 unfolding computing
 settled-late = record { possible = possible found justStarted refl; leads = refl }
 
--- A header is handed back to its own end, to the reply call, and its reply to receiving. A detail of a drawee that is not served gets 06, so the
--- lot is ended by a total of zeros, with 07; its number is used again.
+-- A header is handed back to its own end, to the reply call, and its reply to receiving. A detail for nothing is not sent, one of a drawee that is not
+-- served gets 06, so the lot is ended by a total of zeros, with 07; its number is used again.
 abbrev stray : Sent
 stray = Sent.detail 30 (document 72 81 9999 500 1)
+
+abbrev worthless : Sent
+worthless = Sent.detail 30 (cheque 81 72 0 30)
 
 -- the code of a lot total that no detail came before
 abbrev noDetail : ℕ
@@ -275,6 +278,7 @@ again =
     ∷ arrived End.near 1 (Sent.header 7)
     ∷ record { at = End.far; call = Call.receive 80000 (replyTo End.near 1 (Sent.header 7) Code.Accepted); line = buffer }
     ∷ answered 80000 End.near 1 (Sent.header 7) Code.Accepted
+    ∷ sent End.near worthless
     ∷ sent End.near stray
     ∷ arrived End.near 2 stray
     ∷ answered 80000 End.near 2 stray Code.WrongDrawee
@@ -283,7 +287,7 @@ again =
     ∷ answered 80000 End.near 3 (Sent.lotTotal 7 zeros) (codeNumbered noDetail)
     ∷ exchanged End.near 4 (opening 7 ++ Sent.lotTotal 7 (stated one) ∷ [])
 
-number-used-again : Leads again (record { refused = 21 ∷ 21 ∷ 33 ∷ []; replies = 0 ∷ 0 ∷ 0 ∷ noDetail ∷ 6 ∷ 0 ∷ []; near = level (lot 7 ∷ []) (tally 1 one) Close.Open (gets 15000 30); far = level [] (tally 0 empty) Close.Open (owes 15000 30) })
+number-used-again : Leads again (record { refused = 44 ∷ 21 ∷ 21 ∷ 33 ∷ []; replies = 0 ∷ 0 ∷ 0 ∷ noDetail ∷ 6 ∷ 0 ∷ []; near = level (lot 7 ∷ []) (tally 1 one) Close.Open (gets 15000 30); far = level [] (tally 0 empty) Close.Open (owes 15000 30) })
 unfolding computing
 number-used-again = record { possible = possible again justStarted refl; leads = refl }
 

@@ -1,4 +1,4 @@
--- A code is read back from its byte, so the byte tells the code; and the known bytes are those of the paper.
+-- A code is read back from its byte, so the byte tells the code; and the known bytes are those of the papers.
 use mathlib.Core.Path.{_≡_, refl, ap, sym, _∙_}
 use mathlib.Core.Bool.{true, false, cond, false≢true}
 use mathlib.Core.List.{List, [], _∷_, _++_}
@@ -17,19 +17,27 @@ use Rattle.codes.specs.Code.{codeNumber, codes, codeByte, readCode, isKn
 use Rattle.packed.proofs.Laws.Writing.{packed-byte-value}
 use Rattle.codes.proofs.Laws.Numbered.{found-told}
 
+-- a code is found by its byte, and by its number
+found-again : (c : Code) → (readCode (codeByte c) ≡ ReadCode.Known c) × (codeNumbered (codeNumber c) ≡ c)
+unfolding readCode codeNumbered numbered codes codeByte packedByte
+found-again Code.Accepted = (refl, refl)
+found-again Code.WrongField = (refl, refl)
+found-again Code.WrongAmount = (refl, refl)
+found-again Code.Duplicate = (refl, refl)
+found-again Code.WrongDrawee = (refl, refl)
+found-again Code.WrongSequence = (refl, refl)
+found-again Code.WrongTotals = (refl, refl)
+found-again Code.MixedOperations = (refl, refl)
+found-again Code.TooLate = (refl, refl)
+found-again Code.TooManyLots = (refl, refl)
+found-again Code.TooManyDocuments = (refl, refl)
+found-again Code.ForNothing = (refl, refl)
+
 pub written-then-read : (c : Code) → readCode (codeByte c) ≡ ReadCode.Known c
-unfolding readCode numbered codes codeByte packedByte
-written-then-read Code.Accepted = refl
-written-then-read Code.WrongField = refl
-written-then-read Code.WrongAmount = refl
-written-then-read Code.Duplicate = refl
-written-then-read Code.WrongDrawee = refl
-written-then-read Code.WrongSequence = refl
-written-then-read Code.WrongTotals = refl
-written-then-read Code.MixedOperations = refl
-written-then-read Code.TooLate = refl
-written-then-read Code.TooManyLots = refl
-written-then-read Code.TooManyDocuments = refl
+written-then-read c = found-again c .0
+
+pub number-told : (c : Code) → codeNumbered (codeNumber c) ≡ c
+number-told c = found-again c .1
 
 -- and a byte that is read as a code is the code's; every code has two digits
 told : (b : ℕ) (c : Code) → readCode b ≡ ReadCode.Known c → (b ≡ codeByte c) × (codeNumber c < 100)
@@ -52,22 +60,7 @@ code-value c = packed-byte-value (codeNumber c) ∙ mod-eq-of-lt (told (codeByte
 pub same-byte : (c d : Code) → codeByte c ≡ codeByte d → c ≡ d
 same-byte c d e = let known : ReadCode.Known c ≡ ReadCode.Known d = sym (written-then-read c) ∙ ap readCode e ∙ written-then-read d in cc
 
--- a code is found by its number
-pub number-told : (c : Code) → codeNumbered (codeNumber c) ≡ c
-unfolding codeNumbered numbered codes
-number-told Code.Accepted = refl
-number-told Code.WrongField = refl
-number-told Code.WrongAmount = refl
-number-told Code.Duplicate = refl
-number-told Code.WrongDrawee = refl
-number-told Code.WrongSequence = refl
-number-told Code.WrongTotals = refl
-number-told Code.MixedOperations = refl
-number-told Code.TooLate = refl
-number-told Code.TooManyLots = refl
-number-told Code.TooManyDocuments = refl
-
--- and the code of a number accepts where the number is 0, and nowhere else
+-- the code of a number accepts where the number is 0, and nowhere else
 pub accepts : (n : ℕ) → eqb (codeNumber (codeNumbered n)) 0 ≡ eqb n 0
 unfolding codeNumbered numbered codes every
 accepts zero = refl
@@ -83,7 +76,7 @@ knownBelow : ℕ → List ℕ
 knownBelow zero = []
 knownBelow (suc b) = knownBelow b ++ cond (knownCode b) (b ∷ []) []
 
--- of all bytes these and no others are known: 00 and the codes that 01 lists, packed
-known-bytes : knownBelow 256 ≡ 0x00 ∷ 0x01 ∷ 0x03 ∷ 0x04 ∷ 0x06 ∷ 0x07 ∷ 0x08 ∷ 0x09 ∷ 0x10 ∷ 0x11 ∷ 0x12 ∷ []
+-- of all bytes these and no others are known: 00, the codes that 01 lists and that of 02, packed
+known-bytes : knownBelow 256 ≡ 0x00 ∷ 0x01 ∷ 0x03 ∷ 0x04 ∷ 0x06 ∷ 0x07 ∷ 0x08 ∷ 0x09 ∷ 0x10 ∷ 0x11 ∷ 0x12 ∷ 0x44 ∷ []
 unfolding knownBelow knownCode readCode numbered codes codeByte packedByte
 known-bytes = refl

@@ -10,13 +10,14 @@ use Rattle.packed.specs.Every.{every}
 use Rattle.packed.specs.Pieces.{pieces}
 use Rattle.packed.specs.Writing.{packedByte}
 use Rattle.codes.specs.Chain.{_when_, _orelse_}
-use Rattle.codes.proofs.Laws.Chain.{ends, fails, holds, held, all-held, joins, last}
+use Rattle.codes.proofs.Laws.Chain.{ends, fails, holds, held, all-held, joins}
 use Rattle.codes.specs.Field.{between}
 use Rattle.codes.specs.Body.{operationOf}
 use Rattle.document.specs.Limits.{documentBytes, mostDetailDocuments}
 use Rattle.document.specs.Operation.{presentedNumber, returnedNumber}
 use Rattle.document.specs.Fields.{fieldsGood, amountsGood}
 use Rattle.document.specs.Drawee.{draweeServed}
+use Rattle.document.specs.Amounts.{forSomething}
 use Rattle.detail.specs.Groups.{shapeGood, oneOperation, documents}
 use Rattle.detail.specs.Codes.{receiverCode, presenterCode, partSendable}
 use Rattle.detail.specs.Inner.Verdict.{judged}
@@ -49,18 +50,17 @@ module _ (operation partner : ℕ) (part : List ℕ) where
   unfolding presenterCode
   unsendable e = fails 1 (partSendable operation part) _ (lit< tt) e
 
-  pub sendable-judged : partSendable operation part ≡ true → presenterCode operation partner part ≡ judged (every (fieldsGood (packedByte operation) partner) (pieces documentBytes part)) (every (amountsGood (packedByte operation) partner) (pieces documentBytes part)) true
-  unfolding presenterCode _when_
-  sendable-judged e =
-      let fields = every (fieldsGood (packedByte operation) partner) (pieces documentBytes part) in
-      let amounts = every (amountsGood (packedByte operation) partner) (pieces documentBytes part) in
-      holds 1 (partSendable operation part) (1 when not fields orelse 3 when not amounts) e
-      ∙ ap (λ (n : ℕ). 1 when not fields orelse n) (sym (last (3 when not amounts)))
+  pub sendable-judged : partSendable operation part ≡ true → presenterCode operation partner part ≡ judged (every (fieldsGood (packedByte operation) partner) (pieces documentBytes part)) (every (amountsGood (packedByte operation) partner) (pieces documentBytes part)) true (every forSomething (pieces documentBytes part))
+  unfolding presenterCode _when_ _orelse_
+  sendable-judged e = holds 1 (partSendable operation part) _ e
 
-  -- what no code tells: a part that may be sent, good fields, good amounts
-  pub accepted-part : presenterCode operation partner part ≡ 0 → (partSendable operation part ≡ true) × (every (fieldsGood (packedByte operation) partner) (pieces documentBytes part) ≡ true) × (every (amountsGood (packedByte operation) partner) (pieces documentBytes part) ≡ true)
+  -- what no code tells: a part that may be sent, good fields, good amounts, and no document for nothing
+  pub accepted-part : presenterCode operation partner part ≡ 0 → (partSendable operation part ≡ true) × (every (fieldsGood (packedByte operation) partner) (pieces documentBytes part) ≡ true) × (every (amountsGood (packedByte operation) partner) (pieces documentBytes part) ≡ true) × (every forSomething (pieces documentBytes part) ≡ true)
   unfolding presenterCode
-  accepted-part = all-held 1 1 3 (partSendable operation part) (every (fieldsGood (packedByte operation) partner) (pieces documentBytes part)) (every (amountsGood (packedByte operation) partner) (pieces documentBytes part)) (lit< tt) (lit< tt) (lit< tt)
+  accepted-part e =
+      let may = held 1 (partSendable operation part) _ (lit< tt) e in
+      let all = all-held 1 3 44 (every (fieldsGood (packedByte operation) partner) (pieces documentBytes part)) (every (amountsGood (packedByte operation) partner) (pieces documentBytes part)) (every forSomething (pieces documentBytes part)) (lit< tt) (lit< tt) (lit< tt) (may .1) in
+      (may .0, all .0, all .1, all .2)
 
 module _ (own : ℕ) (represented body : List ℕ) where
   pub misshapen : shapeGood body ≡ false → receiverCode own represented body ≡ 1
@@ -71,10 +71,10 @@ module _ (own : ℕ) (represented body : List ℕ) where
   pub by-heads : (code : ℕ) → code ≡ (1 when not (shapeGood body) orelse 9 when not (oneOperation body)) → 0 < code → code ≡ receiverCode own represented body
   unfolding receiverCode
   by-heads code e some =
-      let rest = judged (every (fieldsGood (operationOf body) own) (documents body)) (every (amountsGood (operationOf body) own) (documents body)) (every (draweeServed (operationOf body) own represented) (documents body)) in
+      let rest = judged (every (fieldsGood (operationOf body) own) (documents body)) (every (amountsGood (operationOf body) own) (documents body)) (every (draweeServed (operationOf body) own represented) (documents body)) (every forSomething (documents body)) in
       sym (ends code rest some) ∙ ap (λ (n : ℕ). n orelse rest) e ∙ joins (1 when not (shapeGood body)) (9 when not (oneOperation body)) rest
 
-  pub shaped-judged : shapeGood body ≡ true → oneOperation body ≡ true → receiverCode own represented body ≡ judged (every (fieldsGood (operationOf body) own) (documents body)) (every (amountsGood (operationOf body) own) (documents body)) (every (draweeServed (operationOf body) own represented) (documents body))
+  pub shaped-judged : shapeGood body ≡ true → oneOperation body ≡ true → receiverCode own represented body ≡ judged (every (fieldsGood (operationOf body) own) (documents body)) (every (amountsGood (operationOf body) own) (documents body)) (every (draweeServed (operationOf body) own represented) (documents body)) (every forSomething (documents body))
   unfolding receiverCode
   shaped-judged s e = holds 1 (shapeGood body) _ s ∙ holds 9 (oneOperation body) _ e
 

@@ -1,6 +1,6 @@
 -- Both round trips of a detail, over its groups.
 use mathlib.Core.Path.{_≡_, refl, ap, sym, _∙_}
-use mathlib.Core.Bool.{Bool, true, false, _&&_, _||_, and-eq-true-iff}
+use mathlib.Core.Bool.{Bool, true, false, not, _&&_, _||_, and-eq-true-iff}
 use mathlib.Core.List.{List, [], _∷_, _++_, map, flatMap}
 use Prim.Native.Nat.{ℕ, _/_, _≤_, _<_}
 use native.Mathlib.Omega.{arith}
@@ -14,13 +14,14 @@ use Rattle.packed.proofs.Laws.Every.{every-both}
 use Rattle.packed.proofs.Laws.FlatMap.{flat-map, flat-flat, flat-same}
 use Rattle.packed.proofs.Laws.Pieces.{pieces-flat, pieces-made}
 use Rattle.codes.specs.Chain.{_when_, _orelse_}
-use Rattle.codes.proofs.Laws.Chain.{held}
+use Rattle.codes.proofs.Laws.Chain.{held, last}
 use Rattle.codes.specs.Field.{between}
 use Rattle.codes.specs.Body.{operationOf, cleared}
 use Rattle.document.specs.Operation.{isOperation, presentedNumber, returnedNumber}
 use Rattle.document.specs.Limits.{documentBytes}
 use Rattle.document.specs.Fields.{fieldsGood, amountsGood}
 use Rattle.document.specs.Drawee.{draweeServed}
+use Rattle.document.specs.Amounts.{forSomething}
 use Rattle.detail.specs.Limits.{headBytes, mostGroups, fillBytes, groupBytes}
 use Rattle.detail.specs.Groups.{groups, groupGood, shapeGood, oneOperation, groupDocuments, documents}
 use Rattle.detail.specs.Codes.{receiverCode, partSendable}
@@ -41,13 +42,13 @@ operation-byte operation e = go (eqb operation presentedNumber) refl e
     go false h e = rw (eqb-true operation returnedNumber e)
 
 -- a part that may be sent is judged by its receiver on the very documents of the part
-pub written-then-read : (own operation : ℕ) (represented part : List ℕ) → partSendable operation part ≡ true → receiverCode own represented (writtenDetail (packedByte operation) part) ≡ judged (every (fieldsGood (packedByte operation) own) (pieces documentBytes part)) (every (amountsGood (packedByte operation) own) (pieces documentBytes part)) (every (draweeServed (packedByte operation) own represented) (pieces documentBytes part))
+pub written-then-read : (own operation : ℕ) (represented part : List ℕ) → partSendable operation part ≡ true → receiverCode own represented (writtenDetail (packedByte operation) part) ≡ judged (every (fieldsGood (packedByte operation) own) (pieces documentBytes part)) (every (amountsGood (packedByte operation) own) (pieces documentBytes part)) (every (draweeServed (packedByte operation) own represented) (pieces documentBytes part)) (every forSomething (pieces documentBytes part))
 written-then-read own operation represented part e =
     let fit = sendable-part operation part e in
     let o = packedByte operation in
     let some : 0 < length part = omega arith in
     shaped-judged own represented (writtenDetail o part) (shape-written o part (operation-byte operation (fit .kind)) some (omega arith) (fit .whole)) (one-written o part some)
-    ∙ λ i. judged (every (fieldsGood (operation-written o part some i) own) (documents-written o part i)) (every (amountsGood (operation-written o part some i) own) (documents-written o part i)) (every (draweeServed (operation-written o part some i) own represented) (documents-written o part i))
+    ∙ λ i. judged (every (fieldsGood (operation-written o part some i) own) (documents-written o part i)) (every (amountsGood (operation-written o part some i) own) (documents-written o part i)) (every (draweeServed (operation-written o part some i) own represented) (documents-written o part i)) (every forSomething (documents-written o part i))
 
 pub fields-again : WrittenThenRead
 fields-again operation part e =
@@ -59,7 +60,8 @@ pub accepted-there : WrittenThenAccepted
 unfolding _when_ _orelse_
 accepted-there operation partner part represented e =
     let told = accepted-part operation partner part e in
-    written-then-read partner operation represented part (told .0) ∙ λ i. judged (told .1 i) (told .2 i) (every (draweeServed (packedByte operation) partner represented) (pieces documentBytes part))
+    let served = every (draweeServed (packedByte operation) partner represented) (pieces documentBytes part) in
+    written-then-read partner operation represented part (told .0) ∙ (λ i. judged (told .1 i) (told .2 i) served (told .3 i)) ∙ last (6 when not served)
 
 -- the part of a body is its groups without their heads
 heads-dropped : (gs : List (List ℕ)) → flatMap (λ (d : List ℕ). d) (flatMap groupDocuments gs) ≡ flatMap (drop headBytes) gs

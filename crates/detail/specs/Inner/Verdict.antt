@@ -10,6 +10,6 @@ use Rattle.amounts.specs.Totals.{zeros}
 abbrev pub ifAccepted : (code : ℕ) → Totals → Totals
 ifAccepted code t = cond (eqb code 0) t zeros
 
--- by whether all fields, all amounts and all drawees are good
-abbrev pub judged : (fields amounts served : Bool) → ℕ
-judged fields amounts served = 1 when not fields orelse 3 when not amounts orelse 6 when not served
+-- by whether all fields, all amounts and all drawees are good, and every document is for something
+abbrev pub judged : (fields amounts served something : Bool) → ℕ
+judged fields amounts served something = 1 when not fields orelse 3 when not amounts orelse 6 when not served orelse 44 when not something

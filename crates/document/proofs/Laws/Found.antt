@@ -14,15 +14,15 @@ use Rattle.document.specs.declared.found.Found.{Found}
 use Rattle.document.specs.Fields.{fieldsGood, amountsGood}
 use Rattle.document.specs.Drawee.{draweeServed}
 use Rattle.document.specs.Inner.Bounds.{Within}
-use Rattle.document.specs.Amounts.{documentTotals, totalsOf}
+use Rattle.document.specs.Amounts.{forSomething, documentTotals, totalsOf}
 use Rattle.document.specs.Inner.Found.{found, foundIn, nothing, join}
 
 join-nothing : (a : Found) → join a nothing ≡ a
 join-nothing a =
-    λ i. record { fields = and-true (a .fields) i; amounts = and-true (a .amounts) i; served = and-true (a .served) i; totals = plus-zeros (a .totals) i }
+    λ i. record { fields = and-true (a .fields) i; amounts = and-true (a .amounts) i; served = and-true (a .served) i; something = and-true (a .something) i; totals = plus-zeros (a .totals) i }
 
 pub nothing-join : (a : Found) → join nothing a ≡ a
-nothing-join a = λ i. record { fields = a .fields; amounts = a .amounts; served = a .served; totals = zeros-plus (a .totals) i }
+nothing-join a = λ i. record { fields = a .fields; amounts = a .amounts; served = a .served; something = a .something; totals = zeros-plus (a .totals) i }
 
 join-assoc : (a b c : Found) → join (join a b) c ≡ join a (join b c)
 join-assoc a b c =
@@ -31,6 +31,7 @@ join-assoc a b c =
       fields = and-assoc (a .fields) (b .fields) (c .fields) i;
       amounts = and-assoc (a .amounts) (b .amounts) (c .amounts) i;
       served = and-assoc (a .served) (b .served) (c .served) i;
+      something = and-assoc (a .something) (b .something) (c .something) i;
       totals = plus-assoc (a .totals) (b .totals) (c .totals) i;
     }
 
@@ -55,6 +56,7 @@ module _ (operation receiving : ℕ) (represented : List ℕ) where
         fields = every-append (fieldsGood operation receiving) xs ys i;
         amounts = every-append (amountsGood operation receiving) xs ys i;
         served = every-append (draweeServed operation receiving represented) xs ys i;
+        something = every-append forSomething xs ys i;
         totals = totals-append xs ys i;
       }
 

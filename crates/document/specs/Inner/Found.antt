@@ -1,4 +1,4 @@
--- What one pass over documents finds at once: the tests of 01, 03 and 06, and the totals.
+-- What one pass over documents finds at once: the tests of 01, 03, 06 and 44, and the totals.
 use Prim.Native.Nat.{ℕ}
 use mathlib.Core.Bool.{true, _&&_}
 use mathlib.Core.List.{List}
@@ -7,7 +7,7 @@ use Rattle.amounts.specs.Totals.{zeros, plus}
 use Rattle.document.specs.declared.found.Found.{Found}
 use Rattle.document.specs.Fields.{fieldsGood, amountsGood}
 use Rattle.document.specs.Drawee.{draweeServed}
-use Rattle.document.specs.Amounts.{documentTotals, totalsOf}
+use Rattle.document.specs.Amounts.{forSomething, documentTotals, totalsOf}
 
 -- what is found in one document
 abbrev pub found : (operation receiving : ℕ) (represented : List ℕ) → List ℕ → Found
@@ -16,6 +16,7 @@ found operation receiving represented d =
       fields = fieldsGood operation receiving d;
       amounts = amountsGood operation receiving d;
       served = draweeServed operation receiving represented d;
+      something = forSomething d;
       totals = documentTotals d;
     }
 
@@ -26,12 +27,13 @@ foundIn operation receiving represented ds =
       fields = every (fieldsGood operation receiving) ds;
       amounts = every (amountsGood operation receiving) ds;
       served = every (draweeServed operation receiving represented) ds;
+      something = every forSomething ds;
       totals = totalsOf ds;
     }
 
 -- what is found where there is none
 abbrev pub nothing : Found
-nothing = record { fields = true; amounts = true; served = true; totals = zeros }
+nothing = record { fields = true; amounts = true; served = true; something = true; totals = zeros }
 
 -- what is found in some and in some more
 abbrev pub join : Found → Found → Found
@@ -40,5 +42,6 @@ join a b =
       fields = a .fields && b .fields;
       amounts = a .amounts && b .amounts;
       served = a .served && b .served;
+      something = a .something && b .something;
       totals = plus (a .totals) (b .totals);
     }

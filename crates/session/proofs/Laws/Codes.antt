@@ -18,7 +18,7 @@ body-listed layout body = row Code.WrongField _ _ (row Code.WrongField _ _ (one 
 
 detail-listed : (own : ℕ) (represented body : List ℕ) → Listed (receiverCode own represented body)
 unfolding receiverCode
-detail-listed own represented body = row Code.WrongField _ _ (row Code.MixedOperations _ _ (row Code.WrongField _ _ (row Code.WrongAmount _ _ (one Code.WrongDrawee _))))
+detail-listed own represented body = row Code.WrongField _ _ (row Code.MixedOperations _ _ (row Code.WrongField _ _ (row Code.WrongAmount _ _ (row Code.WrongDrawee _ _ (one Code.ForNothing _)))))
 
 module _ (time : ℕ) (body : List ℕ) (p : Parties) (running : Running) (r : Receiving) where
   pub code-carried : (c : Content) → Listed (receivedCode c time body p running r)

@@ -107,7 +107,7 @@ returns-2 c =
     let read = c .before .before .read-groups .ensures in
     let operation = c .before .before .before .operation-of .ensures in (
       c .judge .ensures .0
-          ∙ ap (λ (f : Found). judged (f .fields) (f .amounts) (f .served)) (read ∙ ap (λ (o : ℕ). foundIn o (a .own) (a .represented .now) (documents body)) operation)
+          ∙ ap (λ (f : Found). judged (f .fields) (f .amounts) (f .served) (f .something)) (read ∙ ap (λ (o : ℕ). foundIn o (a .own) (a .represented .now) (documents body)) operation)
           ∙ sym (shaped-judged (a .own) (a .represented .now) body (good t .0) (good t .1)),
       c .judge .ensures .1 ∙ ap (λ (f : Found). ifAccepted (codeNumber (c .judge .result .code)) (f .totals)) read,
     )

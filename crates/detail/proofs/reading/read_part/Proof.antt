@@ -43,7 +43,7 @@ returns c =
     let read = c .before .before .read-documents .ensures .0 in
     let operation = c .before .before .before .before .packed-byte .ensures in (
       c .judge .ensures .0
-          ∙ ap (λ (f : Found). judged (f .fields) (f .amounts) true) (read ∙ ap (λ (o : ℕ). foundIn o (a .partner) _ (pieces documentBytes (a .part .now))) operation)
+          ∙ ap (λ (f : Found). judged (f .fields) (f .amounts) true (f .something)) (read ∙ ap (λ (o : ℕ). foundIn o (a .partner) _ (pieces documentBytes (a .part .now))) operation)
           ∙ sym (sendable-judged (a .operation) (a .partner) (a .part .now) may),
       c .judge .ensures .1 ∙ ap (λ (f : Found). ifAccepted (codeNumber (c .judge .result .code)) (f .totals)) read,
     )
