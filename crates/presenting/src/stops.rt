@@ -40,7 +40,7 @@ pub struct PartStop {
     pub adds: Running,
 }
 
-// The first of 01, 03, 07 and 12. The part is passed over once.
+// The first of 01, 03, 44, 07 and 12. The part is passed over once.
 pub fn detail_stop(
     operation: u8,
     partner: u16,
