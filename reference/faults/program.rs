@@ -20,7 +20,7 @@ mod tray_script;
 
 /// The tuned check has no part in scripts.
 mod tuned {
-    pub use crate::plain::{check, check_to_send};
+    pub use crate::plain::{check_by, check_to_send};
 }
 
 use checked::Checked;

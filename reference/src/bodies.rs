@@ -28,9 +28,11 @@ const BOUNDARIES: [u8; 20] = [
 
 /// The fields that take any digits; in a return the last but one is then overwritten.
 #[rustfmt::skip]
-const ANY_DIGITS: [Range<usize>; 11] = [
-    0..5, 7..11, 13..15, 15..17, 21..23, 23..25, 25..31, 33..35, 35..40, 41..43, 43..47,
+const ANY_DIGITS: [Range<usize>; 10] = [
+    0..5, 7..11, 13..15, 15..17, 21..23, 23..25, 33..35, 35..40, 41..43, 43..47,
 ];
+
+pub(crate) const NOMINAL: Range<usize> = 25..31;
 
 /// The documents in groups of 4, the last group with what remains.
 pub fn body(operation: u8, documents: &[Document]) -> Vec<u8> {
@@ -40,6 +42,15 @@ pub fn body(operation: u8, documents: &[Document]) -> Vec<u8> {
         body.extend(group.as_flattened());
     }
     body
+}
+
+/// The whole documents in a body of any shape.
+pub fn documents_in(body: &[u8]) -> Vec<Document> {
+    let groups = body.chunks(208).map(|group| group.get(4..).unwrap_or(&[]));
+    groups
+        .flat_map(|group| group.as_chunks().0)
+        .copied()
+        .collect()
 }
 
 pub fn of_examples(operation: u8, count: usize) -> Vec<u8> {
@@ -129,6 +140,7 @@ pub(crate) fn good_document(
     for field in ANY_DIGITS {
         random.digits(&mut document[field]);
     }
+    document[NOMINAL].copy_from_slice(&good_nominal(random));
     if random.once_in(2) {
         document[5] = 0x80;
         document[6] = random.packed(0, 99);
@@ -148,6 +160,17 @@ pub(crate) fn good_document(
     document
 }
 
+/// Any digits but zero, now and then a single one, so that each byte alone makes a nominal good.
+fn good_nominal(random: &mut Random) -> [u8; 6] {
+    let mut nominal = [0; 6];
+    random.digits(&mut nominal);
+    if nominal == [0; 6] || random.once_in(16) {
+        nominal = [0; 6];
+        nominal[random.below(6)] = random.one_of(&[0x01, 0x09, 0x10, 0x80, 0x90]);
+    }
+    nominal
+}
+
 fn good_day(random: &mut Random) -> [u8; 2] {
     let last = [31, 29, 31, 30, 31, 30, 31, 31, 30, 31, 30, 31];
     let month = random.below(12);
@@ -160,7 +183,7 @@ fn packed_entity(entity: u16) -> [u8; 2] {
 
 /// One change, anywhere in what the check is given.
 fn change(random: &mut Random, case: &mut Case) {
-    match random.below(16) {
+    match random.below(18) {
         0 => change_length(random, &mut case.body),
         1 => change_head(random, &mut case.body),
         2 | 3 => change_operation(random, &mut case.body),
@@ -169,6 +192,7 @@ fn change(random: &mut Random, case: &mut Case) {
         6 | 7 => change_amount(random, &mut case.body),
         8..=10 => change_drawee(random, case),
         11 => case.represented.truncate(random.below(9)),
+        12 | 13 => zero_nominals(random, &mut case.body),
         _ => change_byte(random, &mut case.body),
     }
 }
@@ -235,6 +259,27 @@ fn change_amount(random: &mut Random, body: &mut [u8]) {
     set(body, at, value);
 }
 
+/// In one document of a body, the first, the last or all.
+pub(crate) fn zero_nominals(random: &mut Random, body: &mut [u8]) {
+    let count = (body.len() / 52).max(1);
+    for document in some_of(random, count) {
+        for at in NOMINAL {
+            set(body, start_of(document) + at, 0);
+        }
+    }
+}
+
+/// Any one of so many, the first, the last or all.
+pub(crate) fn some_of(random: &mut Random, count: usize) -> Range<usize> {
+    let any = random.below(count);
+    match random.below(8) {
+        0 => 0..1,
+        1 => count - 1..count,
+        2 => 0..count,
+        _ => any..any + 1,
+    }
+}
+
 /// Any entity, or the halves of two known ones put together.
 fn change_drawee(random: &mut Random, case: &mut Case) {
     let known = [&[case.own], case.represented.as_slice()].concat();
@@ -268,7 +313,11 @@ fn change_byte(random: &mut Random, body: &mut [u8]) {
 }
 
 fn document_start(random: &mut Random, body: &[u8]) -> usize {
-    let document = random.below(body.len() / 52 + 1);
+    start_of(random.below(body.len() / 52 + 1))
+}
+
+/// Where a document begins in a body of full groups.
+pub(crate) fn start_of(document: usize) -> usize {
     4 + document / 4 * 208 + document % 4 * 51
 }
 

@@ -2,14 +2,20 @@
 //! greatest byte judge most fields. The loops over the columns become vector instructions.
 
 use crate::frame::{self, wrong, Amounts, Document, Found, GROUP, STRETCH};
+use crate::session::rules::Rules;
 use crate::Checked;
 use std::array;
 
 /// The columns that are looked at; the last is a key byte that only makes the number even.
 const COLUMNS: usize = 48;
 
+/// By today's rules.
 pub fn check(body: &[u8], own: u16, represented: &[u16]) -> Checked {
-    frame::check(body, own, represented, pass::<false>, pass::<true>)
+    check_by(Rules::TODAY, body, own, represented)
+}
+
+pub fn check_by(rules: Rules, body: &[u8], own: u16, represented: &[u16]) -> Checked {
+    frame::check(rules, body, own, represented, pass::<false>, pass::<true>)
 }
 
 fn pass<const RETURNS: bool>(body: &[u8], own: [u8; 2]) -> Found {
@@ -99,6 +105,7 @@ impl Columns {
                 && (!RETURNS || self.greatest[41] == 0),
             amounts_are_digits: digits(25, 31) && digits(43, 47),
             all_drawn_on_own: self.are(31, own),
+            a_nominal_is_zero: self.amounts.has_nominal_zero(),
             nominal: self.amounts.nominal(),
             commission: self.amounts.commission(),
         }

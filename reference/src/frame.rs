@@ -1,5 +1,6 @@
 //! What the tuned and the column-wise check have in common: all but the pass over the documents.
 
+use crate::session::rules::Rules;
 use crate::Checked;
 
 /// At the end of a group there are one to four.
@@ -17,6 +18,7 @@ pub struct Found {
     pub fields_hold: bool,
     pub amounts_are_digits: bool,
     pub all_drawn_on_own: bool,
+    pub a_nominal_is_zero: bool,
     pub nominal: u64,
     pub commission: u64,
 }
@@ -25,6 +27,7 @@ pub struct Found {
 pub type Pass = fn(&[u8], [u8; 2]) -> Found;
 
 pub fn check(
+    rules: Rules,
     body: &[u8],
     own: u16,
     represented: &[u16],
@@ -49,7 +52,7 @@ pub fn check(
     {
         return Checked::refused(6);
     }
-    checked
+    last_code(rules, &found, checked)
 }
 
 /// The codes 01 and 03, and the totals where there is none.
@@ -66,6 +69,14 @@ pub fn field_codes(found: &Found, documents: usize) -> Checked {
         nominal: found.nominal,
         commission: found.commission,
     }
+}
+
+/// 44 where no code came before it.
+pub fn last_code(rules: Rules, found: &Found, checked: Checked) -> Checked {
+    if checked.code == 0 && rules.knows_44 && found.a_nominal_is_zero {
+        return Checked::refused(44);
+    }
+    checked
 }
 
 /// 1 or 9, or 0 for a body of well made groups of one operation.
@@ -177,7 +188,8 @@ pub fn wrong<const RETURNS: bool>(document: &Document) -> u32 {
         | reason
 }
 
-/// The sums of nominal and commission, kept byte by byte and unpacked only at the end.
+/// The sums of nominal and commission, kept byte by byte and unpacked only at the end, and whether
+/// a nominal was zero.
 #[derive(Default)]
 pub struct Amounts {
     /// Since the last settling; the eight bytes around an amount are added as one number.
@@ -185,7 +197,12 @@ pub struct Amounts {
     /// Settled sums of the bytes 0, 2, 4 and 6, with 16 bits for each, and of the others.
     even: [u64; 2],
     odd: [u64; 2],
+    /// The highest bit tells that from some nominal 1 could not be taken.
+    less_one: u64,
 }
+
+/// The bits of a nominal in its word.
+const NOMINAL: u64 = 0x00FF_FFFF_FFFF_FF00;
 
 impl Amounts {
     #[inline(always)]
@@ -198,6 +215,7 @@ impl Amounts {
         for (whole, word) in self.whole.iter_mut().zip(words) {
             *whole = whole.wrapping_add(word);
         }
+        self.less_one |= (words[0] & NOMINAL).wrapping_sub(1);
     }
 
     /// Less the sums of the low digits, the whole is 16 times those of the high ones, each in
@@ -211,6 +229,10 @@ impl Amounts {
             self.odd[k] += ((high >> 8) & EVEN) * 10 + ((low >> 8) & EVEN);
         }
         self.whole = [0; 2];
+    }
+
+    pub fn has_nominal_zero(&self) -> bool {
+        self.less_one >> 63 != 0
     }
 
     pub fn nominal(&self) -> u64 {

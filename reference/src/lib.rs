@@ -1,9 +1,9 @@
 //! A second implementation of the cheque exchange, the measure for the first in answers and speed.
 //! The detail check stands here four times: written plainly, tuned, by columns, and as the line's
-//! exported function. The session and the script interpreter are built on the plain check, and
-//! know two sets of rules: today's, which hold where none is named, and the circular's. The
-//! calendar and the check digits use nothing of them, the tariff only how a document's numbers are
-//! packed.
+//! exported function. The session and the script interpreter are built on the plain check. They
+//! and the first three checks know two sets of rules: today's, which hold where none is named, and
+//! the circular's. The calendar and the check digits use nothing of them, the tariff only how a
+//! document's numbers are packed.
 
 pub mod asked;
 pub mod bodies;

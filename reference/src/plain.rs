@@ -1,6 +1,7 @@
 //! The detail check as the paper tells it: one pass over the message for each code.
 
 use crate::packed::{are_digits, value};
+use crate::session::rules::Rules;
 use crate::Checked;
 use std::slice::Chunks;
 
@@ -8,8 +9,12 @@ const HEAD: usize = 4;
 const DOCUMENT: usize = 51;
 const FULL_GROUP: usize = HEAD + 4 * DOCUMENT;
 
-/// The receiver's check of a detail body.
+/// The receiver's check of a detail body, by today's rules.
 pub fn check(body: &[u8], own: u16, represented: &[u16]) -> Checked {
+    check_by(Rules::TODAY, body, own, represented)
+}
+
+pub fn check_by(rules: Rules, body: &[u8], own: u16, represented: &[u16]) -> Checked {
     if !within_limits(own, represented) {
         return Checked::refused(24);
     }
@@ -25,13 +30,15 @@ pub fn check(body: &[u8], own: u16, represented: &[u16]) -> Checked {
     if checked.code == 0 && operation == 0x30 && documents(body).any(drawn_elsewhere) {
         return Checked::refused(6);
     }
-    checked
+    last_code(rules, checked, documents(body))
 }
 
 /// The presenter's check of whole documents before they are sent under an operation, 30 or 40.
 /// It does not look at the drawees.
-pub fn check_to_send(documents: &[u8], operation: u8, receiving: u16) -> Checked {
-    field_codes(documents.chunks_exact(DOCUMENT), operation, receiving)
+pub fn check_to_send(rules: Rules, documents: &[u8], operation: u8, receiving: u16) -> Checked {
+    let documents = documents.chunks_exact(DOCUMENT);
+    let checked = field_codes(documents.clone(), operation, receiving);
+    last_code(rules, checked, documents)
 }
 
 /// The codes 01 and 03 of the documents' fields, and the totals where there is none.
@@ -53,6 +60,18 @@ fn field_codes<'a>(
         nominal: every().map(nominal).sum(),
         commission: every().map(commission).sum(),
     }
+}
+
+/// 44 where no code came before it and a document is for nothing.
+fn last_code<'a>(
+    rules: Rules,
+    checked: Checked,
+    mut documents: impl Iterator<Item = &'a [u8]>,
+) -> Checked {
+    if checked.code == 0 && rules.knows_44 && documents.any(is_for_nothing) {
+        return Checked::refused(44);
+    }
+    checked
 }
 
 fn within_limits(own: u16, represented: &[u16]) -> bool {
@@ -120,6 +139,10 @@ fn drawn_here(document: &[u8], own: u16, represented: &[u16]) -> bool {
         || represented
             .iter()
             .any(|&entity| drawee == u64::from(entity))
+}
+
+fn is_for_nothing(document: &[u8]) -> bool {
+    nominal(document) == 0
 }
 
 fn nominal(document: &[u8]) -> u64 {

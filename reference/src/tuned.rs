@@ -1,6 +1,7 @@
 //! The detail check tuned for speed: one pass over the documents, eight bytes at a time.
 
 use crate::frame::{self, word, wrong, Amounts, Document, Found, GROUP, PART, STRETCH};
+use crate::session::rules::Rules;
 use crate::Checked;
 
 const LOW_DIGITS: u64 = 0x0F0F_0F0F_0F0F_0F0F;
@@ -16,19 +17,25 @@ const PROVINCES: u64 = 0x0000_2E00_002E_0000;
 /// The bits that are not set in the third word's excess if own and the provinces are good.
 const OWN_AND_PROVINCES: u64 = 0x0000_80FF_FF80_0000;
 
+/// By today's rules.
 pub fn check(body: &[u8], own: u16, represented: &[u16]) -> Checked {
-    frame::check(body, own, represented, pass::<false>, pass::<true>)
+    check_by(Rules::TODAY, body, own, represented)
+}
+
+pub fn check_by(rules: Rules, body: &[u8], own: u16, represented: &[u16]) -> Checked {
+    frame::check(rules, body, own, represented, pass::<false>, pass::<true>)
 }
 
 /// The presenter's check of whole documents under an operation, 30 or 40, as the plain one does it.
-pub fn check_to_send(documents: &[u8], operation: u8, receiving: u16) -> Checked {
+pub fn check_to_send(rules: Rules, documents: &[u8], operation: u8, receiving: u16) -> Checked {
     let pass = if operation == 0x40 {
         look::<true, PART>
     } else {
         look::<false, PART>
     };
     let found = pass(documents, frame::packed(receiving));
-    frame::field_codes(&found, documents.len() / 51)
+    let checked = frame::field_codes(&found, documents.len() / 51);
+    frame::last_code(rules, &found, checked)
 }
 
 fn pass<const RETURNS: bool>(body: &[u8], own: [u8; 2]) -> Found {
@@ -115,6 +122,7 @@ impl Seen {
                 && self.excess[3] & (reason | 0xFE00) == 0,
             amounts_are_digits: non_digits == [0; 6],
             all_drawn_on_own: self.excess[2] & 0xFFFF == 0,
+            a_nominal_is_zero: self.amounts.has_nominal_zero(),
             nominal: self.amounts.nominal(),
             commission: self.amounts.commission(),
         }

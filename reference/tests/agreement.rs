@@ -1,11 +1,14 @@
 //! All four detail checks must give the same answer, on generated bodies, on every value of
-//! every byte, and at the greatest length.
+//! every byte, and at the greatest length; and the reference's three by the circular's rules too.
 
 use reference::bodies::{self, Case, Document, EXAMPLE, PRESENTED, RETURN};
+use reference::session::rules::Rules;
 use reference::{columns, line, plain, tuned, Checked};
+use std::ops::Range;
 
 const FIRST_SEED: u64 = 19_900_011;
 const GENERATED: u64 = 200_000;
+const NOMINAL: Range<usize> = 25..31;
 
 /// The common answer; `origin` says where a failing body came from.
 fn agreed(body: &[u8], own: u16, represented: &[u16], origin: &dyn Fn() -> String) -> Checked {
@@ -22,6 +25,11 @@ fn agreed(body: &[u8], own: u16, represented: &[u16], origin: &dyn Fn() -> Strin
         hex(body),
     );
     assert!(plain.code == 0 || plain == Checked::refused(plain.code));
+    for check in [plain::check_by, tuned::check_by, columns::check_by] {
+        let of_circular = check(Rules::CIRCULAR, body, own, represented);
+        let without_44 = plain.code == 44 && of_circular.code == 0;
+        assert!(plain == of_circular || without_44, "{}", origin());
+    }
     plain
 }
 
@@ -41,7 +49,7 @@ fn generated_bodies() {
         let answer = agreed(&body, own, &represented, &|| format!("seed {seed}"));
         counts[usize::from(answer.code)] += 1;
     }
-    for code in [0, 1, 3, 6, 9, 24] {
+    for code in [0, 1, 3, 6, 9, 24, 44] {
         println!("code {code:02}: {}", counts[code]);
         assert!(
             counts[code] >= 100,
@@ -70,11 +78,19 @@ fn nines(operation: u8) -> Document {
     document
 }
 
+/// The least amounts.
+fn ones() -> Document {
+    let mut document = EXAMPLE;
+    document[NOMINAL].copy_from_slice(&[0, 0, 0, 0, 0, 1]);
+    document[43..47].copy_from_slice(&[0, 0, 0, 1]);
+    document
+}
+
 /// In the last document, which stands alone in its group or is the fourth of a full one.
 #[test]
 fn every_value_of_every_byte() {
     for operation in [PRESENTED, RETURN] {
-        for (document, own) in [(EXAMPLE, 72), (nines(operation), 9999)] {
+        for (document, own) in [(EXAMPLE, 72), (ones(), 72), (nines(operation), 9999)] {
             for count in [1, 4, 5, 8] {
                 let good = bodies::body(operation, &vec![document; count]);
                 assert_eq!(agreed(&good, own, &[], &|| "good".into()).code, 0);
@@ -183,6 +199,52 @@ fn full_bodies_of_nines_and_of_one_fault() {
             let body = bodies::body(PRESENTED, &documents);
             let answer = agreed(&body, 9999, &[], &|| format!("fault in document {faulty}"));
             assert_eq!(answer.code, expected);
+        }
+    }
+}
+
+/// Alone in a full body, and beside another fault, which comes first.
+#[test]
+fn a_document_for_nothing_at_every_place() {
+    for operation in [PRESENTED, RETURN] {
+        for place in 0..200 {
+            let mut documents = [nines(operation); 200];
+            documents[place][NOMINAL].fill(0);
+            let code = |documents: &[Document]| {
+                let body = bodies::body(operation, documents);
+                agreed(&body, 9999, &[], &|| format!("nothing in document {place}")).code
+            };
+            assert_eq!(code(&documents), 44);
+            let drawee = if operation == PRESENTED { 6 } else { 44 };
+            for (at, value, expected) in [(17, 0x53, 1), (46, 0xA0, 3), (32, 0x73, drawee)] {
+                for other in [place, 199 - place] {
+                    let mut documents = documents;
+                    documents[other][at] = value;
+                    assert_eq!(code(&documents), expected);
+                }
+            }
+        }
+    }
+}
+
+/// Each byte of the nominal alone, between fields of nines.
+#[test]
+fn every_value_of_a_single_byte_of_a_nominal() {
+    for operation in [PRESENTED, RETURN] {
+        for at in NOMINAL {
+            for value in 0..=255 {
+                let mut document = nines(operation);
+                document[NOMINAL].fill(0);
+                document[at] = value;
+                let body = bodies::body(operation, &[nines(operation), document]);
+                let answer = agreed(&body, 9999, &[], &|| format!("byte {at}: {value:02X}"));
+                let expected = match value {
+                    0 => 44,
+                    value if value >> 4 > 9 || value & 15 > 9 => 3,
+                    _ => 0,
+                };
+                assert_eq!(answer.code, expected);
+            }
         }
     }
 }

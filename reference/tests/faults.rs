@@ -104,7 +104,7 @@ struct Caught {
 #[test]
 fn every_fault_is_caught() {
     let faults = faults();
-    assert!(faults.len() >= 188, "only {} faults", faults.len());
+    assert!(faults.len() >= 221, "only {} faults", faults.len());
     let workshop = Workshop::new();
     assert!(
         matches!(workshop.outcome(0, None), Outcome::Missed),

@@ -1,10 +1,12 @@
-//! The generated scripts must reach every reply code, every refusal and every close often
-//! enough, headers must come at the hours that decide on them, and a seed must give the same
-//! script again.
+//! The generated scripts must reach every reply code, every refusal, every close and all that the
+//! comparison with the circular's rules leaves out often enough, headers must come at the hours
+//! that decide on them, and a seed must give the same script again.
 
 use reference::asked::asked;
+use reference::compare::circular::{self, Extent};
 use reference::generate::{self, Kind};
-use reference::{books, script};
+use reference::session::rules::Rules;
+use reference::{books, compare, script};
 use std::collections::{BTreeMap, BTreeSet, HashMap, HashSet};
 
 /// Among the answers of a usual run.
@@ -88,11 +90,11 @@ fn everything_is_common() {
         println!("{what} {count}");
         assert!(count >= 50, "{what}: {count}");
     }
-    for code in [0, 1, 3, 4, 6, 7, 8, 9, 10, 11, 12] {
+    for code in [0, 1, 3, 4, 6, 7, 8, 9, 10, 11, 12, 44] {
         assert!(counts.replied[code] >= 40, "code {code:02} is rare");
     }
     for refusal in [
-        1, 3, 7, 10, 11, 12, 20, 21, 22, 23, 24, 30, 31, 32, 33, 34, 35,
+        1, 3, 7, 10, 11, 12, 20, 21, 22, 23, 24, 30, 31, 32, 33, 34, 35, 44,
     ] {
         assert!(
             counts.refused[refusal] >= 40,
@@ -198,6 +200,60 @@ fn headers_come_at_their_limits() {
         let count = scripts.get(what).copied().unwrap_or(0);
         println!("{what} {count}");
         assert!(count >= least, "{what}: {count}");
+    }
+}
+
+/// The first answers that are not the circular's, a code of each; with the least number of scripts
+/// in a usual run.
+const LEFT_OUT: [(&str, u64); 12] = [
+    ("receive 10, receive 00", 100),
+    ("receive 10, receive 04", 5),
+    ("receive 10, receive 11", 5),
+    ("receive 00, receive 44", 40),
+    ("receive 07, receive 44", 40),
+    ("receive 12, receive 44", 5),
+    ("detail 00, detail 44", 100),
+    ("detail 07, detail 44", 20),
+    ("detail 12, detail 44", 5),
+    ("detail 23, detail 44", 5),
+    ("reply 22, reply 00", 40),
+    ("reply 22, reply 35", 5),
+];
+
+/// Of each kind there are enough, there is no other, and each is where the comparison with the
+/// circular's rules ends.
+#[test]
+fn what_is_left_out_is_common() {
+    let mut scripts: BTreeMap<String, u64> = BTreeMap::new();
+    for kind in Kind::ALL {
+        for seed in 0..kind.scripts() {
+            let script = generate::script(kind, seed);
+            let today = script::play(&script);
+            let of_circular = script::play_by(Rules::CIRCULAR, &script);
+            let first = compare::between(&of_circular, &today);
+            let end = first.as_ref().map(|first| Extent::UpTo(first.line));
+            let compared = circular::compared(&script, &today);
+            assert_eq!(compared, Ok(end.unwrap_or(Extent::ToTheEnd)));
+            let codes = first.map(|first| [first.reference, first.engine].map(in_short).join(", "));
+            *scripts.entry(codes.unwrap_or("none".into())).or_default() += 1;
+        }
+    }
+    println!("{scripts:#?}");
+    for (what, least) in LEFT_OUT {
+        let count = scripts.remove(what).unwrap_or(0);
+        assert!(count >= least, "{what}: {count}");
+    }
+    assert!(scripts.keys().eq(["none"]), "{scripts:?}");
+}
+
+/// The call with the code of the reply or the refusal.
+fn in_short(answer: Vec<u8>) -> String {
+    let answer = String::from_utf8(answer).unwrap();
+    let words: Vec<&str> = answer.trim_end().split(' ').collect();
+    match words[..] {
+        ["receive", _, "00", _, reply] => format!("receive {}", &reply[30..]),
+        [name, _, code, ..] => format!("{name} {code}"),
+        _ => panic!("{answer}"),
     }
 }
 

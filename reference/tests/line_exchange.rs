@@ -86,15 +86,20 @@ fn no_whole_documents() {
     }
 }
 
-/// The presenter finds a bad amount, the receiver a strange drawee. The parts before are taken.
+/// The presenter finds a bad amount or a nominal of zero, the receiver a strange drawee. The parts
+/// before are taken.
 #[test]
 fn a_bad_document_stays() {
     for at in [0, 199, 200, 2_599, 2_600, 3_333] {
-        for (field, byte) in [(NOMINAL, 0xAA), (DRAWEE, 0x99)] {
+        for (field, bytes) in [
+            (NOMINAL, &[0xAA; 2][..]),
+            (NOMINAL, &[0x00; 6]),
+            (DRAWEE, &[0x99; 2]),
+        ] {
             let mut near = trays(1, 4_000, 0, 72);
             let far = trays(2, 300, 300, 81);
             let bad = &mut near.presentations[at * DOCUMENT..][..DOCUMENT];
-            bad[field..field + 2].fill(byte);
+            bad[field..][..bytes.len()].copy_from_slice(bytes);
             let evening = of_line(&near, &far);
             assert_eq!(evening.code, 0);
             settled(&evening);

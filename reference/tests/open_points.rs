@@ -218,6 +218,26 @@ fn a_152_the_receiver_by_both_sets_of_rules() {
     }
 }
 
+/// With no lot open, so that the circular gives 07; to it 44 is also unknown in replies.
+#[test]
+fn a_161_a_document_of_nominal_zero_by_both_sets_of_rules() {
+    for (rules, refusal, code) in [(Rules::CIRCULAR, 7, 0x07), (Rules::TODAY, 44, 0x44)] {
+        let [mut a, mut b] = pair();
+        a.set_rules(rules);
+        b.set_rules(rules);
+        let (mut line, mut reply) = ([0; 100], [0; 16]);
+        let document = notation::bytes("$D[26:000000000000]");
+        let sent = a.send_detail(OPENING, 30, &document, &mut line);
+        assert_eq!(sent, Err(refusal));
+        let message = notation::bytes("$E(1)+$EX[30:000000000000]");
+        assert_eq!(b.receive(OPENING, &message, &mut reply), Ok(16));
+        assert_eq!(reply[15], code, "{rules:?}");
+        assert_eq!(a.send_header(OPENING, 0, 1, 7, &mut line), Ok(31));
+        let taken = a.take_reply(OPENING, &notation::bytes("$R(1,86,44)"));
+        assert_eq!(taken, if rules.knows_44 { Ok(()) } else { Err(22) });
+    }
+}
+
 /// Every refusal of a call that writes leaves the whole buffer.
 #[test]
 fn a_142_a_refused_call_writes_nothing() {

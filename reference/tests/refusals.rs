@@ -69,13 +69,16 @@ impl Pair {
         message
     }
 
-    /// Of good documents for the other end, or for nobody.
+    /// Of good documents for the other end, or for nobody, or for nothing.
     fn part(&mut self, end: usize) -> Vec<u8> {
         let partner = [0x72, 0x81][end];
         let mut document = EXAMPLE;
         document[19] = partner;
         document[32] = self.random.one_of(&[partner, partner, partner, 0x99]);
         document[46] = self.random.one_of(&[0x01, 0x02, 0x30]);
+        if self.random.below(8) == 0 {
+            document[25..31].fill(0);
+        }
         document.repeat(self.random.one_of(&[0, 1, 1, 2, 5, 200, 201]))
     }
 

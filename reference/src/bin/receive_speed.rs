@@ -7,7 +7,7 @@ use reference::line::{self, Evening};
 use reference::session::detail::DetailCheck;
 use reference::session::Session;
 use reference::timing::{in_turn, time, Run, Times};
-use reference::Checked;
+use reference::{plain, tuned, Checked};
 
 const SAMPLES: usize = 2_001;
 const ENVELOPE: usize = 12;
@@ -15,6 +15,8 @@ const DETAIL: usize = 10_412;
 /// As many as fill a lot.
 const DETAILS: usize = 13;
 const TIME: u32 = 75_600;
+
+type Check = fn(&[u8], u16, &[u16]) -> Checked;
 
 /// The trays of a full lot and of none, the lot's header and its details, one after the other.
 struct Work {
@@ -27,8 +29,11 @@ struct Work {
 fn main() {
     let work = Work::new();
     let mut runs = Vec::new();
-    for check in [DetailCheck::PLAIN, DetailCheck::TUNED] {
-        runs.push(work.checked(check.received));
+    for (check, alone) in [
+        (DetailCheck::PLAIN, plain::check as Check),
+        (DetailCheck::TUNED, tuned::check),
+    ] {
+        runs.push(work.checked(alone));
         runs.extend(work.way(move |near, far| of_two(check, near, far)));
         runs.push(work.received(check));
     }
@@ -71,7 +76,7 @@ impl Work {
         }
     }
 
-    fn checked(&self, check: fn(&[u8], u16, &[u16]) -> Checked) -> Run<'_> {
+    fn checked(&self, check: Check) -> Run<'_> {
         let bodies = self
             .details
             .chunks(DETAIL)

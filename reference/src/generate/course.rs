@@ -3,7 +3,7 @@
 use super::end::End;
 use super::evening::Evening;
 use super::message::packed;
-use crate::bodies::{Document, EXAMPLE, PRESENTED};
+use crate::bodies::{self, Document, EXAMPLE, NOMINAL, PRESENTED};
 
 /// Sends, delivers or answers, whichever is next.
 pub fn step(evening: &mut Evening, presenter: End) {
@@ -59,6 +59,7 @@ pub fn send_detail(evening: &mut Evening, presenter: End) {
         1 | 2 => documents = vec![plain_document(evening, presenter)],
         _ => {}
     }
+    spoil_nominals(evening, presenter, &mut documents);
     evening.detail(presenter, operation, &documents);
 }
 
@@ -76,6 +77,20 @@ pub fn spoil_drawee(evening: &mut Evening, presenter: End, documents: &mut [Docu
     let stranger = evening.stranger(presenter.other());
     let at = evening.draft.random.below(documents.len());
     documents[at][31..33].copy_from_slice(&packed(stranger.into(), 2));
+}
+
+/// In an evening that has such documents, makes some of these be for nothing, now and then beside a
+/// strange drawee.
+pub fn spoil_nominals(evening: &mut Evening, presenter: End, documents: &mut [Document]) {
+    if !evening.for_nothing || !evening.draft.random.once_in(4) {
+        return;
+    }
+    for at in bodies::some_of(&mut evening.draft.random, documents.len()) {
+        documents[at][NOMINAL].fill(0);
+    }
+    if evening.draft.random.once_in(4) {
+        spoil_drawee(evening, presenter, documents);
+    }
 }
 
 /// A whole lot of one detail.

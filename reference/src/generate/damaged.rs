@@ -1,8 +1,10 @@
-//! Damaged and random bytes on a line that works otherwise.
+//! Damaged and random bytes on a line that works otherwise; some lose the nominal of a document.
 
+use super::centre::Sort;
 use super::course;
 use super::end::End;
 use super::evening::Evening;
+use crate::bodies;
 use crate::hex;
 use crate::random::Random;
 
@@ -27,7 +29,15 @@ fn damaged_message(evening: &mut Evening, presenter: End) {
         return;
     };
     let mut bytes = awaited.message.bytes.clone();
-    damage(&mut evening.draft.random, &mut bytes);
+    let is_detail = awaited.sort == Sort::Detail;
+    let random = &mut evening.draft.random;
+    let is_for_nothing = is_detail && evening.for_nothing && random.once_in(2);
+    if is_for_nothing {
+        bodies::zero_nominals(random, &mut bytes[12..]);
+    }
+    if !is_for_nothing || random.once_in(4) {
+        damage(random, &mut bytes);
+    }
     evening.receive(presenter.other(), &hex::write(&bytes));
 }
 

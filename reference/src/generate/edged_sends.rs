@@ -47,9 +47,16 @@ fn reply_far_ahead(evening: &mut Evening, good: &[u8]) {
     evening.reply(End::A, &hex::write(&reply), &reply);
 }
 
-const KNOWN_CODES: [u8; 10] = [0x01, 0x03, 0x04, 0x06, 0x07, 0x08, 0x09, 0x10, 0x11, 0x12];
+#[rustfmt::skip]
+const KNOWN_CODES: [u8; 12] = [
+    0x01, 0x03, 0x04, 0x06, 0x07, 0x08, 0x09, 0x10, 0x11, 0x12, 0x44, 0x44,
+];
 
-const UNKNOWN_CODES: [u8; 8] = [0x02, 0x05, 0x0A, 0x0F, 0x13, 0x44, 0x99, 0xFF];
+/// The binary 44 is among them.
+#[rustfmt::skip]
+const UNKNOWN_CODES: [u8; 12] = [
+    0x02, 0x05, 0x0A, 0x0F, 0x13, 0x2C, 0x40, 0x43, 0x45, 0x54, 0x99, 0xFF,
+];
 
 pub fn edged_send(evening: &mut Evening) {
     match evening.draft.random.below(4) {
@@ -107,6 +114,7 @@ fn edged_detail(evening: &mut Evening) {
     let operation = evening.operation();
     let count = evening.draft.random.within(1, 6);
     let mut documents = evening.documents(End::A, operation, count);
+    course::spoil_nominals(evening, End::A, &mut documents);
     let random = &mut evening.draft.random;
     let at = random.below(count);
     fields::change(random, &mut documents[at], -4, &fields::DOCUMENT);

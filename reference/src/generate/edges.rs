@@ -1,13 +1,14 @@
 //! Fields at and next to their limits: end B receives them from a foreign partner, and end A
 //! presents to another.
 
+use super::course;
 use super::edged_sends;
 use super::end::End;
 use super::evening::{Evening, HEADER_LIMITS};
 use super::fields::{self, PAST_16_BITS};
 use super::foreign::Foreign;
 use super::message;
-use crate::bodies::PRESENTED;
+use crate::bodies::{self, PRESENTED};
 use crate::random::Random;
 
 pub fn play(evening: &mut Evening) {
@@ -85,8 +86,7 @@ fn edge_of_body(random: &mut Random, body: &mut [u8]) {
             fields::change(random, body, 208 * group as isize, &fields::GROUP);
         }
         _ => {
-            let document = random.below(body.len() / 52);
-            let start = 4 + document / 4 * 208 + document % 4 * 51;
+            let start = bodies::start_of(random.below(body.len() / 52));
             fields::change(random, body, start as isize - 4, &fields::DOCUMENT);
         }
     }
@@ -119,10 +119,13 @@ fn hand_session_total(evening: &mut Evening, foreign: &mut Foreign) {
     foreign.hand(evening, &body);
 }
 
-/// Full groups of which some have the other operation, a bad field or a bad shape as well.
+/// Full groups of which some have the other operation, a bad field, a bad shape or a document for
+/// nothing as well.
 fn mixed_groups(evening: &mut Evening, foreign: &mut Foreign) {
     let groups = evening.draft.random.within(2, 4);
-    let documents = evening.documents(foreign.end.other(), PRESENTED, 4 * groups);
+    let presenter = foreign.end.other();
+    let mut documents = evening.documents(presenter, PRESENTED, 4 * groups);
+    course::spoil_nominals(evening, presenter, &mut documents);
     let mut body = foreign.detail(PRESENTED, &documents);
     let random = &mut evening.draft.random;
     let other = random.below(groups);

@@ -28,6 +28,8 @@ pub struct Evening {
     pub date: u64,
     /// Amounts and order numbers come from so few values that many of them are equal.
     pub narrow: bool,
+    /// Some documents are for nothing: their nominal is zero.
+    pub for_nothing: bool,
     pub centres: [Centre; 2],
 }
 
@@ -46,10 +48,12 @@ impl Evening {
             Centre::new(own, represented, OPENING)
         });
         let narrow = random.once_in(3);
+        let for_nothing = random.once_in(4);
         Evening {
             draft,
             date,
             narrow,
+            for_nothing,
             centres,
         }
     }

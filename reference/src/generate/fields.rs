@@ -72,7 +72,7 @@ pub const SESSION_TOTAL: [Field; 9] = [
 #[rustfmt::skip]
 pub const REPLY: [Field; 4] = [
     FREE, FIFTY_ONE, field(3, 1, &[0, 1, 80, 85, 86, 87, 88, 90, 96, 97, 98]),
-    field(4, 1, &[0, 1, 2, 3, 4, 5, 6, 7, 8, 9, 10, 11, 12, 13, 44, 99]),
+    field(4, 1, &[0, 1, 2, 3, 4, 5, 6, 7, 8, 9, 10, 11, 12, 13, 43, 44, 45, 99]),
 ];
 
 pub const GROUP: [Field; 4] = [FREE, FIFTY_ONE, OPERATION, field(4, 1, &[0, 1, 2, 3, 4, 5])];

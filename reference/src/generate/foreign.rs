@@ -1,6 +1,7 @@
 //! A partner outside the engine: it builds its messages itself, good or not, and keeps its own
 //! account of what the receiving end has accepted.
 
+use super::course;
 use super::end::End;
 use super::evening::Evening;
 use super::message::{self, Pair, Totals};
@@ -58,7 +59,7 @@ impl Foreign {
         match (body.get(2), code) {
             (Some(0x01), 0) => self.open = Some(packed::value(&body[16..18])),
             (Some(0x30 | 0x40), 0) => {
-                let added = message::totals(&message::documents(body));
+                let added = message::totals(&bodies::documents_in(body));
                 self.running = sum(self.running, added);
             }
             (Some(0x80), _) => {
@@ -117,7 +118,9 @@ impl Foreign {
     fn some_detail(&self, evening: &mut Evening) -> Vec<u8> {
         let operation = evening.operation();
         let count = evening.count();
-        let documents = evening.documents(self.end.other(), operation, count);
+        let presenter = self.end.other();
+        let mut documents = evening.documents(presenter, operation, count);
+        course::spoil_nominals(evening, presenter, &mut documents);
         self.detail(operation, &documents)
     }
 }

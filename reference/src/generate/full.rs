@@ -1,10 +1,10 @@
-//! Lots of up to 2,600 documents, and one document more.
+//! Lots of up to 2,600 documents, and one document more, which may be for nothing.
 
 use super::course;
 use super::end::End;
 use super::evening::Evening;
 use super::foreign::Foreign;
-use crate::bodies::{Document, PRESENTED, RETURN};
+use crate::bodies::{Document, NOMINAL, PRESENTED, RETURN};
 
 const MOST: usize = 2_600;
 
@@ -39,6 +39,13 @@ fn copies(evening: &mut Evening, presenter: End, operation: u8, count: usize) ->
     vec![document; count]
 }
 
+/// For a lot that is full, in half of the evenings.
+fn one_for_nothing(evening: &mut Evening, presenter: End) -> Option<[Document; 1]> {
+    let mut document = evening.documents(presenter, PRESENTED, 1)[0];
+    document[NOMINAL].fill(0);
+    evening.draft.random.once_in(2).then_some([document])
+}
+
 fn own_lot(evening: &mut Evening) {
     let end = evening.draft.random.one_of(&End::BOTH);
     let number = evening.draft.random.within(1, 9999) as u64;
@@ -55,6 +62,9 @@ fn own_lot(evening: &mut Evening) {
         let documents = copies(evening, end, RETURN, count);
         evening.detail(end, RETURN, &documents);
         evening.exchange(end);
+    }
+    if let Some(documents) = one_for_nothing(evening, end) {
+        evening.detail(end, PRESENTED, &documents);
     }
     evening.lot(end);
     evening.exchange(end);
@@ -74,6 +84,10 @@ fn foreign_lot(evening: &mut Evening) {
     }
     for count in [MOST - whole + 1, 200, MOST - whole, 1] {
         hand_copies(evening, &mut foreign, count);
+    }
+    if let Some(documents) = one_for_nothing(evening, end.other()) {
+        let body = foreign.detail(PRESENTED, &documents);
+        foreign.hand(evening, &body);
     }
     let total = foreign.lot_total();
     foreign.hand(evening, &total);

@@ -59,7 +59,7 @@ fn own_lots(evening: &mut Evening) {
     evening.report(end.other());
 }
 
-/// Three in four are good.
+/// Three in four are good, fewer in an evening with documents for nothing.
 fn own_lot(evening: &mut Evening, end: End, number: u64) {
     let mut documents = evening.documents(end, PRESENTED, 1);
     match evening.draft.random.below(16) {
@@ -73,7 +73,7 @@ fn own_lot(evening: &mut Evening, end: End, number: u64) {
             return;
         }
         3 => evening.report(end),
-        _ => {}
+        _ => course::spoil_nominals(evening, end, &mut documents),
     }
     course::lot(evening, end, number, &documents);
 }
@@ -103,7 +103,9 @@ fn foreign_lots(evening: &mut Evening) {
 }
 
 fn foreign_lot(evening: &mut Evening, foreign: &mut Foreign, number: u64) {
-    let documents = evening.documents(foreign.end.other(), PRESENTED, 1);
+    let presenter = foreign.end.other();
+    let mut documents = evening.documents(presenter, PRESENTED, 1);
+    course::spoil_nominals(evening, presenter, &mut documents);
     let detail = foreign.detail(PRESENTED, &documents);
     let header = foreign.header(evening, number);
     foreign.hand(evening, &header);

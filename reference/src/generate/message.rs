@@ -86,12 +86,3 @@ pub fn totals(documents: &[Document]) -> Totals {
     };
     [documents.len() as u64, sum(25, 31), sum(43, 47)]
 }
-
-/// The documents of a detail body whose shape is good.
-pub fn documents(body: &[u8]) -> Vec<Document> {
-    let groups = body.chunks(208).map(|group| group.get(4..).unwrap_or(&[]));
-    groups
-        .flat_map(|group| group.as_chunks().0)
-        .copied()
-        .collect()
-}

@@ -29,8 +29,8 @@ pub enum Asked {
     },
     /// The lengths of presentations and returns, then their cursors.
     Tray([usize; 4]),
-    /// What only the reference's own session can do: `limits` and `set` put something into it,
-    /// `running` shows running totals.
+    /// What only the reference's own session can do: `limits`, `rules` and `set` put something into
+    /// it, `running` shows running totals.
     Engine(Vec<String>),
 }
 
@@ -107,7 +107,9 @@ fn read_line(text: &str) -> Line {
         "check" => check(&words[1..]),
         "tray" => Asked::Tray([1, 2, 3, 4].map(|at| number(words[at]))),
         "written" => Asked::Written(number(words[1].trim_start_matches('@'))),
-        "limits" | "set" | "running" => Asked::Engine(words.iter().map(|&w| w.into()).collect()),
+        "limits" | "rules" | "set" | "running" => {
+            Asked::Engine(words.iter().map(|&w| w.into()).collect())
+        }
         _ => Asked::Call(script_line(&words)),
     };
     Line {

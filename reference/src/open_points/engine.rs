@@ -25,7 +25,7 @@ impl Engine {
         answer.expect("the blocks have no bad lines")
     }
 
-    /// Lowered limits, a put serial, or running totals. Only the last has an answer.
+    /// Lowered limits, other rules, a put serial, or running totals. Only the last has an answer.
     pub fn special(&mut self, words: &[String]) -> String {
         let words: Vec<&str> = words.iter().map(String::as_str).collect();
         match words[..] {
@@ -34,6 +34,13 @@ impl Engine {
                 let lots = lots.parse().expect("a number");
                 for session in self.stage.sessions() {
                     session.set_limits(Limits { documents, lots });
+                }
+                String::new()
+            }
+            ["rules", name] => {
+                let rules = rules(name);
+                for session in self.stage.sessions() {
+                    session.set_rules(rules);
                 }
                 String::new()
             }
@@ -76,5 +83,13 @@ impl Engine {
             "B" => b,
             _ => panic!("{end} is no end"),
         }
+    }
+}
+
+fn rules(name: &str) -> Rules {
+    match name {
+        "circular" => Rules::CIRCULAR,
+        "today" => Rules::TODAY,
+        _ => panic!("{name} names no rules"),
     }
 }

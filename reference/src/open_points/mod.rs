@@ -1,6 +1,7 @@
 //! The test lines of the open points, as data, and the ways to run them: the calls of a block as
 //! a script through any player, its detail checks through any check, its tray calls, and with the
-//! reference's own session the blocks that lower a limit, put a serial or show running totals.
+//! reference's own session the blocks that lower a limit, change the rules, put a serial or show
+//! running totals.
 
 pub mod block;
 pub mod notation;

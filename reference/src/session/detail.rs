@@ -1,28 +1,29 @@
 //! The detail's body as a presenter writes it, and the checks of a detail that an engine uses.
 
 use super::limits::DETAIL_DOCUMENTS;
+use super::rules::Rules;
 use crate::{plain, tuned, Checked};
 
 pub const DOCUMENT: usize = 51;
 const HEAD: usize = 4;
 const GROUP_DOCUMENTS: usize = 4;
 
-/// The two ends' detail checks. All choices give the same answers.
+/// The two ends' detail checks by given rules. All choices give the same answers.
 #[derive(Clone, Copy, Debug)]
 pub struct DetailCheck {
     /// Of a body, for own and the represented entities.
-    pub received: fn(&[u8], u16, &[u16]) -> Checked,
+    pub received: fn(Rules, &[u8], u16, &[u16]) -> Checked,
     /// Of whole documents, under a packed operation and for the receiving entity.
-    pub to_send: fn(&[u8], u8, u16) -> Checked,
+    pub to_send: fn(Rules, &[u8], u8, u16) -> Checked,
 }
 
 impl DetailCheck {
     pub const PLAIN: DetailCheck = DetailCheck {
-        received: plain::check,
+        received: plain::check_by,
         to_send: plain::check_to_send,
     };
     pub const TUNED: DetailCheck = DetailCheck {
-        received: tuned::check,
+        received: tuned::check_by,
         to_send: tuned::check_to_send,
     };
 }

@@ -78,6 +78,11 @@ impl Session {
         self.limits = limits;
     }
 
+    /// For tests: the session goes on by these rules.
+    pub fn set_rules(&mut self, rules: Rules) {
+        self.rules = rules;
+    }
+
     /// For tests: as if this serial had been sent last and its reply taken.
     pub fn set_last_sent(&mut self, serial: u32) {
         self.presenting.sent = serial;

@@ -59,7 +59,7 @@ impl Session {
         self.may_send(time)?;
         let operation = packed_operation(operation).ok_or(1)?;
         refuse(1, !detail::is_part(documents))?;
-        let checked = (self.check.to_send)(documents, operation, self.partner);
+        let checked = (self.check.to_send)(self.rules, documents, operation, self.partner);
         refuse(checked.code, checked.code != 0)?;
         let totals = Totals::from(checked);
         let open = self.presenting.course.open.ok_or(7)?;
@@ -116,7 +116,7 @@ impl Session {
         self.within_hours(time)?;
         let envelope = Envelope::read(Kind::Reply, reply).ok_or(21)?;
         refuse(33, !self.is_ours(&envelope, self.own, self.partner))?;
-        let body = Reply::read(&reply[envelope::LENGTH..]).ok_or(22)?;
+        let body = Reply::read(self.rules, &reply[envelope::LENGTH..]).ok_or(22)?;
         let awaited = self.presenting.awaited.ok_or(35)?;
         refuse(35, envelope.serial != self.presenting.sent)?;
         refuse(35, body.operation != reply::operation_awaited(awaited))?;

@@ -87,7 +87,7 @@ impl Session {
     }
 
     fn judge_detail(&self, body: &[u8]) -> Result<Message, Refusal> {
-        let checked = (self.check.received)(body, self.own, &self.represented);
+        let checked = (self.check.received)(self.rules, body, self.own, &self.represented);
         refuse(checked.code, checked.code != 0)?;
         let totals = Totals::from(checked);
         let open = self.receiving.course.open.ok_or(7)?;

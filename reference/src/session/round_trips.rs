@@ -5,6 +5,7 @@ use super::course::Lot;
 use super::envelope::{Envelope, Kind};
 use super::header::Header;
 use super::reply::Reply;
+use super::rules::Rules;
 use super::total;
 use super::totals::{SessionTotals, Totals};
 
@@ -59,11 +60,13 @@ fn totals() {
 #[test]
 fn reply() {
     for operation in [86, 87, 97] {
-        for code in [0, 1, 3, 4, 6, 7, 8, 9, 10, 11, 12] {
+        for code in [0, 1, 3, 4, 6, 7, 8, 9, 10, 11, 12, 44] {
             let reply = Reply { operation, code };
             let mut body = [0xEE; 4];
             reply.write(&mut body);
-            assert_eq!(Reply::read(&body), Some(reply));
+            assert_eq!(Reply::read(Rules::TODAY, &body), Some(reply));
+            let of_circular = Some(reply).filter(|_| code != 44);
+            assert_eq!(Reply::read(Rules::CIRCULAR, &body), of_circular);
         }
     }
 }
