@@ -32,7 +32,7 @@ const ANY_DIGITS: [Range<usize>; 10] = [
     0..5, 7..11, 13..15, 15..17, 21..23, 23..25, 33..35, 35..40, 41..43, 43..47,
 ];
 
-pub(crate) const NOMINAL: Range<usize> = 25..31;
+pub const NOMINAL: Range<usize> = 25..31;
 
 /// The documents in groups of 4, the last group with what remains.
 pub fn body(operation: u8, documents: &[Document]) -> Vec<u8> {

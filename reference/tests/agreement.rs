@@ -1,14 +1,12 @@
 //! All four detail checks must give the same answer, on generated bodies, on every value of
 //! every byte, and at the greatest length; and the reference's three by the circular's rules too.
 
-use reference::bodies::{self, Case, Document, EXAMPLE, PRESENTED, RETURN};
+use reference::bodies::{self, Case, Document, EXAMPLE, NOMINAL, PRESENTED, RETURN};
 use reference::session::rules::Rules;
 use reference::{columns, line, plain, tuned, Checked};
-use std::ops::Range;
 
 const FIRST_SEED: u64 = 19_900_011;
 const GENERATED: u64 = 200_000;
-const NOMINAL: Range<usize> = 25..31;
 
 /// The common answer; `origin` says where a failing body came from.
 fn agreed(body: &[u8], own: u16, represented: &[u16], origin: &dyn Fn() -> String) -> Checked {

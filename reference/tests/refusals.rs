@@ -1,7 +1,7 @@
 //! Random calls at two ends: a refused call changes neither its session nor the lent buffer, and
 //! an unrefused one makes its time the last seen and writes no further than it says.
 
-use reference::bodies::EXAMPLE;
+use reference::bodies::{EXAMPLE, NOMINAL};
 use reference::session::Session;
 
 const SEEDS: u64 = 300;
@@ -77,7 +77,7 @@ impl Pair {
         document[32] = self.random.one_of(&[partner, partner, partner, 0x99]);
         document[46] = self.random.one_of(&[0x01, 0x02, 0x30]);
         if self.random.below(8) == 0 {
-            document[25..31].fill(0);
+            document[NOMINAL].fill(0);
         }
         document.repeat(self.random.one_of(&[0, 1, 1, 2, 5, 200, 201]))
     }

@@ -95,7 +95,7 @@ fn short_header(evening: &mut Evening, end: End) {
 fn short_detail(evening: &mut Evening, end: End) {
     let count = evening.draft.random.one_of(&[1, 1, 2, 4, 5, 199, 200]);
     let mut documents = evening.documents(end, PRESENTED, count);
-    course::spoil_nominals(evening, end, &mut documents);
+    course::spoil_nominals(evening, end, 2, &mut documents);
     let room = room(evening, 12 + 51 * count + 4 * count.div_ceil(4));
     let digits = hex::write(documents.as_flattened());
     evening.send(end, Sort::Detail, &format!(" 30 {digits} {room}"));

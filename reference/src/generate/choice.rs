@@ -2,7 +2,7 @@
 
 use super::end::End;
 use super::evening::Evening;
-use crate::bodies::{self, Document, PRESENTED, RETURN};
+use crate::bodies::{self, Document, NOMINAL, PRESENTED, RETURN};
 
 impl Evening {
     /// Documents that the other end accepts.
@@ -15,7 +15,7 @@ impl Evening {
             .map(|_| bodies::good_document(random, operation, own, &drawees))
             .collect();
         for document in documents.iter_mut().filter(|_| self.narrow) {
-            document[25..31].copy_from_slice(&[0, 0, 0, 0, 0, random.one_of(&[1, 1, 1, 2])]);
+            document[NOMINAL].copy_from_slice(&[0, 0, 0, 0, 0, random.one_of(&[1, 1, 1, 2])]);
             document[43..47].copy_from_slice(&[0, 0, 0, random.one_of(&[0, 0, 0, 1])]);
         }
         documents

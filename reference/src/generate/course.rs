@@ -59,7 +59,7 @@ pub fn send_detail(evening: &mut Evening, presenter: End) {
         1 | 2 => documents = vec![plain_document(evening, presenter)],
         _ => {}
     }
-    spoil_nominals(evening, presenter, &mut documents);
+    spoil_nominals(evening, presenter, 4, &mut documents);
     evening.detail(presenter, operation, &documents);
 }
 
@@ -79,10 +79,15 @@ pub fn spoil_drawee(evening: &mut Evening, presenter: End, documents: &mut [Docu
     documents[at][31..33].copy_from_slice(&packed(stranger.into(), 2));
 }
 
-/// In an evening that has such documents, makes some of these be for nothing, now and then beside a
-/// strange drawee.
-pub fn spoil_nominals(evening: &mut Evening, presenter: End, documents: &mut [Document]) {
-    if !evening.for_nothing || !evening.draft.random.once_in(4) {
+/// In an evening that has such documents, one detail in so many gets some that are for nothing, now
+/// and then beside a strange drawee.
+pub fn spoil_nominals(
+    evening: &mut Evening,
+    presenter: End,
+    details: usize,
+    documents: &mut [Document],
+) {
+    if !evening.for_nothing || !evening.draft.random.once_in(details) {
         return;
     }
     for at in bodies::some_of(&mut evening.draft.random, documents.len()) {

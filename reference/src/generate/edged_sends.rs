@@ -40,10 +40,13 @@ pub fn present(evening: &mut Evening) {
     evening.reply(End::A, &hex::write(&reply), &reply);
 }
 
-/// Before the good reply one whose serial would be the same in 16 bits.
+/// Before the good reply one whose serial would be the same in 16 bits, at times with 44.
 fn reply_far_ahead(evening: &mut Evening, good: &[u8]) {
     let mut reply = good.to_vec();
     fields::raise(&mut reply[8..12], PAST_16_BITS);
+    if evening.for_nothing && evening.draft.random.once_in(2) {
+        reply[15] = 0x44;
+    }
     evening.reply(End::A, &hex::write(&reply), &reply);
 }
 
@@ -114,7 +117,7 @@ fn edged_detail(evening: &mut Evening) {
     let operation = evening.operation();
     let count = evening.draft.random.within(1, 6);
     let mut documents = evening.documents(End::A, operation, count);
-    course::spoil_nominals(evening, End::A, &mut documents);
+    course::spoil_nominals(evening, End::A, 4, &mut documents);
     let random = &mut evening.draft.random;
     let at = random.below(count);
     fields::change(random, &mut documents[at], -4, &fields::DOCUMENT);

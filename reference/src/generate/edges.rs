@@ -18,7 +18,7 @@ pub fn play(evening: &mut Evening) {
         if evening.draft.random.once_in(30) {
             move_on(evening);
         }
-        match evening.draft.random.below(20) {
+        match evening.draft.random.below(21) {
             0..=4 => edged_message(evening, &mut foreign),
             5..=7 => good_message(evening, &mut foreign),
             8 => stated_wrongly(evening, &mut foreign),
@@ -27,6 +27,7 @@ pub fn play(evening: &mut Evening) {
             12 => evening.report(foreign.end),
             13 => evening.report(End::A),
             14 | 15 => edged_sends::edged_send(evening),
+            16 if evening.for_nothing => detail_for_nothing(evening, &mut foreign),
             _ => edged_sends::present(evening),
         }
     }
@@ -55,6 +56,12 @@ fn other_serial(evening: &mut Evening, foreign: &mut Foreign) {
 
 fn good_message(evening: &mut Evening, foreign: &mut Foreign) {
     let body = foreign.body(evening);
+    foreign.hand(evening, &body);
+}
+
+/// Whether a lot is open or not.
+fn detail_for_nothing(evening: &mut Evening, foreign: &mut Foreign) {
+    let body = foreign.some_detail(evening, 1);
     foreign.hand(evening, &body);
 }
 
@@ -125,7 +132,7 @@ fn mixed_groups(evening: &mut Evening, foreign: &mut Foreign) {
     let groups = evening.draft.random.within(2, 4);
     let presenter = foreign.end.other();
     let mut documents = evening.documents(presenter, PRESENTED, 4 * groups);
-    course::spoil_nominals(evening, presenter, &mut documents);
+    course::spoil_nominals(evening, presenter, 2, &mut documents);
     let mut body = foreign.detail(PRESENTED, &documents);
     let random = &mut evening.draft.random;
     let other = random.below(groups);

@@ -98,8 +98,8 @@ impl Foreign {
             0 => self.session_total(),
             1 => self.lot_total(),
             2 => self.some_header(evening),
-            3 => self.some_detail(evening),
-            4..=20 if open => self.some_detail(evening),
+            3 => self.some_detail(evening, 4),
+            4..=20 if open => self.some_detail(evening, 4),
             _ if open => self.lot_total(),
             _ => self.some_header(evening),
         }
@@ -115,12 +115,13 @@ impl Foreign {
         self.header(evening, number)
     }
 
-    fn some_detail(&self, evening: &mut Evening) -> Vec<u8> {
+    /// One in so many is for nothing, if the evening has such documents.
+    pub fn some_detail(&self, evening: &mut Evening, details: usize) -> Vec<u8> {
         let operation = evening.operation();
         let count = evening.count();
         let presenter = self.end.other();
         let mut documents = evening.documents(presenter, operation, count);
-        course::spoil_nominals(evening, presenter, &mut documents);
+        course::spoil_nominals(evening, presenter, details, &mut documents);
         self.detail(operation, &documents)
     }
 }

@@ -33,7 +33,7 @@ fn parts(evening: &mut Evening, whole: usize) -> Vec<usize> {
 fn copies(evening: &mut Evening, presenter: End, operation: u8, count: usize) -> Vec<Document> {
     let mut document = evening.documents(presenter, operation, 1)[0];
     if evening.draft.random.once_in(2) {
-        document[25..31].fill(0x99);
+        document[NOMINAL].fill(0x99);
         document[43..47].fill(0x99);
     }
     vec![document; count]

@@ -7,7 +7,7 @@ use super::evening::{Evening, HEADER_LIMITS};
 use super::fields::{self, PAST_16_BITS, PAST_8_BITS};
 use super::foreign::Foreign;
 use super::message;
-use crate::bodies::PRESENTED;
+use crate::bodies::{NOMINAL, PRESENTED};
 
 pub fn play(evening: &mut Evening) {
     evening.start_both();
@@ -24,7 +24,7 @@ pub fn play(evening: &mut Evening) {
 fn heavy_lots(evening: &mut Evening) {
     let end = evening.draft.random.one_of(&End::BOTH);
     let mut document = course::plain_document(evening, end);
-    document[25..31].fill(0x99);
+    document[NOMINAL].fill(0x99);
     document[43..47].fill(0x99);
     for at in 0..65 {
         course::lot(evening, end, number(at), &vec![document; 200 - at]);
@@ -73,7 +73,7 @@ fn own_lot(evening: &mut Evening, end: End, number: u64) {
             return;
         }
         3 => evening.report(end),
-        _ => course::spoil_nominals(evening, end, &mut documents),
+        _ => course::spoil_nominals(evening, end, 4, &mut documents),
     }
     course::lot(evening, end, number, &documents);
 }
@@ -105,7 +105,7 @@ fn foreign_lots(evening: &mut Evening) {
 fn foreign_lot(evening: &mut Evening, foreign: &mut Foreign, number: u64) {
     let presenter = foreign.end.other();
     let mut documents = evening.documents(presenter, PRESENTED, 1);
-    course::spoil_nominals(evening, presenter, &mut documents);
+    course::spoil_nominals(evening, presenter, 4, &mut documents);
     let detail = foreign.detail(PRESENTED, &documents);
     let header = foreign.header(evening, number);
     foreign.hand(evening, &header);
