@@ -9,6 +9,9 @@ use std::array;
 /// The columns that are looked at; the last is a key byte that only makes the number even.
 const COLUMNS: usize = 48;
 
+/// The bits of a nominal in its word.
+const NOMINAL: u64 = 0x00FF_FFFF_FFFF_FF00;
+
 /// By today's rules.
 pub fn check(body: &[u8], own: u16, represented: &[u16]) -> Checked {
     check_by(Rules::TODAY, body, own, represented)
@@ -43,6 +46,8 @@ struct Columns {
     greatest_low: [u8; COLUMNS],
     low_sum: [u8; COLUMNS],
     amounts: Amounts,
+    /// The highest bit tells that from some nominal 1 could not be taken.
+    less_one: u64,
     wrong: u32,
 }
 
@@ -55,6 +60,7 @@ impl Columns {
             greatest_low: [0; COLUMNS],
             low_sum: [0; COLUMNS],
             amounts: Amounts::default(),
+            less_one: 0,
             wrong: 0,
         }
     }
@@ -79,7 +85,9 @@ impl Columns {
             }
         }
         for document in documents {
-            self.amounts.add(Amounts::words(document));
+            let words = Amounts::words(document);
+            self.amounts.add(words);
+            self.less_one |= (words[0] & NOMINAL).wrapping_sub(1);
         }
     }
 
@@ -105,7 +113,7 @@ impl Columns {
                 && (!RETURNS || self.greatest[41] == 0),
             amounts_are_digits: digits(25, 31) && digits(43, 47),
             all_drawn_on_own: self.are(31, own),
-            a_nominal_is_zero: self.amounts.has_nominal_zero(),
+            a_nominal_is_zero: self.less_one >> 63 != 0,
             nominal: self.amounts.nominal(),
             commission: self.amounts.commission(),
         }

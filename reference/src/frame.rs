@@ -188,8 +188,7 @@ pub fn wrong<const RETURNS: bool>(document: &Document) -> u32 {
         | reason
 }
 
-/// The sums of nominal and commission, kept byte by byte and unpacked only at the end, and whether
-/// a nominal was zero.
+/// The sums of nominal and commission, kept byte by byte and unpacked only at the end.
 #[derive(Default)]
 pub struct Amounts {
     /// Since the last settling; the eight bytes around an amount are added as one number.
@@ -197,12 +196,7 @@ pub struct Amounts {
     /// Settled sums of the bytes 0, 2, 4 and 6, with 16 bits for each, and of the others.
     even: [u64; 2],
     odd: [u64; 2],
-    /// The highest bit tells that from some nominal 1 could not be taken.
-    less_one: u64,
 }
-
-/// The bits of a nominal in its word.
-const NOMINAL: u64 = 0x00FF_FFFF_FFFF_FF00;
 
 impl Amounts {
     #[inline(always)]
@@ -215,7 +209,6 @@ impl Amounts {
         for (whole, word) in self.whole.iter_mut().zip(words) {
             *whole = whole.wrapping_add(word);
         }
-        self.less_one |= (words[0] & NOMINAL).wrapping_sub(1);
     }
 
     /// Less the sums of the low digits, the whole is 16 times those of the high ones, each in
@@ -229,10 +222,6 @@ impl Amounts {
             self.odd[k] += ((high >> 8) & EVEN) * 10 + ((low >> 8) & EVEN);
         }
         self.whole = [0; 2];
-    }
-
-    pub fn has_nominal_zero(&self) -> bool {
-        self.less_one >> 63 != 0
     }
 
     pub fn nominal(&self) -> u64 {

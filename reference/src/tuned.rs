@@ -12,10 +12,13 @@ const EIGHTS: u64 = 0x8888_8888_8888_8888;
 const WORDS: [usize; 6] = [0, 8, 15, 23, 31, 39];
 /// The bits of the words that belong to no amount.
 const FIELDS: [u64; 6] = [!0, !0, !0, 0xFFFF, !0, 0xFFFF_FFFF];
-/// Added to the excess of the provinces over 1, sets the highest bit of those above 52.
-const PROVINCES: u64 = 0x0000_2E00_002E_0000;
-/// The bits that are not set in the third word's excess if own and the provinces are good.
+/// Added to half the excess of the third and the fourth word, sets a bit of each province above 52,
+/// and the highest bit if the excess of the nominal is below zero.
+const HALVES: [u64; 2] = [0x0000_1700_0017_0000, 0x8000];
+/// The bits that are not set in the third word's excess, and then in its half, if own and the
+/// provinces are good.
 const OWN_AND_PROVINCES: u64 = 0x0000_80FF_FF80_0000;
+const HALF_PROVINCES: u64 = 0x0000_4000_0040_0000;
 
 /// By today's rules.
 pub fn check(body: &[u8], own: u16, represented: &[u16]) -> Checked {
@@ -45,7 +48,7 @@ fn pass<const RETURNS: bool>(body: &[u8], own: [u8; 2]) -> Found {
 /// Over pieces that end with four documents, and then the documents of a last, shorter piece.
 fn look<const RETURNS: bool, const SIZE: usize>(bytes: &[u8], own: [u8; 2]) -> Found {
     let own = u64::from(u16::from_le_bytes(own));
-    let least = [0x0000_0100_0001_0000 | own << 24, 0, own, 0x0100];
+    let least = [0x0000_0100_0001_0000 | own << 24, 0x1_0000, own, 0x0100];
     let (full, rest) = bytes.as_chunks::<SIZE>();
     let mut seen = Seen::default();
     seen.take_all::<RETURNS, SIZE>(full, &least);
@@ -59,9 +62,13 @@ struct Seen {
     /// The highest bit of a half byte tells that it was above 9. It may be set for a 9 higher up
     /// in the word as well, but from an amount no further than to its end.
     non_digits: [u64; 6],
-    /// From the third word on, the excess over the least that own, the provinces and the
-    /// truncation can be. The fourth word has none of these and only makes up a pair.
+    /// From the third word on, the excess over the least that own, the provinces, the nominal and
+    /// the truncation can be. A nominal's bytes stand the other way round here, but zero is less
+    /// than the least either way.
     excess: [u64; 4],
+    /// Of the third and the fourth word, half the excess with `HALVES` added. Half of any digits
+    /// leaves the highest bit to a nominal of zero.
+    halves: [u64; 2],
     low_sums: [u64; 2],
     amounts: Amounts,
     wrong: u32,
@@ -103,7 +110,7 @@ impl Seen {
             let excess = words[k + 2].wrapping_sub(least[k]);
             self.excess[k] |= excess;
             if k < 2 {
-                self.excess[k] |= excess.wrapping_add(PROVINCES);
+                self.halves[k] |= (excess >> 1).wrapping_add(HALVES[k]);
             }
         }
     }
@@ -119,10 +126,11 @@ impl Seen {
             fields_hold: !bad_fields
                 && self.wrong == 0
                 && self.excess[0] & OWN_AND_PROVINCES == 0
+                && self.halves[0] & HALF_PROVINCES == 0
                 && self.excess[3] & (reason | 0xFE00) == 0,
             amounts_are_digits: non_digits == [0; 6],
             all_drawn_on_own: self.excess[2] & 0xFFFF == 0,
-            a_nominal_is_zero: self.amounts.has_nominal_zero(),
+            a_nominal_is_zero: self.halves[1] >> 63 != 0,
             nominal: self.amounts.nominal(),
             commission: self.amounts.commission(),
         }
