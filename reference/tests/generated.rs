@@ -4,9 +4,10 @@
 
 use reference::asked::asked;
 use reference::compare::circular::{self, Extent};
+use reference::compare::Difference;
 use reference::generate::{self, Kind};
 use reference::session::rules::Rules;
-use reference::{books, compare, script};
+use reference::{books, compare, corpus, script};
 use std::collections::{BTreeMap, BTreeSet, HashMap, HashSet};
 
 /// Among the answers of a usual run.
@@ -220,20 +221,13 @@ const LEFT_OUT: [(&str, u64); 12] = [
     ("reply 22, reply 35", 8),
 ];
 
-/// Of each kind there are enough, there is no other, and each is where the comparison with the
-/// circular's rules ends.
+/// Of each kind there are enough, and there is no other.
 #[test]
 fn what_is_left_out_is_common() {
     let mut scripts: BTreeMap<String, u64> = BTreeMap::new();
     for kind in Kind::ALL {
         for seed in 0..kind.scripts() {
-            let script = generate::script(kind, seed);
-            let today = script::play(&script);
-            let of_circular = script::play_by(Rules::CIRCULAR, &script);
-            let first = compare::between(&of_circular, &today);
-            let end = first.as_ref().map(|first| Extent::UpTo(first.line));
-            let compared = circular::compared(&script, &today);
-            assert_eq!(compared, Ok(end.unwrap_or(Extent::ToTheEnd)));
+            let first = first_left_out(&generate::script(kind, seed));
             let codes = first.map(|first| [first.reference, first.engine].map(in_short).join(", "));
             *scripts.entry(codes.unwrap_or("none".into())).or_default() += 1;
         }
@@ -244,6 +238,25 @@ fn what_is_left_out_is_common() {
         assert!(count >= least, "{what}: {count}");
     }
     assert!(scripts.keys().eq(["none"]), "{scripts:?}");
+}
+
+#[test]
+fn the_hand_made_scripts_differ_in_what_is_left_out() {
+    for made in corpus::hand_made() {
+        first_left_out(&made.text);
+    }
+}
+
+/// The first answer of today that is not the circular's; the comparison with its rules must end
+/// there.
+fn first_left_out(script: &[u8]) -> Option<Difference> {
+    let today = script::play(script);
+    let of_circular = script::play_by(Rules::CIRCULAR, script);
+    let first = compare::between(&of_circular, &today);
+    let end = first.as_ref().map(|first| Extent::UpTo(first.line));
+    let compared = circular::compared(script, &today);
+    assert_eq!(compared, Ok(end.unwrap_or(Extent::ToTheEnd)));
+    first
 }
 
 /// The call with the code of the reply or the refusal.

@@ -70,7 +70,7 @@ fn the_engine_answers_like_the_reference() {
         outcome.failures.join("\n\n")
     );
     assert!(tasks.len() >= 2_000 && outcome.books >= 1_000);
-    assert!(outcome.to_the_end >= 2_000 && outcome.up_to_an_answer >= 300);
+    assert!(outcome.to_the_end >= 2_500 && outcome.up_to_an_answer >= 1_000);
     assert!(outcome.named >= 1_000 && outcome.ahead >= 1_000 && outcome.settled >= 1_000);
 }
 
