@@ -103,8 +103,8 @@ typedef struct line_evening {
  *
  * What is refused or replied to with a code stays unsent: nobody mends it,
  * and the reports show what was accepted. A part with a document of nominal
- * zero is such a case, and so are two lots with the same three totals; the
- * amounts of a measurement should differ.
+ * zero is such a case, and so are two lots with the same three totals; so the
+ * amounts of a measurement should differ, and no nominal be zero.
  *
  * Whatever lies in the trays, each end's received sums are then the other's
  * presented ones, and neither end awaits a reply: the theorem

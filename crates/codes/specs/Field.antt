@@ -36,7 +36,7 @@ row c p w rule = record { position = p; width = w; code = c; rule = rule }
 abbrev pub field : (position width : ℕ) → (ℕ → Bool) → Field
 field p w rule = row 1 p w rule
 
--- a nominal or a commission: a non-digit in it is 03, and any value is good
+-- a nominal or a commission: a non-digit in it is 03, and the table takes any value
 abbrev pub amount : (position width : ℕ) → Field
 amount p w = row 3 p w any
 

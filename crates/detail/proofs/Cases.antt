@@ -142,10 +142,12 @@ codes-due :
     -- a drawee is not compared in a return, and may be a represented entity
     ∷ code (with-byte 37 0x73 asReturn) is 0
     ∷ checkedCode 72 (71 ∷ 73 ∷ []) (with-byte 37 0x73 printed) is 0
-    -- 44: a nominal of zero, of either operation, in any document, whatever the commission; a unit is enough, and no commission is needed
+    -- 44: a nominal of zero, of either operation, in any document, whatever the commission; any one digit is enough, and no commission is needed
     ∷ code (forNothing printed) is 44
     ∷ code (forNothing asReturn) is 44
     ∷ code (two printed (forNothing printed)) is 44
+    ∷ code (two (with-byte 51 0x00 (forNothing printed)) printed) is 44
+    ∷ code (with-byte 30 0x10 (forNothing printed)) is 0
     ∷ code (with-byte 35 0x01 (forNothing printed)) is 0
     ∷ code (with-byte 51 0x00 printed) is 0
     -- 24, 01 for shape, 09, 01 for fields, 03, 06, 44: the first of two that apply, in another document of the body or in the same
@@ -181,7 +183,7 @@ own-due :
     ∷ presenterCode presentedNumber 73 part is 1
     ∷ presenterCode presentedNumber 72 (drop headBytes (with-byte 35 0x0A printed) ++ drop headBytes (with-byte 22 0x53 printed)) is 1
     ∷ presenterCode presentedNumber 72 (drop headBytes (forNothing printed) ++ drop headBytes (with-byte 35 0x0A printed)) is 3
-    ∷ presenterCode presentedNumber 72 (drop headBytes (with-byte 37 0x73 (forNothing printed))) is 44
+    ∷ presenterCode presentedNumber 72 (drop headBytes (with-byte 37 0x73 (forNothing printed)) ++ part) is 44
     ∷ presenterCode returnedNumber 72 (part ++ drop headBytes (forNothing printed)) is 44
     ∷ presenterCode presentedNumber 72 (drop headBytes (with-byte 37 0x73 printed)) is 0
     ∷ []

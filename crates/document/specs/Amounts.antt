@@ -16,7 +16,7 @@ nominal d = fieldNumber documentPosition d nominalField
 unfoldable pub commission : List ℕ → ℕ
 commission d = fieldNumber documentPosition d commissionField
 
--- 44 otherwise: the nominal is not zero, of a presented document and of a return
+-- 44 otherwise: the nominal is not zero, whether the document is presented or a return
 unfoldable pub forSomething : List ℕ → Bool
 forSomething d = ltb 0 (nominal d)
 

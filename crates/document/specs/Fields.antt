@@ -9,7 +9,7 @@ use Rattle.document.specs.Rules.{identification, dayAndMonth, province, 
 abbrev pub documentPosition : ℕ
 documentPosition = 5
 
--- fields with a name: 06 reads the drawee, the totals read the two amounts; nothing reads the taker
+-- fields with a name: 06 reads the drawee, the totals read the two amounts, 44 the nominal; nothing reads the taker
 abbrev pub draweeField : Field
 draweeField = field 36 2 any
 

@@ -36,7 +36,7 @@ fn hours() {
     evening(b"clock_set_back.script");
 }
 
-// Lots that are refused, and the limits.
+// Details and lots that are refused, and the limits.
 fn refusals() {
     evening(b"duplicate.script");
     evening(b"zeros.script");

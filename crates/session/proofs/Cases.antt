@@ -28,7 +28,7 @@ use Rattle.session.specs.Engine.{Call, Engine, Performed, performed, sai
 use Rattle.session.specs.Ends.{End}
 use Rattle.session.proofs.Examples.{computing, buffer, moment, Sent, messageFrom, replyTo, sending, receiving, replied}
 
--- what a case gets; beside a reply stand the open lot, 0 for noneOpen, and its documents
+-- what a case gets; beside a reply stand the open lot, 0 for none, and its documents
 pub data Answer : Type 0 where
   checked : Checked → Answer
   number : ℕ → Answer
@@ -225,7 +225,7 @@ noneOpen = OpenLot.None
 abbrev pub sevenOpen : OpenLot
 sevenOpen = OpenLot.Numbered 7
 
--- 07, clause by clause: what the definitions of a message's place give. The rows of calls below, and those of Order and Runs, cite the definitions.
+-- 07, clause by clause: what the definitions of a message's place give. The rows of calls below, and those of Order, Known and Runs, cite the definitions.
 places :
     let cases : List (Case ℕ) =
     -- a header, and a session total: after the end, in a lot, between lots

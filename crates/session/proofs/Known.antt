@@ -1,7 +1,7 @@
 -- The codes that a receiver gives and the codes that are known in a reply are the same. A code that is given and not known would leave its presenter
 -- waiting for ever; one that is known and never given would be a word that nobody writes. A new code that is forgotten at either place is refused here.
 use mathlib.Core.Path.{_≡_, refl}
-use mathlib.Core.Bool.{true}
+use mathlib.Core.Bool.{true, false}
 use mathlib.Core.List.{List, [], _∷_, map}
 use Prim.Native.Nat.{ℕ}
 use lib.ListN.{drop}
@@ -23,11 +23,12 @@ use Rattle.session.specs.declared.running.Running.{Running}
 use Rattle.session.specs.Hours.{cutOff}
 use Rattle.session.specs.Limits.{mostLotDocuments, mostLots}
 use Rattle.session.specs.Receiving.{earnedCode}
+use Rattle.session.specs.Sequence.{lotSequence}
 use Rattle.session.specs.Engine.{Call}
 use Rattle.session.specs.Ends.{End}
 use Rattle.session.proofs.Laws.Codes.{code-carried}
 use Rattle.session.proofs.Examples.{computing, Sent, envelopeFrom}
-use Rattle.session.proofs.Cases.{Answer, replyOf, receiver, arriving, openReceiver, holding, detail, detailForNothing, withDrawee, onePast, withLots}
+use Rattle.session.proofs.Cases.{Answer, replyOf, receiver, arriving, openReceiver, holding, detail, detailForNothing, withDrawee, onePast, withLots, noneOpen}
 
 -- what any message earns in any state is known
 pub given-known : (time : ℕ) (body : List ℕ) (p : Parties) (running : Running) (r : Receiving) → knownCode (packedByte (earnedCode time body p running r)) ≡ true
@@ -61,7 +62,7 @@ known-given :
     ∷ replyOf openReceiver (arriving 80000 2 noDigits) is Answer.reply 0 86 3 7 0
     ∷ replyOf onePast (arriving 80000 4 (Sent.header 7)) is Answer.reply 0 86 4 0 0
     ∷ replyOf openReceiver (arriving 80000 2 (withDrawee 0x73)) is Answer.reply 0 86 6 7 0
-    ∷ replyOf receiver (arriving 80000 1 detail) is Answer.reply 0 86 7 0 0
+    ∷ replyOf receiver (arriving 80000 1 detail) is Answer.reply 0 86 (lotSequence false noneOpen) 0 0
     ∷ replyOf onePast (arriving 80000 4 (Sent.sessionTotal 0 zeros)) is Answer.reply 0 97 8 0 0
     ∷ replyOf openReceiver mixed is Answer.reply 0 86 9 7 0
     ∷ replyOf receiver (arriving cutOff 1 (Sent.header 7)) is Answer.reply 0 86 10 0 0

@@ -7,5 +7,5 @@ pub mod Examples
 pub mod Cases
 pub mod Order
 pub mod Known
-pub mod Kept
+pub mod Earlier
 pub mod Runs

@@ -1,22 +1,17 @@
--- 01, 'Order, first that applies': of each printed line, and of the codes that each message can earn, every two neighbours in a case where both apply,
+-- 01, 'Order, first that applies', and 02, card 6: of each printed line, and of the codes that each message can earn, every two neighbours in a case where both apply,
 -- beside the first of them: one table, one theorem. The codes that bytes alone decide are in order among themselves in the tables of `message` and of
 -- `detail`; here each message has its last one before 07.
 use mathlib.Core.Path.{refl}
 use mathlib.Core.Bool.{false}
 use mathlib.Core.List.{List, [], _∷_}
 use Prim.Native.Nat.{ℕ}
-use lib.ListN.{drop}
 use Rattle.amounts.specs.Totals.{totals, zeros}
 use Rattle.codes.specs.declared.code.Code.{Code}
 use Rattle.codes.proofs.Cases.{Case, _is_, AllDue, with-byte}
-use Rattle.document.specs.Operation.{presentedNumber}
-use Rattle.detail.specs.Limits.{headBytes}
-use Rattle.detail.proofs.Cases.{printed}
 use Rattle.session.specs.Hours.{preclose, cutOff}
 use Rattle.session.specs.Limits.{mostLotDocuments, mostLots}
 use Rattle.session.specs.Running.{empty}
 use Rattle.session.specs.Sequence.{headerSequence, lotSequence, lotTotalSequence, sessionTotalSequence}
-use Rattle.session.specs.Sending.{Send}
 use Rattle.session.specs.Engine.{Call, Engine}
 use Rattle.session.specs.Ends.{End}
 use Rattle.session.proofs.Examples.{computing, Sent, messageFrom, replyTo, sending}

@@ -263,8 +263,8 @@ settled-late = record { possible = possible found justStarted refl; leads = refl
 abbrev stray : Sent
 stray = Sent.detail 30 (document 72 81 9999 500 1)
 
-abbrev worthless : Sent
-worthless = Sent.detail 30 (cheque 81 72 0 30)
+abbrev forNothing : Sent
+forNothing = Sent.detail 30 (cheque 81 72 0 30)
 
 -- the code of a lot total that no detail came before
 abbrev noDetail : ℕ
@@ -278,7 +278,7 @@ again =
     ∷ arrived End.near 1 (Sent.header 7)
     ∷ record { at = End.far; call = Call.receive 80000 (replyTo End.near 1 (Sent.header 7) Code.Accepted); line = buffer }
     ∷ answered 80000 End.near 1 (Sent.header 7) Code.Accepted
-    ∷ sent End.near worthless
+    ∷ sent End.near forNothing
     ∷ sent End.near stray
     ∷ arrived End.near 2 stray
     ∷ answered 80000 End.near 2 stray Code.WrongDrawee

@@ -28,8 +28,9 @@ pub enum Counted {
 ///   clocks that differ are now given half a minute. What the circular answers with another code
 ///   in these seconds, or refuses, is the same today.
 /// - a detail with a document of nominal zero that gets 44, received or to be sent. 44 comes after
-///   the input codes and before all else, so the circular must accept the detail there or give 07
-///   or 12, or 23 to a send; the rest of the answer is the same.
+///   the other codes of the input and before those of the state, and 23 of a send is last, so the
+///   circular must accept the detail there or give 07 or 12, or 23 to a send; the rest of the
+///   answer is the same.
 /// - a reply with code 44, by which such a detail gets its code at its presenter. The circular must
 ///   refuse it with 22, and for the code alone; today it is taken, or is 35 if nothing like it is
 ///   awaited. Nothing ties codes to kinds of messages, so it may come to any of them.

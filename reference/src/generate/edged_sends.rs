@@ -50,6 +50,7 @@ fn reply_far_ahead(evening: &mut Evening, good: &[u8]) {
     evening.reply(End::A, &hex::write(&reply), &reply);
 }
 
+/// 44 stands twice, so that it is common.
 #[rustfmt::skip]
 const KNOWN_CODES: [u8; 12] = [
     0x01, 0x03, 0x04, 0x06, 0x07, 0x08, 0x09, 0x10, 0x11, 0x12, 0x44, 0x44,
