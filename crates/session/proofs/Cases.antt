@@ -1,5 +1,5 @@
--- 01, 'Cases', and 02, cards 2 and 6: the starred ones, each beside what the papers say of it: one table, one theorem. A second table has 07 clause by
--- clause, a third what else decides a number, a start among it, and the closes.
+-- 01, 'Cases', and 02, cards 2 and 6: the starred ones, each beside what the papers say of it: one table, one theorem. A second table has 07 clause
+-- by clause, a third what else decides a number, a start among it, and the closes.
 use mathlib.Core.Path.{refl}
 use mathlib.Core.Bool.{true, false}
 use mathlib.Core.List.{List, [], _∷_, _++_}
@@ -225,7 +225,8 @@ noneOpen = OpenLot.None
 abbrev pub sevenOpen : OpenLot
 sevenOpen = OpenLot.Numbered 7
 
--- 07, clause by clause: what the definitions of a message's place give. The rows of calls below, and those of Order, Known and Runs, cite the definitions.
+-- 07, clause by clause: what the definitions of a message's place give. The rows of calls below, and those of Order, Known and Runs, cite the
+-- definitions.
 places :
     let cases : List (Case ℕ) =
     -- a header, and a session total: after the end, in a lot, between lots

@@ -1,6 +1,6 @@
--- 01, 'Order, first that applies', and 02, card 6: of each printed line, and of the codes that each message can earn, every two neighbours in a case where both apply,
--- beside the first of them: one table, one theorem. The codes that bytes alone decide are in order among themselves in the tables of `message` and of
--- `detail`; here each message has its last one before 07.
+-- 01, 'Order, first that applies', and 02, card 6: of each printed line, and of the codes that each message can earn, every two neighbours in a case
+-- where both apply, beside the first of them: one table, one theorem. The codes that bytes alone decide are in order among themselves in the tables
+-- of `message` and of `detail`; here each message has its last one before 07.
 use mathlib.Core.Path.{refl}
 use mathlib.Core.Bool.{false}
 use mathlib.Core.List.{List, [], _∷_}
