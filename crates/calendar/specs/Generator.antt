@@ -4,7 +4,7 @@ use Rattle.packed.specs.Every.{every}
 use Rattle.codes.specs.Field.{between}
 use Rattle.codes.specs.Chain.{◌when◌, ◌orelse◌}
 use Rattle.calendar.specs.declared.generator.TableAnswer.{TableAnswer}
-use Rattle.calendar.specs.Rule.{yearDays, table_of}
+use Rattle.calendar.specs.Rule.{year_days, table_of}
 
 -- each day of a list is below the one after it
 unfoldable pub ascending : List ℕ → Bool
@@ -13,19 +13,19 @@ ascending (a ∷ []) = true
 ascending (a ∷ b ∷ ds) = ltb a b && ascending (b ∷ ds)
 
 -- 40 otherwise: strictly ascending, each day 1 to 366
-unfoldable pub goodList : List ℕ → Bool
-goodList ds = ascending ds && every (between 1 yearDays) ds
+unfoldable pub good_list : List ℕ → Bool
+good_list ds = ascending ds && every (between 1 year_days) ds
 
 -- the paper's number of each answer; 23 as for every lent buffer that is too short
-abbrev pub tableNumber : TableAnswer → ℕ
-tableNumber TableAnswer.Made = 0
-tableNumber TableAnswer.WrongList = 40
-tableNumber TableAnswer.ShortBuffer = 23
+abbrev pub table_number : TableAnswer → ℕ
+table_number TableAnswer.Made = 0
+table_number TableAnswer.WrongList = 40
+table_number TableAnswer.ShortBuffer = 23
 
 -- the first that applies
-unfoldable pub tableRefusal : (unworked : List ℕ) (places : ℕ) → ℕ
-tableRefusal unworked places = 40 when not (goodList unworked) orelse 23 when ltb places yearDays
+unfoldable pub table_refusal : (unworked : List ℕ) (places : ℕ) → ℕ
+table_refusal unworked places = 40 when not (good_list unworked) orelse 23 when ltb places year_days
 
 -- the table in the first places and the others as they were; all as they were where the call is refused
-unfoldable pub placesAfter : (unworked days : List ℕ) → List ℕ
-placesAfter unworked days = cond (eqb (tableRefusal unworked (length days)) 0) (table_of unworked ++ drop yearDays days) days
+unfoldable pub places_after : (unworked days : List ℕ) → List ℕ
+places_after unworked days = cond (eqb (table_refusal unworked (length days)) 0) (table_of unworked ++ drop year_days days) days

@@ -4,8 +4,8 @@ use Rattle.std.specs.Prelude.{ℕ, zero, suc, ◌-◌, ◌<◌, ◌≤◌, ◌�
 use Rattle.packed.specs.Every.{member}
 
 -- the days of a leap year
-abbrev pub yearDays : ℕ
-yearDays = 366
+abbrev pub year_days : ℕ
+year_days = 366
 
 -- a day that is not in the list is worked
 abbrev pub worked : (unworked : List ℕ) → ℕ → Bool
@@ -14,7 +14,7 @@ worked unworked day = not (member day unworked)
 -- a working day of the year after a day
 pub record WorkedAfter (unworked : List ℕ) (day n : ℕ) : Type 0 where
   pub after : day < n
-  pub inYear : n ≤ yearDays
+  pub in_year : n ≤ year_days
   pub works : worked unworked n ≡ true
 
 -- 'the number of the first later working day, or 0 if the year has none'
@@ -31,11 +31,11 @@ from first (suc n) = first ∷ from (suc first) n
 
 -- the days of the year that come after a day, in order
 unfoldable pub later : (day : ℕ) → List ℕ
-later day = from (suc day) (yearDays - day)
+later day = from (suc day) (year_days - day)
 
 -- all days of the year
-abbrev pub allDays : List ℕ
-allDays = later 0
+abbrev pub all_days : List ℕ
+all_days = later 0
 
 -- those of some days that pass a test, in their order
 unfoldable pub those : (ℕ → Bool) → List ℕ → List ℕ
@@ -48,12 +48,12 @@ first_of [] = 0
 first_of (d ∷ ds) = d
 
 -- the first of the later days that are worked
-unfoldable pub nextDay : (unworked : List ℕ) (day : ℕ) → ℕ
-nextDay unworked day = first_of (those (worked unworked) (later day))
+unfoldable pub next_day : (unworked : List ℕ) (day : ℕ) → ℕ
+next_day unworked day = first_of (those (worked unworked) (later day))
 
 -- the table has an entry for each day of the year
 unfoldable pub table_of : (unworked : List ℕ) → List ℕ
-table_of unworked = map (nextDay unworked) allDays
+table_of unworked = map (next_day unworked) all_days
 
 -- an entry of a list, counted from 1 as days are; 0 where there is none
 abbrev pub entry_of : (list : List ℕ) (number : ℕ) → ℕ
@@ -61,6 +61,6 @@ entry_of list number = get_or (0 ∷ list) number 0
 
 -- claimed, and proved in proofs/Laws/Rule: the function and the table give what the rule says, and the rule says nothing else
 pub record AsTheRule : Type 0 where
-  pub follows : (unworked : List ℕ) (day : ℕ) → FirstLater unworked day (nextDay unworked day)
-  pub entries : (unworked : List ℕ) (day : ℕ) → 1 ≤ day → day ≤ yearDays → FirstLater unworked day (entry_of (table_of unworked) day)
-  pub alone : (unworked : List ℕ) (day n : ℕ) → FirstLater unworked day n → n ≡ nextDay unworked day
+  pub follows : (unworked : List ℕ) (day : ℕ) → FirstLater unworked day (next_day unworked day)
+  pub entries : (unworked : List ℕ) (day : ℕ) → 1 ≤ day → day ≤ year_days → FirstLater unworked day (entry_of (table_of unworked) day)
+  pub alone : (unworked : List ℕ) (day n : ℕ) → FirstLater unworked day n → n ≡ next_day unworked day

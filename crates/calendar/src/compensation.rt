@@ -1,6 +1,6 @@
 // The compensation date of a day: the first working day after it.
 ghost use Rattle.std.specs.Prelude.{◌≡◌};
-ghost use Rattle.calendar.specs.Compensation.{onDay, compensation};
+ghost use Rattle.calendar.specs.Compensation.{on_day, compensation};
 
 use crate::dates::{date_of, day_number, is_day};
 use crate::year::next_day;
@@ -15,7 +15,7 @@ pub enum Compensation {
 
 // The answer for the number of the next working day, 0 where there is none.
 fn on_day(next: u16) -> Compensation
-    ensures { result ≡ onDay next }
+    ensures { result ≡ on_day next }
 {
     if next == 0 {
         return Compensation::NoneLeft;

@@ -1,7 +1,7 @@
 // Days of 2028 as dates and as numbers, over the table of the lengths of the months.
 ghost use Rattle.std.specs.Prelude.{◌≡◌, true, ◌<◌, get_or};
-ghost use Rattle.document.specs.Rules.{monthDays};
-ghost use Rattle.calendar.specs.Dates.{isDay2028, dayNumber, dateOf};
+ghost use Rattle.document.specs.Rules.{month_days};
+ghost use Rattle.calendar.specs.Dates.{is_day2028, day_number, date_of};
 
 // The months, with 00, which has no day.
 const MONTHS: usize = 13;
@@ -14,7 +14,7 @@ const YEAR: u32 = 28;
 
 // The days of a month, 0 where there is no such month.
 fn month_days(month: usize) -> u16
-    ensures { result ≡ get_or monthDays month 0 }
+    ensures { result ≡ get_or month_days month 0 }
 {
     if MONTHS <= month {
         return 0;
@@ -24,7 +24,7 @@ fn month_days(month: usize) -> u16
 
 // Whether a number is a date DDMM28.
 pub fn is_day(date: u32) -> bool
-    ensures { result ≡ isDay2028 date }
+    ensures { result ≡ is_day2028 date }
 {
     let day = date / 100 / 100;
     let month = (date / 100 % 100) as usize;
@@ -33,8 +33,8 @@ pub fn is_day(date: u32) -> bool
 
 // The number of a date in the year.
 pub fn day_number(date: u32) -> u16
-    requires { isDay2028 date ≡ true }
-    ensures { result ≡ dayNumber date }
+    requires { is_day2028 date ≡ true }
+    ensures { result ≡ day_number date }
 {
     let month = (date / 100 % 100) as usize;
     let mut number = (date / 100 / 100) as u16;
@@ -49,7 +49,7 @@ pub fn day_number(date: u32) -> u16
 // The date of a number, 0 where the year has no such day.
 pub fn date_of(number: u16) -> u32
     requires { 0 < number }
-    ensures { result ≡ dateOf number }
+    ensures { result ≡ date_of number }
 {
     let mut day = number;
     let mut month: usize = 0;

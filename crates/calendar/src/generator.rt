@@ -1,7 +1,7 @@
 // The table of next working days, made from a list of unworked days.
 ghost use Rattle.std.specs.Prelude.{◌≡◌, true, ◌++◌, ◌≤◌, length, drop};
-ghost use Rattle.calendar.specs.Rule.{yearDays, table_of, entry_of};
-ghost use Rattle.calendar.specs.Generator.{goodList, tableNumber, tableRefusal, placesAfter};
+ghost use Rattle.calendar.specs.Rule.{year_days, table_of, entry_of};
+ghost use Rattle.calendar.specs.Generator.{good_list, table_number, table_refusal, places_after};
 
 // The days of a leap year, the longest.
 pub const YEAR_DAYS: u16 = 366;
@@ -19,7 +19,7 @@ pub enum TableAnswer {
 
 // The paper's number.
 pub fn table_number(a: TableAnswer) -> u8
-    ensures { result ≡ tableNumber a }
+    ensures { result ≡ table_number a }
 {
     match a {
         TableAnswer::Made => 0,
@@ -30,7 +30,7 @@ pub fn table_number(a: TableAnswer) -> u8
 
 // Whether the days ascend, each one of the year.
 fn good_list(unworked: &[u16]) -> bool
-    ensures { result ≡ goodList unworked.now }
+    ensures { result ≡ good_list unworked.now }
 {
     let mut last: u16 = 0;
     let mut i: usize = 0;
@@ -61,9 +61,9 @@ fn last_of(unworked: &[u16], left: usize) -> u16
 
 // Fills the table from the last day of the year to the first, and goes through the list from its end at the same time.
 fn fill(unworked: &[u16], days: &mut [u16])
-    requires good { goodList unworked.now ≡ true }
-    requires room { yearDays ≤ length days.old }
-    ensures { days.new ≡ table_of unworked.now ++ drop yearDays days.old }
+    requires good { good_list unworked.now ≡ true }
+    requires room { year_days ≤ length days.old }
+    ensures { days.new ≡ table_of unworked.now ++ drop year_days days.old }
 {
     let mut left = unworked.len();
     let mut next: u16 = 0;
@@ -81,8 +81,8 @@ fn fill(unworked: &[u16], days: &mut [u16])
 
 // Writes the table into the first places, for each day the first later working day or 0.
 pub fn next_days(unworked: &[u16], days: &mut [u16]) -> TableAnswer
-    ensures answer { tableNumber result ≡ tableRefusal unworked.now (length days.old) }
-    ensures after { days.new ≡ placesAfter unworked.now days.old }
+    ensures answer { table_number result ≡ table_refusal unworked.now (length days.old) }
+    ensures after { days.new ≡ places_after unworked.now days.old }
 {
     if good_list(unworked) {
         if days.len() < PLACES {

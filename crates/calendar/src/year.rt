@@ -1,7 +1,7 @@
 // The year 2028: its unworked days, and the table of next working days that follows from them.
 ghost use Rattle.std.specs.Prelude.{◌≡◌};
 ghost use Rattle.calendar.specs.Rule.{table_of};
-ghost use Rattle.calendar.specs.Year.{unworked2028, nextIn2028};
+ghost use Rattle.calendar.specs.Year.{unworked2028, next_in2028};
 
 use crate::generator::{PLACES, YEAR_DAYS};
 
@@ -92,7 +92,7 @@ pub fn table() -> [u16; PLACES]
 
 // Its entry of a day, 0 for a number that is no day of the year.
 pub fn next_day(day: u16) -> u16
-    ensures { result ≡ nextIn2028 day }
+    ensures { result ≡ next_in2028 day }
 {
     if day == 0 {
         return 0;

@@ -1,11 +1,11 @@
 // The clock call, and how a session closes.
 ghost use Rattle.std.specs.Prelude.{◌≡◌, cond, List, ℕ};
 ghost use Rattle.session.specs.declared.running.Running.{Running};
-ghost use Rattle.session.specs.Hours.{atClose};
+ghost use Rattle.session.specs.Hours.{at_close};
 ghost use Rattle.session.specs.Clock.{ticked, clock};
 ghost use Rattle.session.specs.Premise.{Sound, Kept};
 ghost use Rattle.session.specs.Outcome.{held};
-ghost use Rattle.calls.specs.Said.{calledSaid};
+ghost use Rattle.calls.specs.Said.{called_said};
 
 use crate::answer::answer_number;
 use crate::called::Called;
@@ -16,7 +16,7 @@ use session::session::{Close, Session};
 // The close after a call at this time: at the hour in order where both directions have ended, else forced; before it as it
 // was.
 fn close_at(time: u32, ended: bool, close: Close) -> Close
-    ensures { result ≡ cond (atClose time) (cond ended Close.Ordered Close.Forced) close }
+    ensures { result ≡ cond (at_close time) (cond ended Close.Ordered Close.Forced) close }
 {
     if at_close(time) {
         if ended {
@@ -47,7 +47,7 @@ fn ticked(session: Session, time: u32) -> Session
 // The last seen time moves, and at the hour the close. No running totals are asked for: whatever is carried is carried on.
 pub fn clock(session: Session, time: u32) -> Called
     requires { Sound session }
-    ensures outcome { (t : Running) (line : List ℕ) → calledSaid result t line ≡ clock time (held session t line) }
+    ensures outcome { (t : Running) (line : List ℕ) → called_said result t line ≡ clock time (held session t line) }
     ensures premise { Kept session result.session }
 {
     let close = session.close;

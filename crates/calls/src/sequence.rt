@@ -1,8 +1,8 @@
 // 07: which message has its place where. Each test is told whether the direction has ended and which lot is open; while 07
 // is the one code of them all, a lot's own messages need not ask for the end.
 ghost use Rattle.std.specs.Prelude.{◌≡◌};
-ghost use Rattle.codes.specs.Code.{codeNumber};
-ghost use Rattle.session.specs.Sequence.{isOpen, isOpenLot, betweenLots, headerSequence, lotSequence, lotTotalSequence, sessionTotalSequence};
+ghost use Rattle.codes.specs.Code.{code_number};
+ghost use Rattle.session.specs.Sequence.{is_open, is_open_lot, between_lots, header_sequence, lot_sequence, lot_total_sequence, session_total_sequence};
 
 use codes::chain::{or_else, when};
 use codes::code::Code;
@@ -11,7 +11,7 @@ use session::running::{Running, documents_in};
 
 // Whether a lot is open.
 fn is_open(lot: OpenLot) -> bool
-    ensures { result ≡ isOpen lot }
+    ensures { result ≡ is_open lot }
 {
     match lot {
         OpenLot::None => false,
@@ -21,7 +21,7 @@ fn is_open(lot: OpenLot) -> bool
 
 // Whether the lot of this number is open.
 fn is_open_lot(number: u16, lot: OpenLot) -> bool
-    ensures { result ≡ isOpenLot number lot }
+    ensures { result ≡ is_open_lot number lot }
 {
     match lot {
         OpenLot::None => false,
@@ -31,7 +31,7 @@ fn is_open_lot(number: u16, lot: OpenLot) -> bool
 
 // Not after the end, nor while a lot is open.
 fn between_lots(ended: bool, lot: OpenLot) -> Code
-    ensures { codeNumber result ≡ betweenLots ended lot }
+    ensures { code_number result ≡ between_lots ended lot }
 {
     or_else(
         when(Code::WrongSequence, ended),
@@ -40,21 +40,21 @@ fn between_lots(ended: bool, lot: OpenLot) -> Code
 }
 
 pub fn header_sequence(ended: bool, lot: OpenLot) -> Code
-    ensures { codeNumber result ≡ headerSequence ended lot }
+    ensures { code_number result ≡ header_sequence ended lot }
 {
     between_lots(ended, lot)
 }
 
 // Of a detail, or of a lot total that its presenter is about to write.
 pub fn lot_sequence(ended: bool, lot: OpenLot) -> Code
-    ensures { codeNumber result ≡ lotSequence ended lot }
+    ensures { code_number result ≡ lot_sequence ended lot }
 {
     when(Code::WrongSequence, !is_open(lot))
 }
 
 // Of a lot total that was received.
 pub fn lot_total_sequence(ended: bool, number: u16, lot: OpenLot, running: Running) -> Code
-    ensures { codeNumber result ≡ lotTotalSequence ended number lot running }
+    ensures { code_number result ≡ lot_total_sequence ended number lot running }
 {
     or_else(
         when(Code::WrongSequence, !is_open_lot(number, lot)),
@@ -63,7 +63,7 @@ pub fn lot_total_sequence(ended: bool, number: u16, lot: OpenLot, running: Runni
 }
 
 pub fn session_total_sequence(ended: bool, lot: OpenLot) -> Code
-    ensures { codeNumber result ≡ sessionTotalSequence ended lot }
+    ensures { code_number result ≡ session_total_sequence ended lot }
 {
     between_lots(ended, lot)
 }

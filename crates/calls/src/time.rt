@@ -1,7 +1,7 @@
 // The refusals by the clock, which every call with a time begins with.
 ghost use Rattle.std.specs.Prelude.{◌≡◌};
-ghost use Rattle.session.specs.Outcome.{answerNumber};
-ghost use Rattle.session.specs.Time.{isClosed, clockRefusal, timeRefusal};
+ghost use Rattle.session.specs.Outcome.{answer_number};
+ghost use Rattle.session.specs.Time.{is_closed, clock_refusal, time_refusal};
 
 use crate::answer::{or_refused, refused_when};
 use codes::refusal::Refusal;
@@ -10,7 +10,7 @@ use session::session::{Answer, Close};
 
 // Whether the session was closed, in whatever way.
 fn is_closed(close: Close) -> bool
-    ensures { result ≡ isClosed close }
+    ensures { result ≡ is_closed close }
 {
     match close {
         Close::Open => false,
@@ -21,7 +21,7 @@ fn is_closed(close: Close) -> bool
 
 // Of a clock call.
 pub fn clock_refusal(time: u32, seen: u32, close: Close) -> Answer
-    ensures { answerNumber result ≡ clockRefusal time seen close }
+    ensures { answer_number result ≡ clock_refusal time seen close }
 {
     or_refused(
         refused_when(Refusal::TimePastDay, past_day(time)),
@@ -34,7 +34,7 @@ pub fn clock_refusal(time: u32, seen: u32, close: Close) -> Answer
 
 // Of every other call.
 pub fn time_refusal(time: u32, seen: u32, close: Close) -> Answer
-    ensures { answerNumber result ≡ timeRefusal time seen close }
+    ensures { answer_number result ≡ time_refusal time seen close }
 {
     or_refused(
         clock_refusal(time, seen, close),

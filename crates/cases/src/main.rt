@@ -2,7 +2,7 @@
 // totals; and what messages do to running totals, which no script shows. Each line tells the call, its number in two digits,
 // and how the session stands or which code the reply has.
 ghost use Rattle.session.specs.Engine.{Ready};
-ghost use Rattle.centre.specs.Turn.{engineOf};
+ghost use Rattle.centre.specs.Turn.{engine_of};
 
 use calls::answer::answer_number;
 use centre::call::{clock_call, receive_call};
@@ -39,7 +39,7 @@ fn print_close(close: Close) {
 
 // The centre 0072 just started, with 0081 for its partner, on 14 March 2028.
 fn started() -> Centre
-    ensures { Ready (engineOf result) }
+    ensures { Ready (engine_of result) }
 {
     let nobody = [0u16; 1];
     let start = Session::start(140328, 72, 81, &nobody[..0]);
@@ -77,8 +77,8 @@ fn receive_case(time: u32, message: &[u8]) {
 
 // Receives a message, and prints the running totals that it leaves.
 fn heard(c: Centre, message: &[u8]) -> Centre
-    requires { Ready (engineOf c) }
-    ensures { Ready (engineOf result) }
+    requires { Ready (engine_of c) }
+    ensures { Ready (engine_of result) }
 {
     let mut reply = [0u8; 16];
     let turn = receive_call(c, 75_600, message, &mut reply);

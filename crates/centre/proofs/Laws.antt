@@ -3,13 +3,13 @@ use Prim.Native.Nat.{ℕ}
 use mathlib.Core.Path.{◌≡◌, ap}
 use mathlib.Core.List.{List}
 use Rattle.session.specs.Outcome.{Outcome}
-use Rattle.session.specs.Engine.{Call, meaning, directionOf, Engine, lent, Performed, performedBy, performed}
+use Rattle.session.specs.Engine.{Call, meaning, direction_of, Engine, lent, Performed, performed_by, performed}
 
 -- from the number, the bytes written and the engine
 pub together : {number number' written written' : ℕ} {engine engine' : Engine} → number ≡ number' → written ≡ written' → engine ≡ engine' → (line : List ℕ) → ◌≡◌ {A = Performed} (record { number = number; written = written; line = line; engine = engine }) (record { number = number'; written = written'; line = line; engine = engine' })
 together a b e line = cc
 
 -- from an outcome that is the meaning of a call
-pub by-meaning : (call : Call) (line : List ℕ) (e : Engine) {o : Outcome} → o ≡ meaning call (lent (directionOf call) line e) → performedBy (directionOf call) o e ≡ performed call line e
+pub by_meaning : (call : Call) (line : List ℕ) (e : Engine) {o : Outcome} → o ≡ meaning call (lent (direction_of call) line e) → performed_by (direction_of call) o e ≡ performed call line e
 unfolding performed
-by-meaning call line e h = ap (λ (o : Outcome). performedBy (directionOf call) o e) h
+by_meaning call line e h = ap (λ (o : Outcome). performed_by (direction_of call) o e) h

@@ -1,11 +1,11 @@
 // Every call on a centre that has a time, each in the same form, and one function for all of them.
 ghost use Rattle.std.specs.Prelude.{◌≡◌, List, ℕ};
 ghost use Rattle.session.specs.Sending.{Send};
-ghost use Rattle.session.specs.Engine.{Call, Ready, performed, performedBy};
+ghost use Rattle.session.specs.Engine.{Call, Ready, performed, performed_by};
 ghost use Rattle.session.specs.Parties.{Direction};
 ghost use Rattle.session.specs.Premise.{Kept, KeptBeside};
-ghost use Rattle.presenting.specs.Said.{sendSaid};
-ghost use Rattle.centre.specs.Turn.{engineOf, turn_of, call_of};
+ghost use Rattle.presenting.specs.Said.{send_said};
+ghost use Rattle.centre.specs.Turn.{engine_of, turn_of, call_of};
 
 use crate::end::{Centre, with_presented, with_received, with_session};
 use crate::turn::Turn;
@@ -31,10 +31,10 @@ pub enum Order {
 
 // What a send gives where it is lent no running totals.
 fn sent(c: Centre, outcome: SendOutcome) -> Turn
-    requires ready { Ready (engineOf c) }
+    requires ready { Ready (engine_of c) }
     requires kept { Kept c.session outcome.session }
-    ensures outcome { (line : List ℕ) → turn_of result line ≡ performedBy Direction.presenting (sendSaid outcome c.presenting line) (engineOf c) }
-    ensures premise { Ready (engineOf result.centre) }
+    ensures outcome { (line : List ℕ) → turn_of result line ≡ performed_by Direction.presenting (send_said outcome c.presenting line) (engine_of c) }
+    ensures premise { Ready (engine_of result.centre) }
 {
     let answer = outcome.answer;
     let session = outcome.session;
@@ -47,10 +47,10 @@ fn sent(c: Centre, outcome: SendOutcome) -> Turn
 
 // What it gives where it is lent those of the presented lot.
 fn sent_beside(c: Centre, outcome: SendOutcome) -> Turn
-    requires ready { Ready (engineOf c) }
+    requires ready { Ready (engine_of c) }
     requires kept_beside { KeptBeside Direction.presenting c.session outcome.session c.presenting }
-    ensures outcome { (line : List ℕ) → turn_of result line ≡ performedBy Direction.presenting (sendSaid outcome c.presenting line) (engineOf c) }
-    ensures premise { Ready (engineOf result.centre) }
+    ensures outcome { (line : List ℕ) → turn_of result line ≡ performed_by Direction.presenting (send_said outcome c.presenting line) (engine_of c) }
+    ensures premise { Ready (engine_of result.centre) }
 {
     let answer = outcome.answer;
     let session = outcome.session;
@@ -63,18 +63,18 @@ fn sent_beside(c: Centre, outcome: SendOutcome) -> Turn
 }
 
 fn header_call(c: Centre, time: u32, moment: u32, office: u16, number: u16, line: &mut [u8]) -> Turn
-    requires { Ready (engineOf c) }
-    ensures outcome { turn_of result line.new ≡ performed (Call.send time (Send.header moment office number)) line.old (engineOf c) }
-    ensures premise { Ready (engineOf result.centre) }
+    requires { Ready (engine_of c) }
+    ensures outcome { turn_of result line.new ≡ performed (Call.send time (Send.header moment office number)) line.old (engine_of c) }
+    ensures premise { Ready (engine_of result.centre) }
 {
     let session = c.session;
     sent(c, send_header(session, time, moment, office, number, line))
 }
 
 fn detail_call(c: Centre, time: u32, operation: u8, part: &[u8], line: &mut [u8]) -> Turn
-    requires { Ready (engineOf c) }
-    ensures outcome { turn_of result line.new ≡ performed (Call.send time (Send.detail operation part.now)) line.old (engineOf c) }
-    ensures premise { Ready (engineOf result.centre) }
+    requires { Ready (engine_of c) }
+    ensures outcome { turn_of result line.new ≡ performed (Call.send time (Send.detail operation part.now)) line.old (engine_of c) }
+    ensures premise { Ready (engine_of result.centre) }
 {
     let session = c.session;
     let running = c.presenting;
@@ -85,9 +85,9 @@ fn detail_call(c: Centre, time: u32, operation: u8, part: &[u8], line: &mut [u8]
 }
 
 fn lot_total_call(c: Centre, time: u32, line: &mut [u8]) -> Turn
-    requires { Ready (engineOf c) }
-    ensures outcome { turn_of result line.new ≡ performed (Call.send time Send.lotTotal) line.old (engineOf c) }
-    ensures premise { Ready (engineOf result.centre) }
+    requires { Ready (engine_of c) }
+    ensures outcome { turn_of result line.new ≡ performed (Call.send time Send.lot_total) line.old (engine_of c) }
+    ensures premise { Ready (engine_of result.centre) }
 {
     let session = c.session;
     let running = c.presenting;
@@ -95,18 +95,18 @@ fn lot_total_call(c: Centre, time: u32, line: &mut [u8]) -> Turn
 }
 
 fn session_total_call(c: Centre, time: u32, line: &mut [u8]) -> Turn
-    requires { Ready (engineOf c) }
-    ensures outcome { turn_of result line.new ≡ performed (Call.send time Send.sessionTotal) line.old (engineOf c) }
-    ensures premise { Ready (engineOf result.centre) }
+    requires { Ready (engine_of c) }
+    ensures outcome { turn_of result line.new ≡ performed (Call.send time Send.session_total) line.old (engine_of c) }
+    ensures premise { Ready (engine_of result.centre) }
 {
     let session = c.session;
     sent(c, send_session_total(session, time, line))
 }
 
 pub fn receive_call(c: Centre, time: u32, message: &[u8], line: &mut [u8]) -> Turn
-    requires { Ready (engineOf c) }
-    ensures outcome { turn_of result line.new ≡ performed (Call.receive time message.now) line.old (engineOf c) }
-    ensures premise { Ready (engineOf result.centre) }
+    requires { Ready (engine_of c) }
+    ensures outcome { turn_of result line.new ≡ performed (Call.receive time message.now) line.old (engine_of c) }
+    ensures premise { Ready (engine_of result.centre) }
 {
     let session = c.session;
     let running = c.receiving;
@@ -123,9 +123,9 @@ pub fn receive_call(c: Centre, time: u32, message: &[u8], line: &mut [u8]) -> Tu
 }
 
 pub fn reply_call(c: Centre, time: u32, reply: &[u8]) -> Turn
-    requires { Ready (engineOf c) }
-    ensures outcome { (line : List ℕ) → turn_of result line ≡ performed (Call.reply time reply.now) line (engineOf c) }
-    ensures premise { Ready (engineOf result.centre) }
+    requires { Ready (engine_of c) }
+    ensures outcome { (line : List ℕ) → turn_of result line ≡ performed (Call.reply time reply.now) line (engine_of c) }
+    ensures premise { Ready (engine_of result.centre) }
 {
     let session = c.session;
     let running = c.presenting;
@@ -142,9 +142,9 @@ pub fn reply_call(c: Centre, time: u32, reply: &[u8]) -> Turn
 }
 
 pub fn clock_call(c: Centre, time: u32) -> Turn
-    requires { Ready (engineOf c) }
-    ensures outcome { (line : List ℕ) → turn_of result line ≡ performed (Call.clock time) line (engineOf c) }
-    ensures premise { Ready (engineOf result.centre) }
+    requires { Ready (engine_of c) }
+    ensures outcome { (line : List ℕ) → turn_of result line ≡ performed (Call.clock time) line (engine_of c) }
+    ensures premise { Ready (engine_of result.centre) }
 {
     let session = c.session;
     let ticked = clock(session, time);
@@ -159,9 +159,9 @@ pub fn clock_call(c: Centre, time: u32) -> Turn
 
 // Any of them.
 pub fn perform(c: Centre, order: Order, bytes: &[u8], line: &mut [u8]) -> Turn
-    requires { Ready (engineOf c) }
-    ensures outcome { turn_of result line.new ≡ performed (call_of order bytes.now) line.old (engineOf c) }
-    ensures premise { Ready (engineOf result.centre) }
+    requires { Ready (engine_of c) }
+    ensures outcome { turn_of result line.new ≡ performed (call_of order bytes.now) line.old (engine_of c) }
+    ensures premise { Ready (engine_of result.centre) }
 {
     match order {
         Order::Header(time, moment, office, number) => header_call(

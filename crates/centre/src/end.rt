@@ -1,9 +1,9 @@
 // A centre, as it stands between two calls.
 ghost use Rattle.std.specs.Prelude.{◌≡◌};
-ghost use Rattle.session.specs.Engine.{withEmpty, Ready};
+ghost use Rattle.session.specs.Engine.{with_empty, Ready};
 ghost use Rattle.session.specs.Parties.{Direction};
 ghost use Rattle.session.specs.Premise.{Kept, KeptBeside};
-ghost use Rattle.centre.specs.Turn.{engineOf};
+ghost use Rattle.centre.specs.Turn.{engine_of};
 
 use session::running::{Running, empty};
 use session::session::Session;
@@ -18,9 +18,9 @@ pub struct Centre {
 
 // A centre whose session has just been started.
 pub fn begun(session: Session) -> Centre
-    requires { Ready (withEmpty session) }
-    ensures outcome { engineOf result ≡ withEmpty session }
-    ensures premise { Ready (engineOf result) }
+    requires { Ready (with_empty session) }
+    ensures outcome { engine_of result ≡ with_empty session }
+    ensures premise { Ready (engine_of result) }
 {
     Centre {
         session: session,
@@ -31,10 +31,10 @@ pub fn begun(session: Session) -> Centre
 
 // The centre after a call that is lent no running totals.
 pub fn with_session(c: Centre, session: Session) -> Centre
-    requires ready { Ready (engineOf c) }
+    requires ready { Ready (engine_of c) }
     requires kept { Kept c.session session }
-    ensures outcome { engineOf result ≡ record { session = session; presenting = c.presenting; receiving = c.receiving } }
-    ensures premise { Ready (engineOf result) }
+    ensures outcome { engine_of result ≡ record { session = session; presenting = c.presenting; receiving = c.receiving } }
+    ensures premise { Ready (engine_of result) }
 {
     let presenting = c.presenting;
     let receiving = c.receiving;
@@ -47,10 +47,10 @@ pub fn with_session(c: Centre, session: Session) -> Centre
 
 // The centre after a call that is lent those of the presented lot.
 pub fn with_presented(c: Centre, session: Session, running: Running) -> Centre
-    requires ready { Ready (engineOf c) }
+    requires ready { Ready (engine_of c) }
     requires kept_beside { KeptBeside Direction.presenting c.session session running }
-    ensures outcome { engineOf result ≡ record { session = session; presenting = running; receiving = c.receiving } }
-    ensures premise { Ready (engineOf result) }
+    ensures outcome { engine_of result ≡ record { session = session; presenting = running; receiving = c.receiving } }
+    ensures premise { Ready (engine_of result) }
 {
     let receiving = c.receiving;
     Centre {
@@ -62,10 +62,10 @@ pub fn with_presented(c: Centre, session: Session, running: Running) -> Centre
 
 // The centre after a call that is lent those of the received lot.
 pub fn with_received(c: Centre, session: Session, running: Running) -> Centre
-    requires ready { Ready (engineOf c) }
+    requires ready { Ready (engine_of c) }
     requires kept_beside { KeptBeside Direction.receiving c.session session running }
-    ensures outcome { engineOf result ≡ record { session = session; presenting = c.presenting; receiving = running } }
-    ensures premise { Ready (engineOf result) }
+    ensures outcome { engine_of result ≡ record { session = session; presenting = c.presenting; receiving = running } }
+    ensures premise { Ready (engine_of result) }
 {
     let presenting = c.presenting;
     Centre {

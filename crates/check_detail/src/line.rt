@@ -1,7 +1,7 @@
 // The line that the program writes, put together in a lent buffer.
 ghost use Rattle.std.specs.Prelude.{◌≡◌, ◌≤◌, length};
 ghost use Rattle.std.proofs.lemmas.List.Edits.{sets};
-ghost use Rattle.check_detail.specs.Line.{line_of, mostLineBytes};
+ghost use Rattle.check_detail.specs.Line.{line_of, most_line_bytes};
 
 use decimal::put_number;
 use detail::checked::Checked;
@@ -11,10 +11,10 @@ pub const LINE_BYTES: usize = 66;
 
 // Writes the line, and answers how long it is.
 pub fn write_line(c: Checked, line: &mut [u8]) -> usize
-    requires { mostLineBytes ≤ length line.old }
+    requires { most_line_bytes ≤ length line.old }
     ensures written { line.new ≡ sets line.old 0 (line_of c) }
     ensures long { result ≡ length (line_of c) }
-    ensures short { result ≤ mostLineBytes }
+    ensures short { result ≤ most_line_bytes }
 {
     let code = c.code;
     line[0] = b'0' + code / 10 % 10;

@@ -6,8 +6,8 @@ mod line;
 
 ghost use Rattle.std.specs.Prelude.{◌≡◌, ◌≤◌, length, take};
 ghost use Rattle.io.specs.Counts.{IsPrefixLen};
-ghost use Rattle.detail.specs.Checked.{programChecked};
-ghost use Rattle.check_detail.specs.Line.{programLine, mostLineBytes};
+ghost use Rattle.detail.specs.Checked.{program_checked};
+ghost use Rattle.check_detail.specs.Line.{program_line, most_line_bytes};
 
 use crate::input::read_input;
 use crate::line::{LINE_BYTES, write_line};
@@ -15,7 +15,7 @@ use detail::checked::{Checked, line_check_detail};
 
 // The check of a body, for entity 0072 with nobody represented.
 fn checked(body: &[u8]) -> Checked
-    ensures { result ≡ programChecked body.now }
+    ensures { result ≡ program_checked body.now }
 {
     let nobody = [0u16; 1];
     line_check_detail(body, 72, &nobody[..0])
@@ -23,9 +23,9 @@ fn checked(body: &[u8]) -> Checked
 
 // The line for a body stands at the start of the buffer, and is so long.
 fn answer(body: &[u8], line: &mut [u8]) -> usize
-    requires { mostLineBytes ≤ length line.old }
+    requires { most_line_bytes ≤ length line.old }
     ensures counts { IsPrefixLen result line.new }
-    ensures written { take result line.new ≡ programLine body.now }
+    ensures written { take result line.new ≡ program_line body.now }
 {
     write_line(checked(body), line)
 }

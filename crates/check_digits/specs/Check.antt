@@ -1,54 +1,54 @@
 -- 02, card 5: the three checks of what a clerk has keyed, a number and the check digit that is printed beside it.
 use Rattle.std.specs.Prelude.{ℕ, ◌^◌, ◌%◌, ◌<◌, ◌≡◌, Bool, not, ◌&&◌, ltb, eqb}
 use Rattle.codes.specs.Chain.{◌when◌}
-use Rattle.check_digits.specs.Weighted.{weightedDigit}
+use Rattle.check_digits.specs.Weighted.{weighted_digit}
 use Rattle.check_digits.specs.declared.check.KeyedAnswer.{KeyedAnswer}
 
 -- 'Document digit: the number modulo 7'
-abbrev pub documentModulus : ℕ
-documentModulus = 7
+abbrev pub document_modulus : ℕ
+document_modulus = 7
 
-abbrev pub documentDigit : (n : ℕ) → ℕ
-documentDigit n = n % documentModulus
+abbrev pub document_digit : (n : ℕ) → ℕ
+document_digit n = n % document_modulus
 
 -- a check: how many digits its numbers have at most, and the check digit that a number has
 pub record Check : Type 0 where
   pub digits : ℕ
-  pub digitOf : ℕ → ℕ
+  pub digit_of : ℕ → ℕ
 
 -- by weights, with so many digits at most
-abbrev pub byWeights : (digits : ℕ) → Check
-byWeights digits = record { digits = digits; digitOf = weightedDigit }
+abbrev pub by_weights : (digits : ℕ) → Check
+by_weights digits = record { digits = digits; digit_of = weighted_digit }
 
 -- '7, 8 or 10 digits in turn': a document's number; an entity and behind it its branch, as one number; an account
-abbrev pub ofNumber : Check
-ofNumber = record { digits = 7; digitOf = documentDigit }
+abbrev pub of_number : Check
+of_number = record { digits = 7; digit_of = document_digit }
 
-abbrev pub ofBranch : Check
-ofBranch = byWeights 8
+abbrev pub of_branch : Check
+of_branch = by_weights 8
 
-abbrev pub ofAccount : Check
-ofAccount = byWeights 10
+abbrev pub of_account : Check
+of_account = by_weights 10
 
 -- the digit matches, and the number is no longer than allowed
 abbrev pub passes : Check → (n digit : ℕ) → Bool
-passes c n digit = eqb digit (c.digitOf n) && ltb n (10 ^ c.digits)
+passes c n digit = eqb digit (c.digit_of n) && ltb n (10 ^ c.digits)
 
 -- 'A digit that does not match, or a number longer than' allowed, 'is 43'
-abbrev pub keyedRefusal : Check → (n digit : ℕ) → ℕ
-keyedRefusal c n digit = 43 when not (passes c n digit)
+abbrev pub keyed_refusal : Check → (n digit : ℕ) → ℕ
+keyed_refusal c n digit = 43 when not (passes c n digit)
 
 -- the paper's number of each answer
-abbrev pub keyedNumber : KeyedAnswer → ℕ
-keyedNumber KeyedAnswer.Passes = 0
-keyedNumber KeyedAnswer.Fails = 43
+abbrev pub keyed_number : KeyedAnswer → ℕ
+keyed_number KeyedAnswer.Passes = 0
+keyed_number KeyedAnswer.Fails = 43
 
 -- whatever the number, no digit above 9 passes
 abbrev pub FailsAboveNine : Check → Type 0
-FailsAboveNine c = (n digit : ℕ) → 9 < digit → keyedRefusal c n digit ≡ 43
+FailsAboveNine c = (n digit : ℕ) → 9 < digit → keyed_refusal c n digit ≡ 43
 
 -- claimed, and proved in proofs/Laws/Check
 pub record EachFailsAboveNine : Type 0 where
-  pub number : FailsAboveNine ofNumber
-  pub branch : FailsAboveNine ofBranch
-  pub account : FailsAboveNine ofAccount
+  pub number : FailsAboveNine of_number
+  pub branch : FailsAboveNine of_branch
+  pub account : FailsAboveNine of_account

@@ -1,8 +1,8 @@
 // The three checks: of a document's number, of an entity with its branch, of an account.
 ghost use Rattle.std.specs.Prelude.{◌≡◌, not, ◌&&◌, eqb, ltb};
 ghost use Rattle.codes.specs.Chain.{◌when◌};
-ghost use Rattle.check_digits.specs.Weighted.{weightedDigit};
-ghost use Rattle.check_digits.specs.Check.{ofNumber, ofBranch, ofAccount, keyedRefusal, keyedNumber};
+ghost use Rattle.check_digits.specs.Weighted.{weighted_digit};
+ghost use Rattle.check_digits.specs.Check.{of_number, of_branch, of_account, keyed_refusal, keyed_number};
 
 use crate::weighted::weighted_digit;
 
@@ -23,7 +23,7 @@ pub enum KeyedAnswer {
 
 // The paper's number of an answer.
 pub fn keyed_number(a: KeyedAnswer) -> u8
-    ensures { result ≡ keyedNumber a }
+    ensures { result ≡ keyed_number a }
 {
     match a {
         KeyedAnswer::Passes => 0,
@@ -32,7 +32,7 @@ pub fn keyed_number(a: KeyedAnswer) -> u8
 }
 
 fn judged(passes: bool) -> KeyedAnswer
-    ensures { keyedNumber result ≡ (43 when not passes) }
+    ensures { keyed_number result ≡ (43 when not passes) }
 {
     if passes {
         return KeyedAnswer::Passes;
@@ -42,28 +42,28 @@ fn judged(passes: bool) -> KeyedAnswer
 
 // A document's number, of at most 7 digits: its check digit is what is left when it is divided by 7.
 pub fn check_number(number: u64, digit: u8) -> KeyedAnswer
-    ensures { keyedNumber result ≡ keyedRefusal ofNumber number digit }
+    ensures { keyed_number result ≡ keyed_refusal of_number number digit }
 {
     judged((digit as u64 == number % DOCUMENT_MODULUS) & (number < TOO_LONG_NUMBER))
 }
 
 // What entity with branch and account have in common.
 fn check_weighted(number: u64, too_long: u64, digit: u8) -> KeyedAnswer
-    ensures { keyedNumber result ≡ (43 when not (eqb digit (weightedDigit number) && ltb number too_long)) }
+    ensures { keyed_number result ≡ (43 when not (eqb digit (weighted_digit number) && ltb number too_long)) }
 {
     judged((digit as u64 == weighted_digit(number)) & (number < too_long))
 }
 
 // An entity with its branch behind it, as one number of at most 8 digits.
 pub fn check_branch(number: u64, digit: u8) -> KeyedAnswer
-    ensures { keyedNumber result ≡ keyedRefusal ofBranch number digit }
+    ensures { keyed_number result ≡ keyed_refusal of_branch number digit }
 {
     check_weighted(number, TOO_LONG_BRANCH, digit)
 }
 
 // An account, of at most 10 digits.
 pub fn check_account(number: u64, digit: u8) -> KeyedAnswer
-    ensures { keyedNumber result ≡ keyedRefusal ofAccount number digit }
+    ensures { keyed_number result ≡ keyed_refusal of_account number digit }
 {
     check_weighted(number, TOO_LONG_ACCOUNT, digit)
 }

@@ -1,6 +1,6 @@
 // The check digit of an entity with its branch and of an account: digits times weights, modulo 11.
 ghost use Rattle.std.specs.Prelude.{◌≡◌, ◌<◌, length, get_or};
-ghost use Rattle.check_digits.specs.Weighted.{weights, weightedSum, oneFigure, weightedDigit};
+ghost use Rattle.check_digits.specs.Weighted.{weights, weighted_sum, one_figure, weighted_digit};
 
 const PLACES: usize = 10;
 
@@ -18,7 +18,7 @@ fn weight(place: usize) -> u64
 
 // The last ten digits of a number, each times its weight, added up.
 fn weighted_sum(number: u64) -> u64
-    ensures { result ≡ weightedSum number }
+    ensures { result ≡ weighted_sum number }
 {
     let mut sum: u64 = 0;
     let mut rest = number;
@@ -33,7 +33,7 @@ fn weighted_sum(number: u64) -> u64
 
 // 10 becomes 1 and 11 becomes 0.
 fn one_figure(difference: u64) -> u64
-    ensures { result ≡ oneFigure difference }
+    ensures { result ≡ one_figure difference }
 {
     if difference == 10 {
         return 1;
@@ -46,7 +46,7 @@ fn one_figure(difference: u64) -> u64
 
 // The remainder of the sum, taken from 11, as one figure.
 pub fn weighted_digit(number: u64) -> u64
-    ensures { result ≡ weightedDigit number }
+    ensures { result ≡ weighted_digit number }
 {
     one_figure(WEIGHTED_MODULUS - weighted_sum(number) % WEIGHTED_MODULUS)
 }

@@ -11,13 +11,13 @@ abbrev pub mark : ℕ
 mark = 0x51
 
 -- byte 3, which alone says what a body is; 0, which is no operation, where there is none
-abbrev pub operationOf : List ℕ → ℕ
-operationOf body = byte_at 3 body
+abbrev pub operation_of : List ℕ → ℕ
+operation_of body = byte_at 3 body
 
 -- a body, or a group, with its free byte as it is written
 abbrev pub cleared : List ℕ → List ℕ
 cleared body = free ∷ drop 1 body
 
 -- 'Envelope': the most bytes of a body
-abbrev pub longestBody : ℕ
-longestBody = 10400
+abbrev pub longest_body : ℕ
+longest_body = 10400

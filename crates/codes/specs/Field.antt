@@ -2,9 +2,9 @@
 use Rattle.std.specs.Prelude.{ℕ, ◌-◌, ◌^◌, Bool, true, false, ◌&&◌, cond, List, [], ◌∷◌, ◌++◌, map, eqb, leb, ltb}
 use Rattle.packed.specs.Part.{part}
 use Rattle.packed.specs.Every.{every}
-use Rattle.packed.specs.Digits.{areDigits}
+use Rattle.packed.specs.Digits.{are_digits}
 use Rattle.packed.specs.Number.{number}
-use Rattle.packed.specs.Writing.{packedBytes}
+use Rattle.packed.specs.Writing.{packed_bytes}
 
 -- a row of a table
 pub record Field : Type 0 where
@@ -46,20 +46,20 @@ abbrev pub bytes_at : (first position width : ℕ) → List ℕ → List ℕ
 bytes_at first position width s = part (position - first) width s
 
 -- the number that it holds
-abbrev pub fieldNumber : (first : ℕ) → List ℕ → Field → ℕ
-fieldNumber first s f = number (bytes_at first f.position f.width s)
+abbrev pub field_number : (first : ℕ) → List ℕ → Field → ℕ
+field_number first s f = number (bytes_at first f.position f.width s)
 
 -- digits throughout
-abbrev pub fieldDigits : (first : ℕ) → List ℕ → Field → Bool
-fieldDigits first s f = areDigits (bytes_at first f.position f.width s)
+abbrev pub field_digits : (first : ℕ) → List ℕ → Field → Bool
+field_digits first s f = are_digits (bytes_at first f.position f.width s)
 
 -- a value that the field takes
-abbrev pub fieldValue : (first : ℕ) → List ℕ → Field → Bool
-fieldValue first s f = f.rule (fieldNumber first s f)
+abbrev pub field_value : (first : ℕ) → List ℕ → Field → Bool
+field_value first s f = f.rule (field_number first s f)
 
 -- both
-abbrev pub fieldGood : (first : ℕ) → List ℕ → Field → Bool
-fieldGood first s f = fieldDigits first s f && fieldValue first s f
+abbrev pub field_good : (first : ℕ) → List ℕ → Field → Bool
+field_good first s f = field_digits first s f && field_value first s f
 
 -- the rows whose fault is a code
 unfoldable pub earning : (code : ℕ) → List Field → List Field
@@ -67,22 +67,22 @@ earning code [] = []
 earning code (f ∷ fs) = cond (eqb f.code code) (f ∷ earning code fs) (earning code fs)
 
 -- all of them good
-abbrev pub tableGood : (first code : ℕ) → List Field → List ℕ → Bool
-tableGood first code fields s = every (fieldGood first s) (earning code fields)
+abbrev pub table_good : (first code : ℕ) → List Field → List ℕ → Bool
+table_good first code fields s = every (field_good first s) (earning code fields)
 
 -- the numbers of all rows, in order
-abbrev pub tableNumbers : (first : ℕ) → List Field → List ℕ → List ℕ
-tableNumbers first fields s = map (fieldNumber first s) fields
+abbrev pub table_numbers : (first : ℕ) → List Field → List ℕ → List ℕ
+table_numbers first fields s = map (field_number first s) fields
 
 -- numbers that the rows take, one for each: short enough for the width, and by the rule
-unfoldable pub tableTakes : List Field → List ℕ → Bool
-tableTakes [] [] = true
-tableTakes [] (v ∷ vs) = false
-tableTakes (f ∷ fs) [] = false
-tableTakes (f ∷ fs) (v ∷ vs) = ltb v (100 ^ f.width) && f.rule v && tableTakes fs vs
+unfoldable pub table_takes : List Field → List ℕ → Bool
+table_takes [] [] = true
+table_takes [] (v ∷ vs) = false
+table_takes (f ∷ fs) [] = false
+table_takes (f ∷ fs) (v ∷ vs) = ltb v (100 ^ f.width) && f.rule v && table_takes fs vs
 
 -- numbers as they are written, one after the other in the widths of the rows, which is their place where the rows adjoin
-unfoldable pub tableWritten : List Field → List ℕ → List ℕ
-tableWritten [] vs = []
-tableWritten (f ∷ fs) [] = []
-tableWritten (f ∷ fs) (v ∷ vs) = packedBytes f.width v ++ tableWritten fs vs
+unfoldable pub table_written : List Field → List ℕ → List ℕ
+table_written [] vs = []
+table_written (f ∷ fs) [] = []
+table_written (f ∷ fs) (v ∷ vs) = packed_bytes f.width v ++ table_written fs vs

@@ -1,20 +1,20 @@
 // A chain of codes, read from the left: the first that applies is the code of a message.
 ghost use Rattle.std.specs.Prelude.{◌≡◌, eqb};
 ghost use Rattle.codes.specs.Chain.{◌when◌, ◌orelse◌};
-ghost use Rattle.codes.specs.Code.{codeNumber};
+ghost use Rattle.codes.specs.Code.{code_number};
 
 use crate::code::{Code, code_number};
 
 // Whether a message of this code is accepted.
 pub fn is_accepted(c: Code) -> bool
-    ensures { result ≡ eqb (codeNumber c) 0 }
+    ensures { result ≡ eqb (code_number c) 0 }
 {
     code_number(c) == 0
 }
 
 // A code where its test holds.
 pub fn when(c: Code, test: bool) -> Code
-    ensures { codeNumber result ≡ (codeNumber c when test) }
+    ensures { code_number result ≡ (code_number c when test) }
 {
     if test {
         return c;
@@ -24,7 +24,7 @@ pub fn when(c: Code, test: bool) -> Code
 
 // The first of two that applies.
 pub fn or_else(first: Code, rest: Code) -> Code
-    ensures { codeNumber result ≡ (codeNumber first orelse codeNumber rest) }
+    ensures { code_number result ≡ (code_number first orelse code_number rest) }
 {
     if is_accepted(first) {
         return rest;

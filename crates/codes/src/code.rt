@@ -2,7 +2,7 @@
 // and the count here, its number and its row in specs/Code.antt, a clause of `found-again`, a byte of `known_bytes`, and a
 // case of `session` in which a reply carries it; the check refuses while one of them is missing.
 ghost use Rattle.std.specs.Prelude.{◌≡◌};
-ghost use Rattle.codes.specs.Code.{codeNumber, codeByte, read_code};
+ghost use Rattle.codes.specs.Code.{code_number, code_byte, read_code};
 
 use packed::writing::packed_byte;
 
@@ -31,7 +31,7 @@ pub enum ReadCode {
 
 // The paper's number.
 pub fn code_number(c: Code) -> u8
-    ensures { result ≡ codeNumber c }
+    ensures { result ≡ code_number c }
 {
     match c {
         Code::Accepted => 0,
@@ -51,7 +51,7 @@ pub fn code_number(c: Code) -> u8
 
 // The packed byte of a reply.
 pub fn code_byte(c: Code) -> u8
-    ensures { result ≡ codeByte c }
+    ensures { result ≡ code_byte c }
 {
     packed_byte(code_number(c) as u64)
 }

@@ -1,6 +1,6 @@
 // Why a call was turned away, with everything left as it was.
 ghost use Rattle.std.specs.Prelude.{◌≡◌};
-ghost use Rattle.codes.specs.Refusal.{refusalNumber};
+ghost use Rattle.codes.specs.Refusal.{refusal_number};
 
 #[derive(Drop)]
 pub enum Refusal {
@@ -21,7 +21,7 @@ pub enum Refusal {
 
 // The paper's number.
 pub fn refusal_number(r: Refusal) -> u8
-    ensures { result ≡ refusalNumber r }
+    ensures { result ≡ refusal_number r }
 {
     match r {
         Refusal::TimePastDay => 20,

@@ -6,24 +6,24 @@ abbrev pub glyph : ℕ → ℕ
 glyph d = 0x30 + d
 
 -- the digits of a value, the highest first and at most so many: those of its tenth, if there are any, and its last
-unfoldable pub digitsUpTo : (most v : ℕ) → List ℕ
-digitsUpTo zero v = []
-digitsUpTo (suc n) v = cond (ltb v 10) [] (digitsUpTo n (v / 10)) ++ glyph (v % 10) ∷ []
+unfoldable pub digits_up_to : (most v : ℕ) → List ℕ
+digits_up_to zero v = []
+digits_up_to (suc n) v = cond (ltb v 10) [] (digits_up_to n (v / 10)) ++ glyph (v % 10) ∷ []
 
 -- all of them: v + 1 is at least as many as v has
 unfoldable pub decimal : ℕ → List ℕ
-decimal v = digitsUpTo (suc v) v
+decimal v = digits_up_to (suc v) v
 
 -- a number of 64 bits has no more digits
-abbrev pub mostDigits : ℕ
-mostDigits = 20
+abbrev pub most_digits : ℕ
+most_digits = 20
 
 -- a number behind a space
 abbrev pub space : ℕ
 space = 0x20
 
-abbrev pub behindSpace : ℕ → List ℕ
-behindSpace v = space ∷ decimal v
+abbrev pub behind_space : ℕ → List ℕ
+behind_space v = space ∷ decimal v
 
-abbrev pub mostBehindSpace : ℕ
-mostBehindSpace = suc mostDigits
+abbrev pub most_behind_space : ℕ
+most_behind_space = suc most_digits

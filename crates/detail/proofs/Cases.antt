@@ -8,26 +8,26 @@ use lib.Dec.{eqb}
 use lib.ListN.{take, drop, replicate}
 use lib.Seq.{sets}
 use Rattle.packed.specs.Every.{every, any_of, member}
-use Rattle.packed.specs.Digits.{isDigits}
-use Rattle.packed.specs.Number.{byteValue, number}
+use Rattle.packed.specs.Digits.{is_digits}
+use Rattle.packed.specs.Number.{byte_value, number}
 use Rattle.packed.specs.Pieces.{cut}
-use Rattle.packed.specs.Writing.{packedByte, packedBytes}
+use Rattle.packed.specs.Writing.{packed_byte, packed_bytes}
 use Rattle.codes.specs.Chain.{◌when◌, ◌orelse◌}
 use Rattle.codes.specs.Field.{Field, earning}
 use Rattle.codes.proofs.Cases.{Case, ◌is◌, AllDue, with_byte}
-use Rattle.document.specs.Amounts.{nominal, commission, forSomething, totalsOf}
-use Rattle.document.specs.Drawee.{drawee, draweeServed}
-use Rattle.document.specs.Fields.{documentFields, fieldsGood, amountsGood}
-use Rattle.document.specs.Operation.{presented, presentedNumber, returned, returnedNumber}
-use Rattle.document.specs.Rules.{monthDays}
-use Rattle.detail.specs.Limits.{headBytes}
-use Rattle.detail.specs.Groups.{groups, groupGood, shapeGood, oneOperation, documents}
-use Rattle.detail.specs.Codes.{receiverCode, partSendable, presenterCode}
-use Rattle.detail.specs.Checked.{checkedCode, checked}
+use Rattle.document.specs.Amounts.{nominal, commission, for_something, totals_of}
+use Rattle.document.specs.Drawee.{drawee, drawee_served}
+use Rattle.document.specs.Fields.{document_fields, fields_good, amounts_good}
+use Rattle.document.specs.Operation.{presented, presented_number, returned, returned_number}
+use Rattle.document.specs.Rules.{month_days}
+use Rattle.detail.specs.Limits.{head_bytes}
+use Rattle.detail.specs.Groups.{groups, group_good, shape_good, one_operation, documents}
+use Rattle.detail.specs.Codes.{receiver_code, part_sendable, presenter_code}
+use Rattle.detail.specs.Checked.{checked_code, checked}
 
 -- whoever unfolds this unfolds all that a case computes with
 unfoldable pub computing : Unit {0}
-unfolding checked totalsOf nominal commission forSomething checkedCode receiverCode presenterCode partSendable shapeGood oneOperation documents groups groupGood fieldsGood amountsGood documentFields monthDays draweeServed drawee member every any_of isDigits byteValue number cut packedByte packedBytes ◌when◌ ◌orelse◌ earning flat_map
+unfolding checked totals_of nominal commission for_something checked_code receiver_code presenter_code part_sendable shape_good one_operation documents groups group_good fields_good amounts_good document_fields month_days drawee_served drawee member every any_of is_digits byte_value number cut packed_byte packed_bytes ◌when◌ ◌orelse◌ earning flat_map
 computing = tt
 
 -- 01, 'The check program': a detail of one document
@@ -55,16 +55,16 @@ printed =
     ∷ []
 
 -- the same as a return, whose reason is 0001
-abbrev pub asReturn : List ℕ
-asReturn = with_byte 3 returned printed
+abbrev pub as_return : List ℕ
+as_return = with_byte 3 returned printed
 
 -- a detail whose first document is for nothing
-abbrev pub forNothing : List ℕ → List ℕ
-forNothing body = sets body 29 (replicate 6 0x00)
+abbrev pub for_nothing : List ℕ → List ℕ
+for_nothing body = sets body 29 (replicate 6 0x00)
 
 -- the code of a body at entity 0072, which represents nobody
 abbrev code : List ℕ → ℕ
-code body = checkedCode 72 [] body
+code body = checked_code 72 [] body
 
 -- a row of the paper's table by its printed position and width, with values that it takes and values that it does not
 record Edges : Type 0 where
@@ -75,7 +75,7 @@ record Edges : Type 0 where
   bad : List ℕ
 
 abbrev takes : Edges → ℕ → Bool
-takes e v = any_of (λ (f : Field). eqb f.position e.position && eqb f.width e.width && f.rule v) (documentFields e.operation 72)
+takes e v = any_of (λ (f : Field). eqb f.position e.position && eqb f.width e.width && f.rule v) (document_fields e.operation 72)
 
 abbrev hold : Edges → Bool
 hold e = every (takes e) e.good && not (any_of (takes e) e.bad)
@@ -118,10 +118,10 @@ rules = refl
 
 -- a group of two documents, and a full one with another behind it
 abbrev two : (first second : List ℕ) → List ℕ
-two first second = with_byte 4 0x02 first ++ drop headBytes second
+two first second = with_byte 4 0x02 first ++ drop head_bytes second
 
-abbrev pub twoGroups : (second : List ℕ) → List ℕ
-twoGroups second = with_byte 4 0x04 (printed ++ drop headBytes printed ++ drop headBytes printed ++ drop headBytes printed) ++ second
+abbrev pub two_groups : (second : List ℕ) → List ℕ
+two_groups second = with_byte 4 0x04 (printed ++ drop head_bytes printed ++ drop head_bytes printed ++ drop head_bytes printed) ++ second
 
 codes-due :
     let cases : List (Case ℕ) =
@@ -138,29 +138,29 @@ codes-due :
     ∷ code [] is 1
     ∷ code (printed ++ printed) is 1
     -- 09: a later group has the other operation
-    ∷ code (twoGroups asReturn) is 9
+    ∷ code (two_groups as_return) is 9
     -- a drawee is not compared in a return, and may be a represented entity
-    ∷ code (with_byte 37 0x73 asReturn) is 0
-    ∷ checkedCode 72 (71 ∷ 73 ∷ []) (with_byte 37 0x73 printed) is 0
+    ∷ code (with_byte 37 0x73 as_return) is 0
+    ∷ checked_code 72 (71 ∷ 73 ∷ []) (with_byte 37 0x73 printed) is 0
     -- 44: a nominal of zero, of either operation, in any document, whatever the commission; any one digit is enough, and no commission is needed
-    ∷ code (forNothing printed) is 44
-    ∷ code (forNothing asReturn) is 44
-    ∷ code (two printed (forNothing printed)) is 44
-    ∷ code (two (with_byte 51 0x00 (forNothing printed)) printed) is 44
-    ∷ code (with_byte 30 0x10 (forNothing printed)) is 0
-    ∷ code (with_byte 35 0x01 (forNothing printed)) is 0
+    ∷ code (for_nothing printed) is 44
+    ∷ code (for_nothing as_return) is 44
+    ∷ code (two printed (for_nothing printed)) is 44
+    ∷ code (two (with_byte 51 0x00 (for_nothing printed)) printed) is 44
+    ∷ code (with_byte 30 0x10 (for_nothing printed)) is 0
+    ∷ code (with_byte 35 0x01 (for_nothing printed)) is 0
     ∷ code (with_byte 51 0x00 printed) is 0
     -- 24, 01 for shape, 09, 01 for fields, 03, 06, 44: the first of two that apply, in another document of the body or in the same
-    ∷ checkedCode 10000 [] [] is 24
-    ∷ code (twoGroups (with_byte 4 0x00 asReturn)) is 1
-    ∷ code (twoGroups (with_byte 22 0x53 asReturn)) is 9
+    ∷ checked_code 10000 [] [] is 24
+    ∷ code (two_groups (with_byte 4 0x00 as_return)) is 1
+    ∷ code (two_groups (with_byte 22 0x53 as_return)) is 9
     ∷ code (two (with_byte 35 0x0A printed) (with_byte 22 0x53 printed)) is 1
     ∷ code (two (with_byte 37 0x73 printed) (with_byte 35 0x0A printed)) is 3
-    ∷ code (two (forNothing printed) (with_byte 37 0x73 printed)) is 6
+    ∷ code (two (for_nothing printed) (with_byte 37 0x73 printed)) is 6
     -- 24: entities to 9999, and eight of them
-    ∷ checkedCode 9999 (replicate 8 9999) [] is 1
-    ∷ checkedCode 72 (10000 ∷ []) printed is 24
-    ∷ checkedCode 72 (replicate 9 0) printed is 24
+    ∷ checked_code 9999 (replicate 8 9999) [] is 1
+    ∷ checked_code 72 (10000 ∷ []) printed is 24
+    ∷ checked_code 72 (replicate 9 0) printed is 24
     ∷ []
     in
     AllDue cases
@@ -169,23 +169,23 @@ codes-due = refl
 
 -- a presenter's own, of a part for entity 0072: an operation, 1 to 200 whole documents; then 01 for fields, 03 and 44, and never 06
 own-due :
-    let part = drop headBytes printed in
+    let part = drop head_bytes printed in
     let cases : List (Case ℕ) =
-    presenterCode presentedNumber 72 part is 0
-    ∷ presenterCode returnedNumber 72 part is 0
-    ∷ presenterCode 31 72 part is 1
-    ∷ presenterCode presented 72 part is 1
-    ∷ presenterCode presentedNumber 72 [] is 1
-    ∷ presenterCode presentedNumber 72 (take 50 part) is 1
-    ∷ presenterCode presentedNumber 72 (part ++ 0x00 ∷ []) is 1
-    ∷ (1 when not (partSendable presentedNumber (replicate (200 * 51) 0x00))) is 0
-    ∷ (1 when not (partSendable presentedNumber (replicate (201 * 51) 0x00))) is 1
-    ∷ presenterCode presentedNumber 73 part is 1
-    ∷ presenterCode presentedNumber 72 (drop headBytes (with_byte 35 0x0A printed) ++ drop headBytes (with_byte 22 0x53 printed)) is 1
-    ∷ presenterCode presentedNumber 72 (drop headBytes (forNothing printed) ++ drop headBytes (with_byte 35 0x0A printed)) is 3
-    ∷ presenterCode presentedNumber 72 (drop headBytes (with_byte 37 0x73 (forNothing printed)) ++ part) is 44
-    ∷ presenterCode returnedNumber 72 (part ++ drop headBytes (forNothing printed)) is 44
-    ∷ presenterCode presentedNumber 72 (drop headBytes (with_byte 37 0x73 printed)) is 0
+    presenter_code presented_number 72 part is 0
+    ∷ presenter_code returned_number 72 part is 0
+    ∷ presenter_code 31 72 part is 1
+    ∷ presenter_code presented 72 part is 1
+    ∷ presenter_code presented_number 72 [] is 1
+    ∷ presenter_code presented_number 72 (take 50 part) is 1
+    ∷ presenter_code presented_number 72 (part ++ 0x00 ∷ []) is 1
+    ∷ (1 when not (part_sendable presented_number (replicate (200 * 51) 0x00))) is 0
+    ∷ (1 when not (part_sendable presented_number (replicate (201 * 51) 0x00))) is 1
+    ∷ presenter_code presented_number 73 part is 1
+    ∷ presenter_code presented_number 72 (drop head_bytes (with_byte 35 0x0A printed) ++ drop head_bytes (with_byte 22 0x53 printed)) is 1
+    ∷ presenter_code presented_number 72 (drop head_bytes (for_nothing printed) ++ drop head_bytes (with_byte 35 0x0A printed)) is 3
+    ∷ presenter_code presented_number 72 (drop head_bytes (with_byte 37 0x73 (for_nothing printed)) ++ part) is 44
+    ∷ presenter_code returned_number 72 (part ++ drop head_bytes (for_nothing printed)) is 44
+    ∷ presenter_code presented_number 72 (drop head_bytes (with_byte 37 0x73 printed)) is 0
     ∷ []
     in
     AllDue cases

@@ -3,13 +3,13 @@ use Rattle.std.specs.Prelude.{ℕ}
 use mathlib.Core.List.{List, ◌∷◌, flat_map}
 use Rattle.packed.specs.Pieces.{pieces}
 use Rattle.codes.specs.Body.{free, mark}
-use Rattle.detail.specs.Limits.{fillBytes}
-use Rattle.document.specs.Part.{countIn}
+use Rattle.detail.specs.Limits.{fill_bytes}
+use Rattle.document.specs.Part.{count_in}
 
 -- a group of some documents, its free byte 00
-abbrev pub writtenGroup : (operationByte : ℕ) → List ℕ → List ℕ
-writtenGroup operationByte ds = free ∷ mark ∷ operationByte ∷ countIn ds ∷ ds
+abbrev pub written_group : (operation_byte : ℕ) → List ℕ → List ℕ
+written_group operation_byte ds = free ∷ mark ∷ operation_byte ∷ count_in ds ∷ ds
 
 -- groups of four, the last with the documents that are left
-unfoldable pub writtenDetail : (operationByte : ℕ) → List ℕ → List ℕ
-writtenDetail operationByte part = flat_map (writtenGroup operationByte) (pieces fillBytes part)
+unfoldable pub written_detail : (operation_byte : ℕ) → List ℕ → List ℕ
+written_detail operation_byte part = flat_map (written_group operation_byte) (pieces fill_bytes part)

@@ -1,7 +1,7 @@
 // The detail check for C: bytes and numbers in, numbers out. include/line.h says how it is called.
 ghost use Rattle.std.specs.Prelude.{◌≡◌};
 ghost use Rattle.amounts.specs.Totals.{zeros};
-ghost use Rattle.detail.specs.Checked.{fourNumbers, checked};
+ghost use Rattle.detail.specs.Checked.{four_numbers, checked};
 
 use crate::reading::read_detail;
 use codes::code::code_number;
@@ -19,7 +19,7 @@ pub struct Checked {
 
 // The answer to entities outside the limits of a start.
 fn wrong_start() -> Checked
-    ensures { result ≡ fourNumbers 24 zeros }
+    ensures { result ≡ four_numbers 24 zeros }
 {
     Checked {
         code: refusal_number(Refusal::WrongStart),

@@ -1,7 +1,7 @@
 // The groups of a body: where each lies, and whether the body has the shape of a detail.
 ghost use Rattle.std.specs.Prelude.{◌≡◌};
 ghost use Rattle.packed.specs.Every.{every};
-ghost use Rattle.detail.specs.Groups.{groupGood, groups, oneOperation};
+ghost use Rattle.detail.specs.Groups.{group_good, groups, one_operation};
 
 use codes::body::{MARK, operation_of};
 use document::{DOCUMENT_BYTES, PRESENTED, RETURNED};
@@ -17,7 +17,7 @@ pub const GROUP_BYTES: usize = HEAD_BYTES + FULL_COUNT * DOCUMENT_BYTES;
 
 // Whether a group is whole and marked as it should be.
 pub fn group_good(g: &[u8]) -> bool
-    ensures { result ≡ groupGood g.now }
+    ensures { result ≡ group_good g.now }
 {
     if g.len() < HEAD_BYTES {
         return false;
@@ -38,8 +38,8 @@ pub struct Heads {
 
 // Whether every group is good, and whether all have one operation: one pass over the heads.
 pub fn read_heads(body: &[u8]) -> Heads
-    ensures good { result.good ≡ every groupGood (groups body.now) }
-    ensures one { result.one ≡ oneOperation body.now }
+    ensures good { result.good ≡ every group_good (groups body.now) }
+    ensures one { result.one ≡ one_operation body.now }
 {
     let operation = operation_of(body);
     let mut good = true;

@@ -1,10 +1,10 @@
 // A detail read whole, as its receiver and as its presenter read it.
 ghost use Rattle.std.specs.Prelude.{◌≡◌};
 ghost use Rattle.packed.specs.Pieces.{pieces};
-ghost use Rattle.codes.specs.Code.{codeNumber};
-ghost use Rattle.document.specs.Limits.{documentBytes};
+ghost use Rattle.codes.specs.Code.{code_number};
+ghost use Rattle.document.specs.Limits.{document_bytes};
 ghost use Rattle.detail.specs.Groups.{documents};
-ghost use Rattle.detail.specs.Codes.{receiverCode, presenterCode, partSendable, acceptedTotals};
+ghost use Rattle.detail.specs.Codes.{receiver_code, presenter_code, part_sendable, accepted_totals};
 
 use crate::documents::{read_documents, read_groups};
 use crate::groups::read_heads;
@@ -17,8 +17,8 @@ use packed::writing::packed_byte;
 
 // A received body. Its documents are passed over once, after its heads.
 pub fn read_detail(body: &[u8], own: u16, represented: &[u16]) -> Verdict
-    ensures code { codeNumber result.code ≡ receiverCode own represented.now body.now }
-    ensures totals { result.totals ≡ acceptedTotals (codeNumber result.code) (documents body.now) }
+    ensures code { code_number result.code ≡ receiver_code own represented.now body.now }
+    ensures totals { result.totals ≡ accepted_totals (code_number result.code) (documents body.now) }
 {
     if (body.len() < 1) | (LONGEST_BODY < body.len()) {
         return refused(Code::WrongField);
@@ -44,7 +44,7 @@ pub fn read_detail(body: &[u8], own: u16, represented: &[u16]) -> Verdict
 
 // Whether a detail may be sent from an operation, the plain number, and a part.
 pub fn part_sendable(operation: u8, part: &[u8]) -> bool
-    ensures { result ≡ partSendable operation part.now }
+    ensures { result ≡ part_sendable operation part.now }
 {
     let documents = part.len() / DOCUMENT_BYTES;
     ((operation == PRESENTED_NUMBER) | (operation == RETURNED_NUMBER))
@@ -54,8 +54,8 @@ pub fn part_sendable(operation: u8, part: &[u8]) -> bool
 
 // A part that is to be sent, with the operation's plain number. What was found of drawees is left aside.
 pub fn read_part(operation: u8, part: &[u8], partner: u16) -> Verdict
-    ensures code { codeNumber result.code ≡ presenterCode operation partner part.now }
-    ensures totals { result.totals ≡ acceptedTotals (codeNumber result.code) (pieces documentBytes part.now) }
+    ensures code { code_number result.code ≡ presenter_code operation partner part.now }
+    ensures totals { result.totals ≡ accepted_totals (code_number result.code) (pieces document_bytes part.now) }
 {
     if part_sendable(operation, part) {
         let nobody = [0u16; 1];

@@ -1,8 +1,8 @@
 // What is decided on a detail: a code, and the totals where the code accepts.
 ghost use Rattle.std.specs.Prelude.{◌≡◌};
 ghost use Rattle.amounts.specs.Totals.{zeros};
-ghost use Rattle.codes.specs.Code.{codeNumber};
-ghost use Rattle.detail.specs.Inner.Verdict.{judged, ifAccepted};
+ghost use Rattle.codes.specs.Code.{code_number};
+ghost use Rattle.detail.specs.Inner.Verdict.{judged, if_accepted};
 
 use amounts::Totals;
 use codes::chain::{is_accepted, or_else, when};
@@ -16,7 +16,7 @@ pub struct Verdict {
 
 // The totals where a code accepts.
 fn if_accepted(code: Code, totals: Totals) -> Totals
-    ensures { result ≡ ifAccepted (codeNumber code) totals }
+    ensures { result ≡ if_accepted (code_number code) totals }
 {
     if is_accepted(code) {
         return totals;
@@ -36,8 +36,8 @@ pub fn refused(code: Code) -> Verdict
 
 // The first of 01, 03, 06 and 44 that a document earns, or 00.
 pub fn judge(fields: bool, amounts: bool, served: bool, something: bool, totals: Totals) -> Verdict
-    ensures code { codeNumber result.code ≡ judged fields amounts served something }
-    ensures totals { result.totals ≡ ifAccepted (codeNumber result.code) totals }
+    ensures code { code_number result.code ≡ judged fields amounts served something }
+    ensures totals { result.totals ≡ if_accepted (code_number result.code) totals }
 {
     let code = or_else(
         when(Code::WrongField, !fields),

@@ -1,10 +1,10 @@
 // A detail written from documents.
 ghost use Rattle.std.specs.Prelude.{◌≡◌, ℕ, ◌+◌, ◌*◌, ◌≤◌, length};
 ghost use Rattle.std.proofs.lemmas.List.Edits.{sets};
-ghost use Rattle.codes.specs.Body.{longestBody};
-ghost use Rattle.detail.specs.Limits.{headBytes, fillBytes};
-ghost use Rattle.detail.specs.Inner.Part.{longestPart};
-ghost use Rattle.detail.specs.Writing.{writtenGroup, writtenDetail};
+ghost use Rattle.codes.specs.Body.{longest_body};
+ghost use Rattle.detail.specs.Limits.{head_bytes, fill_bytes};
+ghost use Rattle.detail.specs.Inner.Part.{longest_part};
+ghost use Rattle.detail.specs.Writing.{written_group, written_detail};
 
 use crate::groups::{FULL_COUNT, HEAD_BYTES};
 use codes::body::MARK;
@@ -21,8 +21,8 @@ pub const LONGEST_PART: usize = MOST_DETAIL_DOCUMENTS * DOCUMENT_BYTES;
 // How long a body written from a part is: the part, and a head for each group that it begins. A part that is too long for
 // any detail is never written, and 0 stands for its length.
 pub fn written_bytes(part: &[u8]) -> usize
-    ensures length { length part.now ≤ longestPart → (operation : ℕ) → result ≡ length (writtenDetail operation part.now) }
-    ensures bound { result ≤ longestBody }
+    ensures length { length part.now ≤ longest_part → (operation : ℕ) → result ≡ length (written_detail operation part.now) }
+    ensures bound { result ≤ longest_body }
 {
     if LONGEST_PART < part.len() {
         return 0;
@@ -32,9 +32,9 @@ pub fn written_bytes(part: &[u8]) -> usize
 
 // Writes one group of at most four documents at `to`; every other byte keeps its value.
 fn write_group(out: &mut [u8], to: usize, operation_byte: u8, documents: &[u8])
-    requires documents_in_bounds { to + headBytes + length documents.now ≤ length out.old }
-    requires documents_len_bound { length documents.now ≤ fillBytes }
-    ensures { out.new ≡ sets out.old to (writtenGroup operation_byte documents.now) }
+    requires documents_in_bounds { to + head_bytes + length documents.now ≤ length out.old }
+    requires documents_len_bound { length documents.now ≤ fill_bytes }
+    ensures { out.new ≡ sets out.old to (written_group operation_byte documents.now) }
 {
     out[to] = 0;
     out[to + 1] = MARK;
@@ -46,9 +46,9 @@ fn write_group(out: &mut [u8], to: usize, operation_byte: u8, documents: &[u8])
 // Writes a body from the operation byte and the part at the start of `out`, and answers its length; every other byte keeps
 // its value.
 pub fn write_detail(out: &mut [u8], operation_byte: u8, part: &[u8]) -> usize
-    requires { length (writtenDetail operation_byte part.now) ≤ length out.old }
-    ensures length { result ≡ length (writtenDetail operation_byte part.now) }
-    ensures bytes { out.new ≡ sets out.old 0 (writtenDetail operation_byte part.now) }
+    requires { length (written_detail operation_byte part.now) ≤ length out.old }
+    ensures length { result ≡ length (written_detail operation_byte part.now) }
+    ensures bytes { out.new ≡ sets out.old 0 (written_detail operation_byte part.now) }
 {
     let mut to: usize = 0;
     let mut at: usize = 0;

@@ -6,17 +6,17 @@ abbrev pub presented : ℕ
 presented = 0x30
 
 -- as a caller says it
-abbrev pub presentedNumber : ℕ
-presentedNumber = 30
+abbrev pub presented_number : ℕ
+presented_number = 30
 
 -- documents that come back unpaid
 abbrev pub returned : ℕ
 returned = 0x40
 
 -- as a caller says it
-abbrev pub returnedNumber : ℕ
-returnedNumber = 40
+abbrev pub returned_number : ℕ
+returned_number = 40
 
 -- a byte that is one of the two
-abbrev pub isOperation : ℕ → Bool
-isOperation o = eqb o presented || eqb o returned
+abbrev pub is_operation : ℕ → Bool
+is_operation o = eqb o presented || eqb o returned

@@ -8,12 +8,12 @@ abbrev pub identification : ℕ → Bool
 identification v = eqb v 0 || eqb (v / 100) 80
 
 -- the days of each month from 00, which has none, to 12; 29 February is always allowed
-unfoldable pub monthDays : List ℕ
-monthDays = 0 ∷ 31 ∷ 29 ∷ 31 ∷ 30 ∷ 31 ∷ 30 ∷ 31 ∷ 31 ∷ 30 ∷ 31 ∷ 30 ∷ 31 ∷ []
+unfoldable pub month_days : List ℕ
+month_days = 0 ∷ 31 ∷ 29 ∷ 31 ∷ 30 ∷ 31 ∷ 30 ∷ 31 ∷ 31 ∷ 30 ∷ 31 ∷ 30 ∷ 31 ∷ []
 
 -- DDMM: a day of its month
-abbrev pub dayAndMonth : ℕ → Bool
-dayAndMonth v = between 1 (get_or monthDays (v % 100) 0) (v / 100)
+abbrev pub day_and_month : ℕ → Bool
+day_and_month v = between 1 (get_or month_days (v % 100) 0) (v / 100)
 
 -- 01 to 52
 abbrev pub province : ℕ → Bool
@@ -28,5 +28,5 @@ abbrev pub reason : ℕ → Bool
 reason v = between 1 49 v || between 51 99 v
 
 -- positions 46-47: a return's reason, else a tariff key of any digits
-abbrev pub keyOrReason : (operation v : ℕ) → Bool
-keyOrReason operation v = cond (eqb operation returned) (reason v) (any v)
+abbrev pub key_or_reason : (operation v : ℕ) → Bool
+key_or_reason operation v = cond (eqb operation returned) (reason v) (any v)

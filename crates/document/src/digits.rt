@@ -1,7 +1,7 @@
 // The digits of a document: those of its fields and those of its amounts, which earn different codes.
 ghost use Rattle.std.specs.Prelude.{◌≡◌, length};
-ghost use Rattle.document.specs.Limits.{documentBytes};
-ghost use Rattle.document.specs.Inner.Digits.{fieldDigits, amountDigits, digitsToKey};
+ghost use Rattle.document.specs.Limits.{document_bytes};
+ghost use Rattle.document.specs.Inner.Digits.{field_digits, amount_digits, digits_to_key};
 
 use crate::{COMMISSION, COMMISSION_BYTES, DRAWEE, NOMINAL, NOMINAL_BYTES, UNREAD_KEY};
 use packed::digits::{are_digits, is_digits};
@@ -27,8 +27,8 @@ const THIRD_RUN: usize = UNREAD_KEY - RUN;
 // Whether everything up to the key is digits. One loop over three runs of this width, without a branch, is what a compiler
 // makes the fastest code of.
 fn sweep(d: &[u8]) -> bool
-    requires { length d.now ≡ documentBytes }
-    ensures { result ≡ digitsToKey d.now }
+    requires { length d.now ≡ document_bytes }
+    ensures { result ≡ digits_to_key d.now }
 {
     let mut first = true;
     let mut second = true;
@@ -45,9 +45,9 @@ fn sweep(d: &[u8]) -> bool
 
 // Amounts lie between fields. One sweep serves a good document; only after a fault is it asked where the fault lies.
 pub fn all_digits(d: &[u8]) -> AllDigits
-    requires { length d.now ≡ documentBytes }
-    ensures fields { result.fields ≡ fieldDigits d.now }
-    ensures amounts { result.amounts ≡ amountDigits d.now }
+    requires { length d.now ≡ document_bytes }
+    ensures fields { result.fields ≡ field_digits d.now }
+    ensures amounts { result.amounts ≡ amount_digits d.now }
 {
     if sweep(d) {
         return AllDigits {

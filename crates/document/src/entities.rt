@@ -1,7 +1,7 @@
 // Entities, and the limits on those that a centre stands for.
 ghost use Rattle.std.specs.Prelude.{◌≡◌};
 ghost use Rattle.packed.specs.Every.{member};
-ghost use Rattle.document.specs.Entities.{entitiesGood};
+ghost use Rattle.document.specs.Entities.{entities_good};
 
 // The largest entity code.
 pub const LARGEST_ENTITY: u16 = 9999;
@@ -11,7 +11,7 @@ pub const MOST_REPRESENTED: usize = 8;
 
 // Whether own and represented entities are within the limits of a start. None is read where there are too many.
 pub fn entities_good(own: u16, represented: &[u16]) -> bool
-    ensures { result ≡ entitiesGood own represented.now }
+    ensures { result ≡ entities_good own represented.now }
 {
     if MOST_REPRESENTED < represented.len() {
         return false;

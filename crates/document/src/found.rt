@@ -1,7 +1,7 @@
 // What a reading of documents finds, one or many: whether none earns 01, 03, 06 or 44, and their totals.
 ghost use Rattle.std.specs.Prelude.{◌≡◌, length};
 ghost use Rattle.amounts.specs.Inner.Fits.{SumFits};
-ghost use Rattle.document.specs.Limits.{documentBytes};
+ghost use Rattle.document.specs.Limits.{document_bytes};
 ghost use Rattle.document.specs.Inner.Bounds.{Within};
 ghost use Rattle.document.specs.Inner.Found.{found, nothing, join};
 
@@ -55,7 +55,7 @@ impl Found {
 // What one document holds, in one reading. Its receiving entity is compared with `receiving`, and its drawee with that and
 // the represented ones. The bounds hold of any bytes, so that callers may add before they know whether the digits are good.
 pub fn read_document(d: &[u8], operation: u8, receiving: u16, represented: &[u16]) -> Found
-    requires { length d.now ≡ documentBytes }
+    requires { length d.now ≡ document_bytes }
     ensures found { result ≡ found operation receiving represented.now d.now }
     ensures bound { Within 1 result.totals }
 {

@@ -1,8 +1,8 @@
 // The rules on the values of fields, one function for each rule of the table.
 ghost use Rattle.std.specs.Prelude.{◌≡◌, length};
-ghost use Rattle.document.specs.Limits.{documentBytes};
-ghost use Rattle.document.specs.Inner.Values.{valuesGood};
-ghost use Rattle.document.specs.Rules.{identification, dayAndMonth, province, truncation, keyOrReason};
+ghost use Rattle.document.specs.Limits.{document_bytes};
+ghost use Rattle.document.specs.Inner.Values.{values_good};
+ghost use Rattle.document.specs.Rules.{identification, day_and_month, province, truncation, key_or_reason};
 
 use crate::RETURNED;
 use packed::number::{number, number2};
@@ -32,7 +32,7 @@ fn identification(v: u16) -> bool
 const MONTH_DAYS: [u16; 13] = [0, 31, 29, 31, 30, 31, 30, 31, 31, 30, 31, 30, 31];
 
 pub fn day_and_month(v: u16) -> bool
-    ensures { result ≡ dayAndMonth v }
+    ensures { result ≡ day_and_month v }
 {
     let month = (v % 100) as usize;
     if 12 < month {
@@ -54,15 +54,15 @@ fn truncation(v: u64) -> bool
 }
 
 fn key_or_reason(operation: u8, v: u16) -> bool
-    ensures { result ≡ keyOrReason operation v }
+    ensures { result ≡ key_or_reason operation v }
 {
     (operation != RETURNED) | ((1 <= v) & (v <= 49)) | ((51 <= v) & (v <= 99))
 }
 
 // Whether every field has a value that it takes, whatever its digits.
 pub fn values_good(d: &[u8], operation: u8, receiving: u16) -> bool
-    requires { length d.now ≡ documentBytes }
-    ensures { result ≡ valuesGood operation receiving d.now }
+    requires { length d.now ≡ document_bytes }
+    ensures { result ≡ values_good operation receiving d.now }
 {
     identification(number2(d, IDENTIFICATION))
         & day_and_month(number2(d, DAY_AND_MONTH))

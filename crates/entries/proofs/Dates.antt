@@ -6,27 +6,27 @@ use native.Mathlib.Omega.{arith}
 use borrow.Author.Tests.{le-leb, eqb-true, eq-eqb}
 use lib.Dec.{eqb, leb}
 use Rattle.packed.proofs.Laws.Told.{both}
-use Rattle.document.specs.Rules.{dayAndMonth}
-use Rattle.session.specs.Parties.{largestDate, leapDay, realDate}
+use Rattle.document.specs.Rules.{day_and_month}
+use Rattle.session.specs.Parties.{largest_date, leap_day, real_date}
 use Rattle.calendar.specs.declared.compensation.Compensation.{Compensation}
-use Rattle.calendar.specs.Dates.{year, isDay2028}
+use Rattle.calendar.specs.Dates.{year, is_day2028}
 use Rattle.calendar.specs.Compensation.{compensation, Says}
-use Rattle.calendar.proofs.Laws.Dates.{day-short}
-use Rattle.calendar.proofs.Laws.Compensation.{every-answer-true}
+use Rattle.calendar.proofs.Laws.Dates.{day_short}
+use Rattle.calendar.proofs.Laws.Compensation.{every_answer_true}
 
-pub same-dates : (date : ℕ) → isDay2028 date ≡ realDate date && eqb (date % 100) year
-unfolding isDay2028 realDate
-same-dates date = go (eqb (date % 100) year) refl (dayAndMonth (date / 100)) refl
+pub same_dates : (date : ℕ) → is_day2028 date ≡ real_date date && eqb (date % 100) year
+unfolding is_day2028 real_date
+same_dates date = go (eqb (date % 100) year) refl (day_and_month (date / 100)) refl
   where
-    go : (y : Bool) → eqb (date % 100) year ≡ y → (d : Bool) → dayAndMonth (date / 100) ≡ d → y && d ≡ leb date largestDate && d && (not (eqb (date / 100) leapDay) || eqb (date % 4) 0) && y
-    go false e d f = rw (and-false (leb date largestDate && d && (not (eqb (date / 100) leapDay) || eqb (date % 4) 0)))
-    go true e false f = rw (and-false (leb date largestDate))
+    go : (y : Bool) → eqb (date % 100) year ≡ y → (d : Bool) → day_and_month (date / 100) ≡ d → y && d ≡ leb date largest_date && d && (not (eqb (date / 100) leap_day) || eqb (date % 4) 0) && y
+    go false e d f = rw (and-false (leb date largest_date && d && (not (eqb (date / 100) leap_day) || eqb (date % 4) 0)))
+    go true e false f = rw (and-false (leb date largest_date))
     go true e true f =
-        let day = day-short date (ap (λ (y : Bool). y && dayAndMonth (date / 100)) e ∙ f) in
+        let day = day_short date (ap (λ (y : Bool). y && day_and_month (date / 100)) e ∙ f) in
         let leap : date % 4 ≡ 0 = omega (arith, eqb-true (date % 100) year e) in
-        rw (le-leb date largestDate (omega (arith, day)), eq-eqb (date % 4) 0 leap, or-true (not (eqb (date / 100) leapDay)))
+        rw (le-leb date largest_date (omega (arith, day)), eq-eqb (date % 4) 0 leap, or-true (not (eqb (date / 100) leap_day)))
 
-pub starts : (date given : ℕ) → compensation date ≡ Compensation.On given → realDate given ≡ true
+pub starts : (date given : ℕ) → compensation date ≡ Compensation.On given → real_date given ≡ true
 starts date given e =
-    let day = (subst (Says date) e (every-answer-true date)).1 in
-    (both (realDate given) (eqb (given % 100) year) (sym (same-dates given) ∙ day)).0
+    let day = (subst (Says date) e (every_answer_true date)).1 in
+    (both (real_date given) (eqb (given % 100) year) (sym (same_dates given) ∙ day)).0

@@ -1,7 +1,7 @@
 // Commissions for C: of one document, and of all documents of a tray, in place.
 ghost use Rattle.std.specs.Prelude.{◌≡◌};
 ghost use Rattle.tariff.specs.Commission.{commissioned};
-ghost use Rattle.tariff.specs.Tray.{filled, trayAfter};
+ghost use Rattle.tariff.specs.Tray.{filled, tray_after};
 
 use tariff::commission::{CommissionShown, commission, commission_shown};
 use tariff::filled::{FillShown, fill_shown};
@@ -24,7 +24,7 @@ pub extern "C" fn line_commission(
 #[unsafe(no_mangle)]
 pub extern "C" fn line_fill_commissions(tariff: &[u32], tray: &mut [u8]) -> FillShown
     ensures answer { result ≡ filled tariff.now tray.old }
-    ensures after { tray.new ≡ trayAfter tariff.now tray.old }
+    ensures after { tray.new ≡ tray_after tariff.now tray.old }
 {
     fill_shown(fill_commissions(tariff, tray))
 }

@@ -1,6 +1,6 @@
 // The calendar for C: a table of next working days is made, and a compensation date is given.
 ghost use Rattle.std.specs.Prelude.{◌≡◌, length};
-ghost use Rattle.calendar.specs.Generator.{tableRefusal, placesAfter};
+ghost use Rattle.calendar.specs.Generator.{table_refusal, places_after};
 ghost use Rattle.calendar.specs.Compensation.{compensation};
 ghost use Rattle.calendar.specs.Shown.{shown};
 
@@ -11,8 +11,8 @@ use calendar::shown::{CompensationShown, shown};
 // Makes the table of next working days from a list of unworked days, in the first of the lent places.
 #[unsafe(no_mangle)]
 pub extern "C" fn line_next_days(unworked: &[u16], days: &mut [u16]) -> u8
-    ensures answer { result ≡ tableRefusal unworked.now (length days.old) }
-    ensures after { days.new ≡ placesAfter unworked.now days.old }
+    ensures answer { result ≡ table_refusal unworked.now (length days.old) }
+    ensures after { days.new ≡ places_after unworked.now days.old }
 {
     table_number(next_days(unworked, days))
 }

@@ -1,9 +1,9 @@
 // Lot files for C: a slice is checked, a lot is found, added and taken out.
 ghost use Rattle.std.specs.Prelude.{◌≡◌};
-ghost use Rattle.session.specs.Limits.{mostLots, mostLotDocuments};
-ghost use Rattle.lot_file.specs.Reading.{checkRefusal, absentRefusal, found};
-ghost use Rattle.lot_file.specs.Adding.{addRefusal, added};
-ghost use Rattle.lot_file.specs.TakingOut.{takenOut};
+ghost use Rattle.session.specs.Limits.{most_lots, most_lot_documents};
+ghost use Rattle.lot_file.specs.Reading.{check_refusal, absent_refusal, found};
+ghost use Rattle.lot_file.specs.Adding.{add_refusal, added};
+ghost use Rattle.lot_file.specs.TakingOut.{taken_out};
 
 use lot_file::add::add;
 use lot_file::answers::{FindShown, add_number, check_number, find_shown, take_number};
@@ -14,7 +14,7 @@ use lot_file::take_out::take_out;
 // Whether a slice is a lot file.
 #[unsafe(no_mangle)]
 pub extern "C" fn line_lot_file_check(file: &[u8]) -> u8
-    ensures { result ≡ checkRefusal mostLots mostLotDocuments file.now }
+    ensures { result ≡ check_refusal most_lots most_lot_documents file.now }
 {
     check_number(check(file))
 }
@@ -22,7 +22,7 @@ pub extern "C" fn line_lot_file_check(file: &[u8]) -> u8
 // Where the body of a lot starts, and how many documents it has.
 #[unsafe(no_mangle)]
 pub extern "C" fn line_lot_file_find(file: &[u8], number: u32) -> FindShown
-    ensures { result ≡ found mostLots mostLotDocuments file.now number }
+    ensures { result ≡ found most_lots most_lot_documents file.now number }
 {
     find_shown(find(file, number))
 }
@@ -30,8 +30,8 @@ pub extern "C" fn line_lot_file_find(file: &[u8], number: u32) -> FindShown
 // Adds a lot, last, with the documents of a tray.
 #[unsafe(no_mangle)]
 pub extern "C" fn line_lot_file_add(file: &mut [u8], number: u32, tray: &[u8]) -> u8
-    ensures answer { result ≡ addRefusal mostLots mostLotDocuments file.old number tray.now }
-    ensures after { file.new ≡ added mostLots mostLotDocuments file.old number tray.now }
+    ensures answer { result ≡ add_refusal most_lots most_lot_documents file.old number tray.now }
+    ensures after { file.new ≡ added most_lots most_lot_documents file.old number tray.now }
 {
     add_number(add(file, number, tray))
 }
@@ -39,8 +39,8 @@ pub extern "C" fn line_lot_file_add(file: &mut [u8], number: u32, tray: &[u8]) -
 // Takes a lot out.
 #[unsafe(no_mangle)]
 pub extern "C" fn line_lot_file_take_out(file: &mut [u8], number: u32) -> u8
-    ensures answer { result ≡ absentRefusal mostLots mostLotDocuments file.old number }
-    ensures after { file.new ≡ takenOut mostLots mostLotDocuments file.old number }
+    ensures answer { result ≡ absent_refusal most_lots most_lot_documents file.old number }
+    ensures after { file.new ≡ taken_out most_lots most_lot_documents file.old number }
 {
     take_number(take_out(file, number))
 }

@@ -3,7 +3,7 @@ use mathlib.Core.Path.{◌≡◌, refl}
 use Prim.Native.Nat.{ℕ}
 use lib.IntN.{pos, neg_ℤ}
 use Rattle.amounts.specs.Totals.{totals}
-use Rattle.document.specs.Operation.{presented as presentedByte}
+use Rattle.document.specs.Operation.{presented as presented_byte}
 use Rattle.session.specs.declared.report.Awaited.{Awaited}
 use Rattle.session.specs.declared.report.Report.{Report}
 use Rattle.session.specs.declared.session.Close.{Close}
@@ -18,22 +18,22 @@ abbrev reported : Close → Awaited → Report
 reported close awaited =
     let presented = totals 11 900 40 in
     let received = totals 12 700 50 in
-    record { presented = record { lots = 2; gathered = adding presentedByte presented }; received = record { lots = 3; gathered = adding presentedByte received }; close = close; positions = positions presented received; awaited = awaited }
+    record { presented = record { lots = 2; gathered = adding presented_byte presented }; received = record { lots = 3; gathered = adding presented_byte received }; close = close; positions = positions presented received; awaited = awaited }
 
 abbrev sums : (lots documents nominal commission : ℕ) → Sums
 sums lots documents nominal commission = record { lots = lots; documents = documents; nominal = nominal; commission = commission }
 
 -- as it is shown: a nominal to be had, a commission that is owed
-abbrev shown : (close awaited lotNumber : ℕ) → Sums → Side
-shown close awaited lotNumber lot =
-    record { presented = sums 2 11 900 40; received = sums 3 12 700 50; close = close; awaited = awaited; lot_number = lotNumber; lot = lot; nominal_position = pos 200; commission_position = neg_ℤ (pos 10) }
+abbrev shown : (close awaited lot_number : ℕ) → Sums → Side
+shown close awaited lot_number lot =
+    record { presented = sums 2 11 900 40; received = sums 3 12 700 50; close = close; awaited = awaited; lot_number = lot_number; lot = lot; nominal_position = pos 200; commission_position = neg_ℤ (pos 10) }
 
 -- a lot total awaited, its lot beside it; a session total; neither
-lot-shown : side_of (reported Close.Forced (Awaited.LotTotal (record { number = 7; gathered = adding presentedByte (totals 13 600 60) }))) ≡ shown 2 1 7 (sums 0 13 600 60)
-lot-shown = refl
+lot_shown : side_of (reported Close.Forced (Awaited.LotTotal (record { number = 7; gathered = adding presented_byte (totals 13 600 60) }))) ≡ shown 2 1 7 (sums 0 13 600 60)
+lot_shown = refl
 
-session-total-shown : side_of (reported Close.Ordered Awaited.SessionTotal) ≡ shown 1 2 0 (sums 0 0 0 0)
-session-total-shown = refl
+session_total_shown : side_of (reported Close.Ordered Awaited.SessionTotal) ≡ shown 1 2 0 (sums 0 0 0 0)
+session_total_shown = refl
 
-neither-shown : side_of (reported Close.Open Awaited.Neither) ≡ shown 0 0 0 (sums 0 0 0 0)
-neither-shown = refl
+neither_shown : side_of (reported Close.Open Awaited.Neither) ≡ shown 0 0 0 (sums 0 0 0 0)
+neither_shown = refl

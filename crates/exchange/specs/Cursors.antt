@@ -1,7 +1,7 @@
 -- The cursors of an end's two trays (01, 'Trays': the caller moves them).
 use Rattle.std.specs.Prelude.{ℕ, ◌+◌, Bool, ◌&&◌, cond, List, eqb}
-use Rattle.document.specs.Operation.{presentedNumber, returnedNumber}
-use Rattle.outgoing.specs.Outgoing.{bothGood, remain, next}
+use Rattle.document.specs.Operation.{presented_number, returned_number}
+use Rattle.outgoing.specs.Outgoing.{both_good, remain, next}
 use Rattle.exchange.specs.declared.cursors.Cursors.{Cursors}
 
 -- nothing is sent yet
@@ -10,7 +10,7 @@ unmoved = record { presentations = 0; returns = 0 }
 
 -- both trays have whole documents, and neither cursor is past its end
 abbrev pub within : (presentations returns : List ℕ) → Cursors → Bool
-within presentations returns c = bothGood presentations returns c.presentations c.returns
+within presentations returns c = both_good presentations returns c.presentations c.returns
 
 -- the next part
 abbrev pub part_at : (presentations returns : List ℕ) → Cursors → List ℕ
@@ -20,8 +20,8 @@ part_at presentations returns c = next presentations returns c.presentations c.r
 abbrev pub presenting : (presentations : List ℕ) → Cursors → Bool
 presenting presentations c = remain presentations c.presentations
 
-abbrev pub nextOperation : (presentations : List ℕ) → Cursors → ℕ
-nextOperation presentations c = cond (presenting presentations c) presentedNumber returnedNumber
+abbrev pub next_operation : (presentations : List ℕ) → Cursors → ℕ
+next_operation presentations c = cond (presenting presentations c) presented_number returned_number
 
 -- the cursor of its tray is moved past so many documents
 abbrev pub moved : (presentations : List ℕ) (documents : ℕ) → Cursors → Cursors

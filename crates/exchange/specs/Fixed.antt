@@ -1,7 +1,7 @@
 -- What is fixed of an evening that this driver runs.
 use Rattle.std.specs.Prelude.{ℕ, suc, ◌/◌}
-use Rattle.document.specs.Limits.{mostDetailDocuments}
-use Rattle.session.specs.Limits.{mostLotDocuments}
+use Rattle.document.specs.Limits.{most_detail_documents}
+use Rattle.session.specs.Limits.{most_lot_documents}
 
 -- 14 March 2028, and the two entities
 abbrev pub date : ℕ
@@ -21,5 +21,5 @@ abbrev pub office : ℕ
 office = 1
 
 -- the most parts of a lot: as many as fill it, and one more, since the last part of the presentations can be shorter
-abbrev pub lotParts : ℕ
-lotParts = suc (mostLotDocuments / mostDetailDocuments)
+abbrev pub lot_parts : ℕ
+lot_parts = suc (most_lot_documents / most_detail_documents)

@@ -1,6 +1,6 @@
 // The cursors of an end's two trays, counted in documents, and how the driver moves them.
 ghost use Rattle.std.specs.Prelude.{◌≡◌, true};
-ghost use Rattle.exchange.specs.Cursors.{presenting, nextOperation, moved, same, within};
+ghost use Rattle.exchange.specs.Cursors.{presenting, next_operation, moved, same, within};
 
 use document::{DOCUMENT_BYTES, PRESENTED_NUMBER, RETURNED_NUMBER};
 
@@ -19,7 +19,7 @@ fn presenting(presentations: &[u8], cursors: Cursors) -> bool
 
 // The operation of the next part: 30, or 40 once the presentations are used up.
 pub fn operation(presentations: &[u8], cursors: Cursors) -> u8
-    ensures { result ≡ nextOperation presentations.now cursors }
+    ensures { result ≡ next_operation presentations.now cursors }
 {
     if presenting(presentations, cursors) {
         return PRESENTED_NUMBER;

@@ -2,7 +2,7 @@
 ghost use Rattle.std.specs.Prelude.{◌≡◌, true};
 ghost use Rattle.exchange.specs.Cursors.{unmoved, within};
 ghost use Rattle.exchange.specs.Round.{BothReady};
-ghost use Rattle.exchange.specs.Course.{Safe, endsOf, standingOf, lotsMade, directionMade};
+ghost use Rattle.exchange.specs.Course.{Safe, ends_of, standing_of, lots_made, direction_made};
 
 use crate::cursors::{Cursors, same};
 use crate::lot::send_lot;
@@ -24,7 +24,7 @@ fn send_lots<'a>(
     reply: &mut [u8],
 ) -> Progress
     requires { Safe presentations.now returns.now p }
-    ensures outcome { standingOf result message.new reply.new ≡ lotsMade presentations.now returns.now (standingOf p message.old reply.old) }
+    ensures outcome { standing_of result message.new reply.new ≡ lots_made presentations.now returns.now (standing_of p message.old reply.old) }
     ensures premise { Safe presentations.now returns.now result }
 {
     let mut at = p;
@@ -50,7 +50,7 @@ pub fn present<'a>(
 ) -> Round
     requires both_ready { BothReady ends }
     requires unmoved_value { within presentations.now returns.now unmoved ≡ true }
-    ensures outcome { endsOf result message.new reply.new ≡ directionMade presentations.now returns.now (endsOf ends message.old reply.old) }
+    ensures outcome { ends_of result message.new reply.new ≡ direction_made presentations.now returns.now (ends_of ends message.old reply.old) }
     ensures premise { BothReady result }
 {
     let first = Progress {

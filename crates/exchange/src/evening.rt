@@ -2,15 +2,15 @@
 // include/line.h says how C calls it. A refusal within the evening stops nothing but its own lot: the driver ends the lot,
 // and where no document moved, the direction.
 ghost use Rattle.std.specs.Prelude.{◌≡◌, true, List, [], ℕ};
-ghost use Rattle.outgoing.specs.Outgoing.{checkCode};
-ghost use Rattle.session.specs.Engine.{Ready, withEmpty};
+ghost use Rattle.outgoing.specs.Outgoing.{check_code};
+ghost use Rattle.session.specs.Engine.{Ready, with_empty};
 ghost use Rattle.session.specs.Start.{start};
-ghost use Rattle.centre.specs.Turn.{engineOf};
+ghost use Rattle.centre.specs.Turn.{engine_of};
 ghost use Rattle.exchange.specs.Fixed.{date};
 ghost use Rattle.exchange.specs.Cursors.{unmoved, within};
 ghost use Rattle.exchange.specs.Round.{BothReady};
-ghost use Rattle.exchange.specs.Course.{endsOf, across, bothDirections};
-ghost use Rattle.exchange.specs.Evening.{closedSide, evening, traysCode, exchanged};
+ghost use Rattle.exchange.specs.Course.{ends_of, across, both_directions};
+ghost use Rattle.exchange.specs.Evening.{closed_side, evening, trays_code, exchanged};
 
 use crate::direction::present;
 use crate::fixed::{DATE, FAR, NEAR};
@@ -26,8 +26,8 @@ use session::session::Session;
 
 // An end just started, with nobody represented.
 fn started(own: u16, partner: u16) -> Centre
-    ensures outcome { engineOf result ≡ withEmpty (start date own partner []).session }
-    ensures premise { Ready (engineOf result) }
+    ensures outcome { engine_of result ≡ with_empty (start date own partner []).session }
+    ensures premise { Ready (engine_of result) }
 {
     let nobody = [0u16; 1];
     let start = Session::start(DATE, own, partner, &nobody[..0]);
@@ -37,8 +37,8 @@ fn started(own: u16, partner: u16) -> Centre
 
 // The report of an end after its clock call at the close.
 fn closed(c: Centre) -> Side
-    requires { Ready (engineOf c) }
-    ensures { result ≡ closedSide (engineOf c) }
+    requires { Ready (engine_of c) }
+    ensures { result ≡ closed_side (engine_of c) }
 {
     let turn = clock_call(c, Session::CLOSE);
     let session = turn.centre.session;
@@ -48,7 +48,7 @@ fn closed(c: Centre) -> Side
 // The other direction.
 fn across(ends: Round) -> Round
     requires { BothReady ends }
-    ensures outcome { (message reply : List ℕ) → endsOf result message reply ≡ across (endsOf ends message reply) }
+    ensures outcome { (message reply : List ℕ) → ends_of result message reply ≡ across (ends_of ends message reply) }
     ensures premise { BothReady result }
 {
     let presenter = ends.receiver;
@@ -75,7 +75,7 @@ fn both_directions<'a>(
     requires both_ready { BothReady ends }
     requires unmoved_value { within presentations.now returns.now unmoved ≡ true }
     requires unmoved_value_2 { within other_presentations.now other_returns.now unmoved ≡ true }
-    ensures outcome { endsOf result message.new reply.new ≡ bothDirections presentations.now returns.now other_presentations.now other_returns.now (endsOf ends message.old reply.old) }
+    ensures outcome { ends_of result message.new reply.new ≡ both_directions presentations.now returns.now other_presentations.now other_returns.now (ends_of ends message.old reply.old) }
     ensures premise { BothReady result }
 {
     let first = present(ends, presentations, returns, message, reply);
@@ -121,7 +121,7 @@ fn evening<'a>(
 
 // Whether the trays of an end are in order, as a code.
 fn tray_code(presentations: &[u8], returns: &[u8]) -> u8
-    ensures { result ≡ checkCode presentations.now returns.now 0 0 }
+    ensures { result ≡ check_code presentations.now returns.now 0 0 }
 {
     let answer = check(presentations, returns, 0, 0);
     match answer {
@@ -137,7 +137,7 @@ fn trays_code(
     far_presentations: &[u8],
     far_returns: &[u8],
 ) -> u8
-    ensures { result ≡ traysCode near_presentations.now near_returns.now far_presentations.now far_returns.now }
+    ensures { result ≡ trays_code near_presentations.now near_returns.now far_presentations.now far_returns.now }
 {
     let near = tray_code(near_presentations, near_returns);
     if near == 0 {

@@ -2,9 +2,9 @@
 ghost use Rattle.std.specs.Prelude.{◌≡◌, true, List, ℕ};
 ghost use Rattle.centre.specs.Turn.{call_of};
 ghost use Rattle.exchange.specs.Cursors.{moved, within};
-ghost use Rattle.document.specs.Part.{countIn};
+ghost use Rattle.document.specs.Part.{count_in};
 ghost use Rattle.exchange.specs.Round.{BothReady};
-ghost use Rattle.exchange.specs.Course.{Safe, standingOf, pastPart, partSent, detailSent, filled, roundBetween, wholeLot, lotMade};
+ghost use Rattle.exchange.specs.Course.{Safe, standing_of, past_part, part_sent, detail_sent, filled, round_between, whole_lot, lot_made};
 
 use crate::cursors::{Cursors, moved, operation, same};
 use crate::fixed::{LOT_PARTS, MOMENT, OFFICE};
@@ -26,7 +26,7 @@ fn past_part(
     after: u64,
 ) -> Cursors
     requires { within presentations.now returns.now (moved presentations.now documents cursors) ≡ true }
-    ensures { result ≡ pastPart presentations.now documents before after cursors }
+    ensures { result ≡ past_part presentations.now documents before after cursors }
 {
     if after == before {
         return cursors;
@@ -44,8 +44,8 @@ fn send_part<'a>(
     reply: &mut [u8],
 ) -> Progress
     requires safe { Safe presentations.now returns.now p }
-    requires cursors_value { within presentations.now returns.now (moved presentations.now (countIn part.now) p.cursors) ≡ true }
-    ensures outcome { standingOf result message.new reply.new ≡ partSent presentations.now part.now (standingOf p message.old reply.old) }
+    requires cursors_value { within presentations.now returns.now (moved presentations.now (count_in part.now) p.cursors) ≡ true }
+    ensures outcome { standing_of result message.new reply.new ≡ part_sent presentations.now part.now (standing_of p message.old reply.old) }
     ensures premise { Safe presentations.now returns.now result }
 {
     let ends = p.last;
@@ -70,7 +70,7 @@ fn send_next<'a>(
     reply: &mut [u8],
 ) -> Progress
     requires { Safe presentations.now returns.now p }
-    ensures outcome { standingOf result message.new reply.new ≡ detailSent presentations.now returns.now (standingOf p message.old reply.old) }
+    ensures outcome { standing_of result message.new reply.new ≡ detail_sent presentations.now returns.now (standing_of p message.old reply.old) }
     ensures premise { Safe presentations.now returns.now result }
 {
     let cursors = p.cursors;
@@ -97,7 +97,7 @@ fn fill<'a>(
     reply: &mut [u8],
 ) -> Progress
     requires { Safe presentations.now returns.now p }
-    ensures outcome { standingOf result message.new reply.new ≡ filled presentations.now returns.now (standingOf p message.old reply.old) }
+    ensures outcome { standing_of result message.new reply.new ≡ filled presentations.now returns.now (standing_of p message.old reply.old) }
     ensures premise { Safe presentations.now returns.now result }
 {
     let mut at = p;
@@ -122,7 +122,7 @@ fn round_between(
     reply: &mut [u8],
 ) -> Progress
     requires { BothReady p.last }
-    ensures outcome { standingOf result message.new reply.new ≡ roundBetween (call_of order bytes.now) (standingOf p message.old reply.old) }
+    ensures outcome { standing_of result message.new reply.new ≡ round_between (call_of order bytes.now) (standing_of p message.old reply.old) }
     ensures premise { (presentations returns : List ℕ) → Safe presentations returns p → Safe presentations returns result }
 {
     let ends = p.last;
@@ -143,7 +143,7 @@ fn whole_lot<'a>(
     reply: &mut [u8],
 ) -> Progress
     requires { Safe presentations.now returns.now p }
-    ensures outcome { standingOf result message.new reply.new ≡ wholeLot number presentations.now returns.now (standingOf p message.old reply.old) }
+    ensures outcome { standing_of result message.new reply.new ≡ whole_lot number presentations.now returns.now (standing_of p message.old reply.old) }
     ensures premise { Safe presentations.now returns.now result }
 {
     let header = Order::Header(Session::OPENING, MOMENT, OFFICE, number);
@@ -163,7 +163,7 @@ pub fn send_lot<'a>(
     reply: &mut [u8],
 ) -> Progress
     requires { Safe presentations.now returns.now p }
-    ensures outcome { standingOf result message.new reply.new ≡ lotMade presentations.now returns.now number (standingOf p message.old reply.old) }
+    ensures outcome { standing_of result message.new reply.new ≡ lot_made presentations.now returns.now number (standing_of p message.old reply.old) }
     ensures premise { Safe presentations.now returns.now result }
 {
     let cursors = p.cursors;

@@ -2,7 +2,7 @@
 ghost use Rattle.std.specs.Prelude.{◌≡◌};
 ghost use Rattle.centre.specs.Turn.{call_of};
 ghost use Rattle.exchange.specs.Round.{BothReady};
-ghost use Rattle.exchange.specs.Course.{endsOf, roundMade};
+ghost use Rattle.exchange.specs.Course.{ends_of, round_made};
 
 use crate::cursors::Cursors;
 use crate::round::Round;
@@ -25,7 +25,7 @@ pub fn one_more(
     reply: &mut [u8],
 ) -> Round
     requires { BothReady ends }
-    ensures outcome { endsOf result message.new reply.new ≡ roundMade (call_of order bytes.now) (endsOf ends message.old reply.old) }
+    ensures outcome { ends_of result message.new reply.new ≡ round_made (call_of order bytes.now) (ends_of ends message.old reply.old) }
     ensures premise { BothReady result }
 {
     round(

@@ -1,7 +1,7 @@
 // A round of a direction: the presenter sends, the receiver takes the message and replies, the presenter takes the reply.
 ghost use Rattle.std.specs.Prelude.{◌≡◌};
-ghost use Rattle.centre.specs.Turn.{engineOf, call_of};
-ghost use Rattle.exchange.specs.Round.{BothReady, answer_of, roundOf, answered, rounded};
+ghost use Rattle.centre.specs.Turn.{engine_of, call_of};
+ghost use Rattle.exchange.specs.Round.{BothReady, answer_of, round_of, answered, rounded};
 ghost use Rattle.session.specs.Engine.{Ready};
 
 use crate::round::Round;
@@ -17,9 +17,9 @@ pub fn answered(
     message: &[u8],
     reply: &mut [u8],
 ) -> Round
-    requires ready { Ready (engineOf presenter) }
-    requires ready_2 { Ready (engineOf receiver) }
-    ensures outcome { answer_of result reply.new ≡ answered time message.now reply.old (engineOf presenter) (engineOf receiver) }
+    requires ready { Ready (engine_of presenter) }
+    requires ready_2 { Ready (engine_of receiver) }
+    ensures outcome { answer_of result reply.new ≡ answered time message.now reply.old (engine_of presenter) (engine_of receiver) }
     ensures unsent { result.sent ≡ 0 }
     ensures premise { BothReady result }
 {
@@ -57,9 +57,9 @@ pub fn round(
     message: &mut [u8],
     reply: &mut [u8],
 ) -> Round
-    requires ready { Ready (engineOf presenter) }
-    requires ready_2 { Ready (engineOf receiver) }
-    ensures outcome { roundOf result message.new reply.new ≡ rounded (call_of order part.now) time message.old reply.old (engineOf presenter) (engineOf receiver) }
+    requires ready { Ready (engine_of presenter) }
+    requires ready_2 { Ready (engine_of receiver) }
+    ensures outcome { round_of result message.new reply.new ≡ rounded (call_of order part.now) time message.old reply.old (engine_of presenter) (engine_of receiver) }
     ensures premise { BothReady result }
 {
     let turn = perform(presenter, order, part, message);

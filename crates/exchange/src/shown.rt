@@ -1,6 +1,6 @@
 // What an evening shows: the two reports in plain numbers, as C takes them. include/line.h says what each is.
 ghost use Rattle.std.specs.Prelude.{◌≡◌};
-ghost use Rattle.exchange.specs.Evening.{sumsOf, closeNumber, awaitedNumber, noLot, awaitedLot, side_of, noSide};
+ghost use Rattle.exchange.specs.Evening.{sums_of, close_number, awaited_number, no_lot, awaited_lot, side_of, no_side};
 
 use session::counters::Lot;
 use session::report::{Awaited, Report};
@@ -38,7 +38,7 @@ pub struct Evening {
 }
 
 fn sums_of(lots: u64, gathered: Running) -> Sums
-    ensures { result ≡ sumsOf lots gathered }
+    ensures { result ≡ sums_of lots gathered }
 {
     let totals = stated(gathered);
     Sums {
@@ -50,7 +50,7 @@ fn sums_of(lots: u64, gathered: Running) -> Sums
 }
 
 fn close_number(close: Close) -> u8
-    ensures { result ≡ closeNumber close }
+    ensures { result ≡ close_number close }
 {
     match close {
         Close::Open => 0,
@@ -60,7 +60,7 @@ fn close_number(close: Close) -> u8
 }
 
 fn awaited_number(awaited: Awaited) -> u8
-    ensures { result ≡ awaitedNumber awaited }
+    ensures { result ≡ awaited_number awaited }
 {
     match awaited {
         Awaited::Neither => 0,
@@ -71,7 +71,7 @@ fn awaited_number(awaited: Awaited) -> u8
 
 // A lot of nothing, where none is named.
 fn no_lot() -> Lot
-    ensures { result ≡ noLot }
+    ensures { result ≡ no_lot }
 {
     Lot {
         number: 0,
@@ -81,7 +81,7 @@ fn no_lot() -> Lot
 
 // The lot whose total is awaited.
 fn awaited_lot(awaited: Awaited) -> Lot
-    ensures { result ≡ awaitedLot awaited }
+    ensures { result ≡ awaited_lot awaited }
 {
     match awaited {
         Awaited::Neither => no_lot(),
@@ -112,7 +112,7 @@ pub fn side_of(r: Report) -> Side
 
 // Of an end that was not started.
 pub fn no_side() -> Side
-    ensures { result ≡ noSide }
+    ensures { result ≡ no_side }
 {
     let nothing = sums_of(0, empty());
     Side {

@@ -1,6 +1,6 @@
 // The line between the two ends: what one says the other hears and keeps, and the reply comes back or is lost.
 ghost use Rattle.session.specs.Engine.{Ready};
-ghost use Rattle.centre.specs.Turn.{engineOf};
+ghost use Rattle.centre.specs.Turn.{engine_of};
 ghost use Rattle.exchange.specs.Round.{BothReady};
 
 use crate::keeping::keep;
@@ -17,7 +17,7 @@ use session::session::Session;
 const CODE: usize = REPLY_ROOM - 1;
 
 fn started(own: u16, partner: u16) -> Centre
-    ensures { Ready (engineOf result) }
+    ensures { Ready (engine_of result) }
 {
     let nobody = [0u16; 1];
     let start = Session::start(140328, own, partner, &nobody[..0]);
@@ -53,8 +53,8 @@ fn hear(
     gathered: &mut [u8],
     file: &mut [u8],
 ) -> Round
-    requires ready { Ready (engineOf presenter) }
-    requires ready_2 { Ready (engineOf receiver) }
+    requires ready { Ready (engine_of presenter) }
+    requires ready_2 { Ready (engine_of receiver) }
     ensures { BothReady result }
 {
     let mut reply = [0u8; REPLY_ROOM];

@@ -55,7 +55,7 @@ use Rattle.session.proofs.session.Session.TheLaws as S'
 use Rattle.session.specs.Receiving.{receive}
 use Rattle.session.specs.Premise.{KeptBeside}
 use Rattle.session.specs.Outcome.{held}
-use Rattle.receiving.specs.Said.{receivedSaid}
+use Rattle.receiving.specs.Said.{received_said}
 use Rattle.receiving.specs.contracts.receive.Received as D
 use Rattle.receiving.proofs.receive.Received.TheLaws as D'
 use Rattle.receiving.specs.contracts.receive.ReceiveOutcome as O
@@ -116,8 +116,8 @@ abbrev pub totals : Plain
 totals = declared T.the_type T'.the_laws T'.the_plain
 
 -- how many bytes they take: what stands behind them in an outcome begins there
-abbrev pub totalsBytes : ℕ
-totalsBytes = size T'.mir
+abbrev pub totals_bytes : ℕ
+totals_bytes = size T'.mir
 
 abbrev pub number : Plain
 number = record { type = u32; spell = uint_vals w32; tells = uint_Tells w32; makes = λ 𝓛. uint_Makes 𝓛 w32; lawful = λ 𝓛. uint_Lawful 𝓛 w32 }
@@ -153,8 +153,8 @@ module _ {n : ℕ} where
   shared j ok = record { slot = shr_slice_of (j ∷ []) ok (plain (λ _. u8)); stay = stay_dropped (shr_slice_of (j ∷ []) ok (plain (λ _. u8))) yes; goes = λ 𝓛. Goes-dropped 𝓛 n (shr_slice_of (j ∷ []) ok (plain (λ _. u8))) yes (λ κs x f. refl); spell = λ κs. shr_slice_vals; tells = λ κs. shr_slice_Tells (named j) (meet_at n (j ∷ []) ok κs) u8 }
 
   -- bytes to write, lent on to a callee
-  abbrev pub lent-on : (j : ℕ) → AllWithin n (j ∷ []) → Param n
-  lent-on j ok = record { slot = mut_slice_of (j ∷ []) ok (plain (λ _. u8)); stay = gave_slice (j ∷ []) ok (plain (λ _. u8)); goes = λ 𝓛. Goes-gave_slice 𝓛 n j ok (plain (λ _. u8)); spell = λ κs. mut_slice_vals; tells = λ κs. mut_slice_Tells (named j) (meet_at n (j ∷ []) ok κs) u8 }
+  abbrev pub lent_on : (j : ℕ) → AllWithin n (j ∷ []) → Param n
+  lent_on j ok = record { slot = mut_slice_of (j ∷ []) ok (plain (λ _. u8)); stay = gave_slice (j ∷ []) ok (plain (λ _. u8)); goes = λ 𝓛. Goes-gave_slice 𝓛 n j ok (plain (λ _. u8)); spell = λ κs. mut_slice_vals; tells = λ κs. mut_slice_Tells (named j) (meet_at n (j ∷ []) ok κs) u8 }
 
   abbrev slots : List (Param n) → List (Slot n)
   slots [] = []
@@ -196,7 +196,7 @@ module _ {M : Type 1} (𝓤 : Ura M) (φ ψ : Type 0) where
 
 -- what receiving promises of what it gives, and of the running totals and the line buffer that it leaves
 abbrev pub ReceivedSo : Session → Running → (time : ℕ) (message line : List ℕ) → Received → Running → List ℕ → Type 0
-ReceivedSo s h time message line r t bytes = (receivedSaid r t bytes ≡ receive time message (held s h line)) × KeptBeside Direction.receiving s r.session t
+ReceivedSo s h time message line r t bytes = (received_said r t bytes ≡ receive time message (held s h line)) × KeptBeside Direction.receiving s r.session t
 
 -- ---- running totals h that are lent at (b, o), and the token of their lifetime; and the same while the borrow is open
 module _ {M : Type 1} {𝓤 : Ura M} (κ : Lft) (q : Share) (γ : GName) (b o : ℕ) (h : Running) (Γ : List (Item 𝓤)) where
@@ -253,20 +253,20 @@ module _ {M : Type 1} {𝓤 : Ura M} {𝓛 : Logic 𝓤} {K : Type 0} {Γ : List
   here t r = load t (from t (stop t)) r
 
   -- a field of a local is read; nothing but a struct has one
-  pub field-of : K → {E : Env 𝓤 H} {i k : ℕ} (σ : Ty) {vs : Vals} {τ : Ty} {d : ℕ} (n : ℕ) → field_of σ k ≡ just (τ, d) → (spot_of 𝓤 H E i).0 ≡ σ → nth 𝓛 n Γ ≡ ‵ (fat full_share σ (spot_of 𝓤 H E i).1 zero (vstruct vs))
+  pub field_of_local : K → {E : Env 𝓤 H} {i k : ℕ} (σ : Ty) {vs : Vals} {τ : Ty} {d : ℕ} (n : ℕ) → field_of σ k ≡ just (τ, d) → (spot_of 𝓤 H E i).0 ≡ σ → nth 𝓛 n Γ ≡ ‵ (fat full_share σ (spot_of 𝓤 H E i).1 zero (vstruct vs))
       → Opd K 𝓛 Γ E (copy (place i (field k ∷ []))) (get_v vs k)
-  field-of t {E} {i} {k} (ty_struct ν τs) {vs} n at-k is-i at_i =
+  field_of_local t {E} {i} {k} (ty_struct ν τs) {vs} n at-k is-i at_i =
       load t (from t (fld t (ap (λ (ρ : Ty). field_of ρ k) is-i ∙ at-k) (stop t)))
       (look_in t n (sub t k at-k (subst (λ (j : Item 𝓤). Part K 𝓛 j full_share (ty_struct ν τs) (spot_of 𝓤 H E i).1 zero (vstruct vs) (λ u. ‵ (fat full_share (ty_struct ν τs) (spot_of 𝓤 H E i).1 zero u))) (sym at_i) (whole t))))
-  field-of t (ty_int w) n at-k is-i at_i = absurd (none-ne-some _ at-k)
-  field-of t ty_bool n at-k is-i at_i = absurd (none-ne-some _ at-k)
-  field-of t (ty_float f) n at-k is-i at_i = absurd (none-ne-some _ at-k)
-  field-of t ty_ptr n at-k is-i at_i = absurd (none-ne-some _ at-k)
-  field-of t (ty_ref κ μ τ) n at-k is-i at_i = absurd (none-ne-some _ at-k)
-  field-of t (ty_array τ l) n at-k is-i at_i = absurd (none-ne-some _ at-k)
-  field-of t ty_unit n at-k is-i at_i = absurd (none-ne-some _ at-k)
-  field-of t (ty_enum ν τss) n at-k is-i at_i = absurd (none-ne-some _ at-k)
-  field-of t (ty_named ν) n at-k is-i at_i = absurd (none-ne-some _ at-k)
+  field_of_local t (ty_int w) n at-k is-i at_i = absurd (none-ne-some _ at-k)
+  field_of_local t ty_bool n at-k is-i at_i = absurd (none-ne-some _ at-k)
+  field_of_local t (ty_float f) n at-k is-i at_i = absurd (none-ne-some _ at-k)
+  field_of_local t ty_ptr n at-k is-i at_i = absurd (none-ne-some _ at-k)
+  field_of_local t (ty_ref κ μ τ) n at-k is-i at_i = absurd (none-ne-some _ at-k)
+  field_of_local t (ty_array τ l) n at-k is-i at_i = absurd (none-ne-some _ at-k)
+  field_of_local t ty_unit n at-k is-i at_i = absurd (none-ne-some _ at-k)
+  field_of_local t (ty_enum ν τss) n at-k is-i at_i = absurd (none-ne-some _ at-k)
+  field_of_local t (ty_named ν) n at-k is-i at_i = absurd (none-ne-some _ at-k)
 
   -- a local that holds a struct of two: each machine value gets a name, and is no longer looked into
   pub apart : K → {G : Goal 𝓤 H} {σ : Ty} {l : ℕ} {v x y : Val} (P Q : Val → Type 0) (n : ℕ) → nth 𝓛 n Γ ≡ ‵ (fat full_share σ l zero v) → v ≡ vstruct (vcons x (vcons y vnil)) → P x → Q y
@@ -349,7 +349,7 @@ module _ {M : Type 1} {𝓤 : Ura M} {𝓛 : Logic 𝓤} {K : Type 0} {Γ : List
   leaves t fm known {i} {p} {u} σ {κ} {q} {γ} {b} {o} {h} {x} {y} n m k at-0 is-i at_p at_i at-u fits h' is =
       let asked : (Leave 𝓛 memory run).Ghost = leaving 𝓛 memory run κ q γ b o h h' x in
       let first : Opd K 𝓛 (raw ((Leave 𝓛 memory run).pre asked) ∷ Γ) E (copy (place p [])) (vptr b o) = here t (look t (suc n) at_p) in
-      let second : Opd K 𝓛 (raw ((Leave 𝓛 memory run).pre asked) ∷ Γ) E (copy (place i (field 0 ∷ []))) x = field-of t σ (suc m) at-0 is-i at_i in
+      let second : Opd K 𝓛 (raw ((Leave 𝓛 memory run).pre asked) ∷ Γ) E (copy (place i (field 0 ∷ []))) x = field_of_local t σ (suc m) at-0 is-i at_i in
       step (λ s. group t 3 $ use1 𝓛 (raw ((Leave 𝓛 memory run).pre asked)) (hands_on 𝓛 memory run κ q γ b o h h' x is) $
       asks t fm leave.ended (leave.clauses 𝓛 memory run) known asked (and_then t first (and_then t second (no_more t))) (λ v r is-v.
       subst (λ (w : Val). Seq K 𝓛 (raw (ensured 𝓛 leave.ended (leave.clauses 𝓛 memory run) asked.0.0 asked.0.3 asked.1 r) ∷ raw (alive 𝓛 (leave.ended).signature asked.0.0 asked.0.1) ∷ Γ) (lands C Λ E (place u []) w rest Q)) (sym (ap only is-v))

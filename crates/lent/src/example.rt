@@ -5,7 +5,7 @@ ghost use Rattle.session.specs.Parties.{Direction};
 ghost use Rattle.session.specs.Receiving.{receive};
 ghost use Rattle.session.specs.Premise.{Sound, Carried, KeptBeside};
 ghost use Rattle.session.specs.Outcome.{held};
-ghost use Rattle.receiving.specs.Said.{receivedSaid};
+ghost use Rattle.receiving.specs.Said.{received_said};
 
 use crate::receive::receive;
 use receiving::receive::ReceiveOutcome;
@@ -22,7 +22,7 @@ pub fn receive_with_local(
 ) -> ReceiveOutcome
     requires sound { Sound session }
     requires carried { Carried Direction.receiving session running }
-    ensures { (receivedSaid result.received result.running line.new ≡ receive time message.now (held session running line.old)) × KeptBeside Direction.receiving session result.received.session result.running }
+    ensures { (received_said result.received result.running line.new ≡ receive time message.now (held session running line.old)) × KeptBeside Direction.receiving session result.received.session result.running }
 {
     let mut totals = running;
     let received = receive(session, &mut totals, time, message, line);

@@ -4,7 +4,7 @@ ghost use Rattle.session.specs.Parties.{Direction};
 ghost use Rattle.session.specs.Receiving.{receive};
 ghost use Rattle.session.specs.Premise.{Sound, Carried, KeptBeside};
 ghost use Rattle.session.specs.Outcome.{held};
-ghost use Rattle.receiving.specs.Said.{receivedSaid};
+ghost use Rattle.receiving.specs.Said.{received_said};
 
 use crate::leaving::leave;
 use receiving::receive::Received;
@@ -21,7 +21,7 @@ pub fn receive(
 ) -> Received
     requires sound { Sound session }
     requires carried { Carried Direction.receiving session running.old }
-    ensures { (receivedSaid result running.new line.new ≡ receive time message.now (held session running.old line.old)) × KeptBeside Direction.receiving session result.session running.new }
+    ensures { (received_said result running.new line.new ≡ receive time message.now (held session running.old line.old)) × KeptBeside Direction.receiving session result.session running.new }
 {
     let outcome = receiving::receive::receive(session, *running, time, message, line);
     leave(running, outcome.running);

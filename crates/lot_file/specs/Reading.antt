@@ -9,60 +9,60 @@ use Rattle.lot_file.specs.declared.answers.CheckAnswer.{CheckAnswer}
 use Rattle.lot_file.specs.declared.answers.FindAnswer.{FindAnswer}
 use Rattle.lot_file.specs.declared.answers.FindShown.{FindShown}
 use Rattle.lot_file.specs.Layout.{Stored}
-use Rattle.lot_file.specs.Good.{usedRows, numbersOf, bodyBytes, orderNumber, good}
+use Rattle.lot_file.specs.Good.{used_rows, numbers_of, body_bytes, order_number, good}
 
 -- the lot of a row
-abbrev pub lotAt : (slice : List ℕ) → Row → Stored
-lotAt slice r = record { number = r.number; body = part r.start (bodyBytes r) slice }
+abbrev pub lot_at : (slice : List ℕ) → Row → Stored
+lot_at slice r = record { number = r.number; body = part r.start (body_bytes r) slice }
 
 -- all of them, in the order of their rows
-unfoldable pub lotsIn : (rows : ℕ) (slice : List ℕ) → List Stored
-lotsIn rows slice = map (lotAt slice) (usedRows rows slice)
+unfoldable pub lots_in : (rows : ℕ) (slice : List ℕ) → List Stored
+lots_in rows slice = map (lot_at slice) (used_rows rows slice)
 
 -- the documents of the lot that has a number; nothing where no lot has it
-unfoldable pub bodyIn : List Stored → (number : ℕ) → List ℕ
-bodyIn lots number = numbered (λ (lot : Stored). lot.number) (λ (lot : Stored). lot.body) [] lots number
+unfoldable pub body_in : List Stored → (number : ℕ) → List ℕ
+body_in lots number = numbered (λ (lot : Stored). lot.number) (λ (lot : Stored). lot.body) [] lots number
 
 -- a row has the number
 abbrev pub present : (rows : ℕ) (slice : List ℕ) (number : ℕ) → Bool
-present rows slice number = member number (numbersOf (usedRows rows slice))
+present rows slice number = member number (numbers_of (used_rows rows slice))
 
 -- the row itself; one of zeros where there is none
 abbrev pub no_row : Row
 no_row = record { number = 0; start = 0; documents = 0 }
 
-unfoldable pub rowFor : List Row → (number : ℕ) → Row
-rowFor rs number = numbered (λ (r : Row). r.number) (λ (r : Row). r) no_row rs number
+unfoldable pub row_for : List Row → (number : ℕ) → Row
+row_for rs number = numbered (λ (r : Row). r.number) (λ (r : Row). r) no_row rs number
 
 -- the check of a slice
-unfoldable pub checkRefusal : (rows most : ℕ) (slice : List ℕ) → ℕ
-checkRefusal rows most slice = 25 when not (good rows most slice)
+unfoldable pub check_refusal : (rows most : ℕ) (slice : List ℕ) → ℕ
+check_refusal rows most slice = 25 when not (good rows most slice)
 
 -- 'A slice that breaks these rules, or an order number outside its range, gets 25'; 'an absent lot gives 46'. Finding and taking out answer alike
-unfoldable pub absentRefusal : (rows most : ℕ) (slice : List ℕ) (number : ℕ) → ℕ
-absentRefusal rows most slice number =
-    25 when not (good rows most slice && orderNumber number)
+unfoldable pub absent_refusal : (rows most : ℕ) (slice : List ℕ) (number : ℕ) → ℕ
+absent_refusal rows most slice number =
+    25 when not (good rows most slice && order_number number)
     orelse 46 when not (present rows slice number)
 
 -- the paper's number of each answer, and where the body starts and how many documents it has, 0 beside a code
-abbrev pub checkNumber : CheckAnswer → ℕ
-checkNumber CheckAnswer.Good = 0
-checkNumber CheckAnswer.Wrong = 25
+abbrev pub check_number : CheckAnswer → ℕ
+check_number CheckAnswer.Good = 0
+check_number CheckAnswer.Wrong = 25
 
-abbrev pub findShown : FindAnswer → FindShown
-findShown (FindAnswer.Found start documents) = record { code = 0; start = start; documents = documents }
-findShown FindAnswer.Wrong = record { code = 25; start = 0; documents = 0 }
-findShown FindAnswer.Absent = record { code = 46; start = 0; documents = 0 }
+abbrev pub find_shown : FindAnswer → FindShown
+find_shown (FindAnswer.Found start documents) = record { code = 0; start = start; documents = documents }
+find_shown FindAnswer.Wrong = record { code = 25; start = 0; documents = 0 }
+find_shown FindAnswer.Absent = record { code = 46; start = 0; documents = 0 }
 
 -- the row that an unrefused call finds
-abbrev pub foundRow : (rows most : ℕ) (slice : List ℕ) (number : ℕ) → Row
-foundRow rows most slice number = cond (eqb (absentRefusal rows most slice number) 0) (rowFor (usedRows rows slice) number) no_row
+abbrev pub found_row : (rows most : ℕ) (slice : List ℕ) (number : ℕ) → Row
+found_row rows most slice number = cond (eqb (absent_refusal rows most slice number) 0) (row_for (used_rows rows slice) number) no_row
 
 unfoldable pub found : (rows most : ℕ) (slice : List ℕ) (number : ℕ) → FindShown
 found rows most slice number =
-    let r = foundRow rows most slice number in
-    record { code = absentRefusal rows most slice number; start = r.start; documents = r.documents }
+    let r = found_row rows most slice number in
+    record { code = absent_refusal rows most slice number; start = r.start; documents = r.documents }
 
 -- the documents that it hands out, as a part of the slice; none beside a code
-unfoldable pub bodyFound : (rows most : ℕ) (slice : List ℕ) (number : ℕ) → List ℕ
-bodyFound rows most slice number = cond (eqb (absentRefusal rows most slice number) 0) (bodyIn (lotsIn rows slice) number) []
+unfoldable pub body_found : (rows most : ℕ) (slice : List ℕ) (number : ℕ) → List ℕ
+body_found rows most slice number = cond (eqb (absent_refusal rows most slice number) 0) (body_in (lots_in rows slice) number) []

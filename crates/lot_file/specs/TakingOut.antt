@@ -1,14 +1,14 @@
 -- 02, card 7: 'A lot that its bank has collected is taken out, later rows and bodies move down, bytes past the new last body keep their values.'
 use Rattle.std.specs.Prelude.{ℕ, cond, List, [], ◌∷◌, eqb}
 use Rattle.lot_file.specs.declared.answers.TakeAnswer.{TakeAnswer}
-use Rattle.lot_file.specs.Layout.{Stored, fileOf, over}
-use Rattle.lot_file.specs.Reading.{lotsIn, absentRefusal}
+use Rattle.lot_file.specs.Layout.{Stored, file_of, over}
+use Rattle.lot_file.specs.Reading.{lots_in, absent_refusal}
 
 -- the paper's number of each answer
-abbrev pub takeNumber : TakeAnswer → ℕ
-takeNumber TakeAnswer.TakenOut = 0
-takeNumber TakeAnswer.Wrong = 25
-takeNumber TakeAnswer.Absent = 46
+abbrev pub take_number : TakeAnswer → ℕ
+take_number TakeAnswer.TakenOut = 0
+take_number TakeAnswer.Wrong = 25
+take_number TakeAnswer.Absent = 46
 
 -- the lots but the one of a number
 unfoldable pub without : (number : ℕ) → List Stored → List Stored
@@ -16,6 +16,6 @@ without number [] = []
 without number (lot ∷ lots) = cond (eqb number lot.number) lots (lot ∷ without number lots)
 
 -- every byte of the slice: the file of the other lots, or as it was where the call is refused
-unfoldable pub takenOut : (rows most : ℕ) (slice : List ℕ) (number : ℕ) → List ℕ
-takenOut rows most slice number =
-    cond (eqb (absentRefusal rows most slice number) 0) (over (fileOf rows (without number (lotsIn rows slice))) slice) slice
+unfoldable pub taken_out : (rows most : ℕ) (slice : List ℕ) (number : ℕ) → List ℕ
+taken_out rows most slice number =
+    cond (eqb (absent_refusal rows most slice number) 0) (over (file_of rows (without number (lots_in rows slice))) slice) slice

@@ -1,8 +1,8 @@
 // A lot added to a file, last.
 ghost use Rattle.std.specs.Prelude.{◌≡◌, suc, ◌+◌, ◌≤◌, length};
-ghost use Rattle.session.specs.Limits.{mostLots, mostLotDocuments};
-ghost use Rattle.lot_file.specs.Layout.{tableBytes};
-ghost use Rattle.lot_file.specs.Adding.{trayGood, addRefusal, addNumber, added};
+ghost use Rattle.session.specs.Limits.{most_lots, most_lot_documents};
+ghost use Rattle.lot_file.specs.Layout.{table_bytes};
+ghost use Rattle.lot_file.specs.Adding.{tray_good, add_refusal, add_number, added};
 ghost use Rattle.lot_file.specs.Inner.Moving.{appended};
 
 use crate::answers::AddAnswer;
@@ -13,7 +13,7 @@ use document::DOCUMENT_BYTES;
 use packed::writing::copy;
 
 fn tray_good(tray: &[u8]) -> bool
-    ensures { result ≡ trayGood mostLotDocuments tray.now }
+    ensures { result ≡ tray_good most_lot_documents tray.now }
 {
     let documents = tray.len() / DOCUMENT_BYTES;
     (tray.len() % DOCUMENT_BYTES == 0) & ((1 <= documents) & (documents <= MOST_DOCUMENTS))
@@ -21,7 +21,7 @@ fn tray_good(tray: &[u8]) -> bool
 
 // Writes the row and the body of a lot behind so many used rows, whose last body ends at `end`.
 fn append(file: &mut [u8], used: usize, end: usize, number: usize, tray: &[u8])
-    requires used_bound { tableBytes (suc used) ≤ end }
+    requires used_bound { table_bytes (suc used) ≤ end }
     requires tray_in_bounds { end + length tray.now ≤ length file.old }
     ensures { file.new ≡ appended used end number tray.now file.old }
 {
@@ -36,8 +36,8 @@ fn append(file: &mut [u8], used: usize, end: usize, number: usize, tray: &[u8])
 
 // Adds the lot of a number with the documents of a tray.
 pub fn add(file: &mut [u8], number: u32, tray: &[u8]) -> AddAnswer
-    ensures answer { addNumber result ≡ addRefusal mostLots mostLotDocuments file.old number tray.now }
-    ensures after { file.new ≡ added mostLots mostLotDocuments file.old number tray.now }
+    ensures answer { add_number result ≡ add_refusal most_lots most_lot_documents file.old number tray.now }
+    ensures after { file.new ≡ added most_lots most_lot_documents file.old number tray.now }
 {
     let wanted = number as usize;
     let c = contents_of(file, ROWS, MOST_DOCUMENTS);

@@ -1,8 +1,8 @@
 // What the calls of a lot file answer, and the paper's number of each.
 ghost use Rattle.std.specs.Prelude.{◌≡◌};
-ghost use Rattle.lot_file.specs.Reading.{checkNumber, findShown};
-ghost use Rattle.lot_file.specs.Adding.{addNumber};
-ghost use Rattle.lot_file.specs.TakingOut.{takeNumber};
+ghost use Rattle.lot_file.specs.Reading.{check_number, find_shown};
+ghost use Rattle.lot_file.specs.Adding.{add_number};
+ghost use Rattle.lot_file.specs.TakingOut.{take_number};
 
 #[derive(Drop)]
 pub enum CheckAnswer {
@@ -43,7 +43,7 @@ pub enum TakeAnswer {
 }
 
 pub fn check_number(a: CheckAnswer) -> u8
-    ensures { result ≡ checkNumber a }
+    ensures { result ≡ check_number a }
 {
     match a {
         CheckAnswer::Good => 0,
@@ -52,7 +52,7 @@ pub fn check_number(a: CheckAnswer) -> u8
 }
 
 pub fn find_shown(a: FindAnswer) -> FindShown
-    ensures { result ≡ findShown a }
+    ensures { result ≡ find_shown a }
 {
     match a {
         FindAnswer::Found(start, documents) => FindShown {
@@ -74,7 +74,7 @@ pub fn find_shown(a: FindAnswer) -> FindShown
 }
 
 pub fn add_number(a: AddAnswer) -> u8
-    ensures { result ≡ addNumber a }
+    ensures { result ≡ add_number a }
 {
     match a {
         AddAnswer::Added => 0,
@@ -85,7 +85,7 @@ pub fn add_number(a: AddAnswer) -> u8
 }
 
 pub fn take_number(a: TakeAnswer) -> u8
-    ensures { result ≡ takeNumber a }
+    ensures { result ≡ take_number a }
 {
     match a {
         TakeAnswer::TakenOut => 0,

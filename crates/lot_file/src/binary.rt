@@ -2,7 +2,7 @@
 ghost use Rattle.std.specs.Prelude.{◌≡◌, ◌+◌, ◌≤◌, ◌<◌, length};
 ghost use Rattle.std.proofs.lemmas.List.Edits.{sets};
 ghost use Rattle.packed.specs.Part.{part};
-ghost use Rattle.lot_file.specs.Layout.{binary, binaryBytes};
+ghost use Rattle.lot_file.specs.Layout.{binary, binary_bytes};
 
 // What two bytes count up to.
 pub const TWO_BYTES: usize = 65_536;
@@ -26,7 +26,7 @@ pub fn read4(s: &[u8], at: usize) -> usize
 
 pub fn put2(d: &mut [u8], at: usize, value: usize)
     requires { at + 2 ≤ length d.old }
-    ensures { d.new ≡ sets d.old at (binaryBytes 2 value) }
+    ensures { d.new ≡ sets d.old at (binary_bytes 2 value) }
 {
     d[at] = (value / 256 % 256) as u8;
     d[at + 1] = (value % 256) as u8;
@@ -34,7 +34,7 @@ pub fn put2(d: &mut [u8], at: usize, value: usize)
 
 pub fn put4(d: &mut [u8], at: usize, value: usize)
     requires { at + 4 ≤ length d.old }
-    ensures { d.new ≡ sets d.old at (binaryBytes 4 value) }
+    ensures { d.new ≡ sets d.old at (binary_bytes 4 value) }
 {
     put2(d, at, value / TWO_BYTES);
     put2(d, at + 2, value);

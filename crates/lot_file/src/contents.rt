@@ -1,10 +1,10 @@
 // What a slice contains, judged in one pass over its table.
 ghost use Rattle.std.specs.Prelude.{◌≡◌, true, ◌-◌, ◌≤◌, eqb, length};
 ghost use Rattle.packed.specs.Part.{part};
-ghost use Rattle.packed.specs.Every.{every, member, noneAbove};
-ghost use Rattle.lot_file.specs.Layout.{tableBytes};
-ghost use Rattle.lot_file.specs.Good.{rowsIn, numbersOf, good};
-ghost use Rattle.lot_file.specs.Inner.Contents.{mostRows, walkedOf, ToldOf};
+ghost use Rattle.packed.specs.Every.{every, member, none_above};
+ghost use Rattle.lot_file.specs.Layout.{table_bytes};
+ghost use Rattle.lot_file.specs.Good.{rows_in, numbers_of, good};
+ghost use Rattle.lot_file.specs.Inner.Contents.{most_rows, walked_of, ToldOf};
 
 use crate::row::{ROW_BYTES, row_at, row_good};
 use crate::search::place_of;
@@ -27,9 +27,9 @@ pub struct Contents {
 // Whether one of the rows so far has a number. None of them has a larger one than `largest`: lots mostly come in the order
 // of their numbers, and then no row is looked at.
 fn seen(file: &[u8], rows: usize, largest: usize, number: usize) -> bool
-    requires rows_in_bounds { tableBytes rows ≤ length file.now }
-    requires file_value { noneAbove largest (numbersOf (rowsIn rows file.now)) ≡ true }
-    ensures { result ≡ member number (numbersOf (rowsIn rows file.now)) }
+    requires rows_in_bounds { table_bytes rows ≤ length file.now }
+    requires file_value { none_above largest (numbers_of (rows_in rows file.now)) ≡ true }
+    ensures { result ≡ member number (numbers_of (rows_in rows file.now)) }
 {
     if largest < number {
         return false;
@@ -49,9 +49,9 @@ fn larger(a: usize, b: usize) -> usize
 
 // Goes through the used rows.
 fn walked(file: &[u8], rows: usize, most: usize) -> Contents
-    requires rows_in_bounds { tableBytes rows ≤ length file.now }
-    requires rows_le_most_rows { rows ≤ mostRows }
-    ensures { result ≡ walkedOf rows most file.now }
+    requires rows_in_bounds { table_bytes rows ≤ length file.now }
+    requires rows_le_most_rows { rows ≤ most_rows }
+    ensures { result ≡ walked_of rows most file.now }
 {
     let mut good = true;
     let mut used: usize = 0;
@@ -96,7 +96,7 @@ fn all_zero(file: &[u8], from: usize, to: usize) -> bool
 // The contents of a slice with so many rows and lots of at most so many documents. Beside a slice that is not good the two
 // numbers mean nothing.
 pub fn contents_of(file: &[u8], rows: usize, most: usize) -> Contents
-    requires { rows ≤ mostRows }
+    requires { rows ≤ most_rows }
     ensures verdict { result.good ≡ good rows most file.now }
     ensures told { result.good ≡ true → ToldOf rows file.now result }
 {

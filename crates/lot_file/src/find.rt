@@ -1,7 +1,7 @@
 // A lot found by its order number: where it stands, and its documents.
 ghost use Rattle.std.specs.Prelude.{◌≡◌};
-ghost use Rattle.session.specs.Limits.{mostLots, mostLotDocuments};
-ghost use Rattle.lot_file.specs.Reading.{findShown, found, bodyFound};
+ghost use Rattle.session.specs.Limits.{most_lots, most_lot_documents};
+ghost use Rattle.lot_file.specs.Reading.{find_shown, found, body_found};
 
 use crate::answers::{FindAnswer, find_shown};
 use crate::contents::{MOST_DOCUMENTS, ROWS, contents_of};
@@ -10,7 +10,7 @@ use crate::search::place_of;
 use document::DOCUMENT_BYTES;
 
 pub fn find(file: &[u8], number: u32) -> FindAnswer
-    ensures { findShown result ≡ found mostLots mostLotDocuments file.now number }
+    ensures { find_shown result ≡ found most_lots most_lot_documents file.now number }
 {
     let wanted = number as usize;
     let c = contents_of(file, ROWS, MOST_DOCUMENTS);
@@ -27,7 +27,7 @@ pub fn find(file: &[u8], number: u32) -> FindAnswer
 
 // The documents of a lot, as a part of the slice; nothing where `find` gives a code.
 pub fn body<'a>(file: &'a [u8], number: u32) -> &'a [u8]
-    ensures { result.now ≡ bodyFound mostLots mostLotDocuments file.now number }
+    ensures { result.now ≡ body_found most_lots most_lot_documents file.now number }
 {
     let shown = find_shown(find(file, number));
     let start = shown.start as usize;

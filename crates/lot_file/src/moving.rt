@@ -2,9 +2,9 @@
 ghost use Rattle.std.specs.Prelude.{◌≡◌, ◌-◌, ◌≤◌, ◌<◌, length};
 ghost use Rattle.std.proofs.lemmas.List.Edits.{sets};
 ghost use Rattle.packed.specs.Part.{part};
-ghost use Rattle.lot_file.specs.Layout.{tableBytes};
-ghost use Rattle.lot_file.specs.Inner.Moving.{tableClosed, Closable, closed};
-ghost use Rattle.lot_file.specs.Inner.Contents.{mostRows};
+ghost use Rattle.lot_file.specs.Layout.{table_bytes};
+ghost use Rattle.lot_file.specs.Inner.Moving.{table_closed, Closable, closed};
+ghost use Rattle.lot_file.specs.Inner.Contents.{most_rows};
 
 use crate::row::{ROW_BYTES, Row, put_row, row_at};
 use document::DOCUMENT_BYTES;
@@ -12,10 +12,10 @@ use document::DOCUMENT_BYTES;
 // Moves the rows behind a place, of so many in all, down by one. The first of their bodies now starts at `start`.
 fn close_rows(file: &mut [u8], place: usize, used: usize, start: usize)
     requires place_lt_used { place < used }
-    requires used_le_most_rows { used ≤ mostRows }
-    requires used_in_bounds { tableBytes used ≤ length file.old }
+    requires used_le_most_rows { used ≤ most_rows }
+    requires used_in_bounds { table_bytes used ≤ length file.old }
     requires start_bound { start < 4294967296 }
-    ensures { file.new ≡ tableClosed place used start file.old }
+    ensures { file.new ≡ table_closed place used start file.old }
 {
     let mut next = start;
     let mut i = place;

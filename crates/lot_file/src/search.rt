@@ -1,7 +1,7 @@
 // An order number looked for among the first rows of a table.
 ghost use Rattle.std.specs.Prelude.{◌≡◌, ◌≤◌, length};
-ghost use Rattle.lot_file.specs.Layout.{tableBytes};
-ghost use Rattle.lot_file.specs.Good.{rowsIn, numbersOf};
+ghost use Rattle.lot_file.specs.Layout.{table_bytes};
+ghost use Rattle.lot_file.specs.Good.{rows_in, numbers_of};
 ghost use Rattle.lot_file.specs.Inner.Search.{place_of};
 
 use crate::binary::read2;
@@ -9,8 +9,8 @@ use crate::row::ROW_BYTES;
 
 // The place of the first of so many rows that has a number; how many there are where none has it.
 pub fn place_of(file: &[u8], rows: usize, number: usize) -> usize
-    requires { tableBytes rows ≤ length file.now }
-    ensures { result ≡ place_of number (numbersOf (rowsIn rows file.now)) }
+    requires { table_bytes rows ≤ length file.now }
+    ensures { result ≡ place_of number (numbers_of (rows_in rows file.now)) }
 {
     let mut place: usize = 0;
     while place < rows {

@@ -2,78 +2,78 @@
 use Rattle.std.specs.Prelude.{ℕ, ◌+◌, Bool, not, ◌&&◌, List, [], ◌∷◌, ◌++◌, eqb, length, drop}
 use Rattle.packed.specs.Part.{byte_at}
 use Rattle.codes.specs.Chain.{◌when◌}
-use Rattle.codes.specs.Field.{Field, row, any, between, fieldNumber, tableGood, tableNumbers, tableWritten}
-use Rattle.codes.specs.Refusal.{refusalNumber}
+use Rattle.codes.specs.Field.{Field, row, any, between, field_number, table_good, table_numbers, table_written}
+use Rattle.codes.specs.Refusal.{refusal_number}
 use Rattle.codes.specs.declared.refusal.Refusal.{Refusal}
 use Rattle.message.specs.declared.envelope.Kind.{Kind}
 use Rattle.message.specs.declared.envelope.Envelope.{Envelope}
 use Rattle.message.specs.declared.envelope.ReadEnvelope.{ReadEnvelope}
-use Rattle.message.specs.Limits.{firstPosition, envelopeBytes, largestSerial, messageRoom, replyRoom}
-use Rattle.message.specs.Route.{routeValues}
+use Rattle.message.specs.Limits.{first_position, envelope_bytes, largest_serial, message_room, reply_room}
+use Rattle.message.specs.Route.{route_values}
 use Rattle.message.specs.Reading.{Reading, reading}
 
 -- 01 a message, 02 a reply
-abbrev pub kindByte : Kind → ℕ
-kindByte Kind.Message = 0x01
-kindByte Kind.Reply = 0x02
+abbrev pub kind_byte : Kind → ℕ
+kind_byte Kind.Message = 0x01
+kind_byte Kind.Reply = 0x02
 
 -- how long envelope and body may be together: 13 to 10,412 bytes, a reply 16
-abbrev pub lengthGood : Kind → ℕ → Bool
-lengthGood Kind.Message n = between (envelopeBytes + 1) messageRoom n
-lengthGood Kind.Reply n = eqb n replyRoom
+abbrev pub length_good : Kind → ℕ → Bool
+length_good Kind.Message n = between (envelope_bytes + 1) message_room n
+length_good Kind.Reply n = eqb n reply_room
 
 -- a field whose fault is 21
-abbrev pub envelopeField : (position width : ℕ) → (ℕ → Bool) → Field
-envelopeField p w rule = row 21 p w rule
+abbrev pub envelope_field : (position width : ℕ) → (ℕ → Bool) → Field
+envelope_field p w rule = row 21 p w rule
 
 -- position, bytes, rule
-abbrev pub dateField : Field
-dateField = envelopeField 2 3 any
+abbrev pub date_field : Field
+date_field = envelope_field 2 3 any
 
-abbrev pub presentingField : Field
-presentingField = envelopeField 5 2 any
+abbrev pub presenting_field : Field
+presenting_field = envelope_field 5 2 any
 
-abbrev pub receivingField : Field
-receivingField = envelopeField 7 2 any
+abbrev pub receiving_field : Field
+receiving_field = envelope_field 7 2 any
 
-abbrev pub serialField : Field
-serialField = envelopeField 9 4 (between 1 largestSerial)
+abbrev pub serial_field : Field
+serial_field = envelope_field 9 4 (between 1 largest_serial)
 
 -- all of them, after the kind
-unfoldable pub envelopeFields : List Field
-envelopeFields = dateField ∷ presentingField ∷ receivingField ∷ serialField ∷ []
+unfoldable pub envelope_fields : List Field
+envelope_fields = date_field ∷ presenting_field ∷ receiving_field ∷ serial_field ∷ []
 
 -- 21 otherwise: length, kind, digits, a serial
-unfoldable pub envelopeGood : Kind → List ℕ → Bool
-envelopeGood kind bytes = lengthGood kind (length bytes) && eqb (byte_at 1 bytes) (kindByte kind) && tableGood firstPosition 21 envelopeFields bytes
+unfoldable pub envelope_good : Kind → List ℕ → Bool
+envelope_good kind bytes = length_good kind (length bytes) && eqb (byte_at 1 bytes) (kind_byte kind) && table_good first_position 21 envelope_fields bytes
 
 -- 21, or the four numbers
-abbrev pub readEnvelope : Kind → List ℕ → Reading
-readEnvelope kind bytes = reading (21 when not (envelopeGood kind bytes)) (tableNumbers firstPosition envelopeFields bytes)
+abbrev pub read_envelope : Kind → List ℕ → Reading
+read_envelope kind bytes = reading (21 when not (envelope_good kind bytes)) (table_numbers first_position envelope_fields bytes)
 
 -- the numbers of an envelope, in the order of the table
-abbrev pub envelopeValues : Envelope → List ℕ
-envelopeValues e = routeValues e.route ++ e.serial ∷ []
+abbrev pub envelope_values : Envelope → List ℕ
+envelope_values e = route_values e.route ++ e.serial ∷ []
 
 -- and an envelope of the numbers that some bytes hold
-abbrev pub envelopeOf : List ℕ → Envelope
-envelopeOf bytes =
-    let at = fieldNumber firstPosition bytes in
-    record { route = record { date = at dateField; presenting = at presentingField; receiving = at receivingField }; serial = at serialField }
+abbrev pub envelope_of : List ℕ → Envelope
+envelope_of bytes =
+    let at = field_number first_position bytes in
+    record { route = record { date = at date_field; presenting = at presenting_field; receiving = at receiving_field }; serial = at serial_field }
 
 -- its serial
-abbrev pub serialOf : List ℕ → ℕ
-serialOf bytes = (envelopeOf bytes).serial
+abbrev pub serial_of : List ℕ → ℕ
+serial_of bytes = (envelope_of bytes).serial
 
 -- what the answer of a reading says
-abbrev pub envelopeSaid : ReadEnvelope → Reading
-envelopeSaid (ReadEnvelope.Read e) = reading 0 (envelopeValues e)
-envelopeSaid ReadEnvelope.Wrong = reading (refusalNumber Refusal.WrongEnvelope) []
+abbrev pub envelope_said : ReadEnvelope → Reading
+envelope_said (ReadEnvelope.Read e) = reading 0 (envelope_values e)
+envelope_said ReadEnvelope.Wrong = reading (refusal_number Refusal.WrongEnvelope) []
 
 -- as it is written: the kind, then the fields
-abbrev pub writtenEnvelope : Kind → Envelope → List ℕ
-writtenEnvelope kind e = kindByte kind ∷ tableWritten envelopeFields (envelopeValues e)
+abbrev pub written_envelope : Kind → Envelope → List ℕ
+written_envelope kind e = kind_byte kind ∷ table_written envelope_fields (envelope_values e)
 
 -- what follows an envelope
 abbrev pub body_of : List ℕ → List ℕ
-body_of bytes = drop envelopeBytes bytes
+body_of bytes = drop envelope_bytes bytes

@@ -1,64 +1,64 @@
 -- 01, 'Header': what opens a lot.
 use Rattle.std.specs.Prelude.{ℕ, ◌/◌, ◌%◌, Bool, ◌&&◌, List, [], ◌∷◌, ◌++◌, leb, ltb}
-use Rattle.codes.specs.Field.{Field, field, any, between, exactly, fieldNumber}
-use Rattle.codes.specs.Code.{codeNumber}
+use Rattle.codes.specs.Field.{Field, field, any, between, exactly, field_number}
+use Rattle.codes.specs.Code.{code_number}
 use Rattle.codes.specs.declared.code.Code.{Code}
 use Rattle.message.specs.declared.route.Route.{Route}
 use Rattle.message.specs.declared.header.Header.{Header}
 use Rattle.message.specs.declared.header.ReadHeader.{ReadHeader}
-use Rattle.message.specs.Limits.{firstPosition, headerBytes, largestOrderNumber, largestCentre}
+use Rattle.message.specs.Limits.{first_position, header_bytes, largest_order_number, largest_centre}
 use Rattle.message.specs.Reading.{Reading, reading}
-use Rattle.message.specs.Route.{routeValues}
+use Rattle.message.specs.Route.{route_values}
 use Rattle.message.specs.Layout.{Layout}
-use Rattle.message.specs.Content.{headerOperation}
+use Rattle.message.specs.Content.{header_operation}
 
 -- hhmmsscc: a time of day, to the hundredth of a second
-abbrev pub timeOfDay : ℕ → Bool
-timeOfDay v = ltb (v / 1000000) 24 && ltb (v / 10000 % 100) 60 && ltb (v / 100 % 100) 60
+abbrev pub time_of_day : ℕ → Bool
+time_of_day v = ltb (v / 1000000) 24 && ltb (v / 10000 % 100) 60 && ltb (v / 100 % 100) 60
 
 -- 0001 to 9999
-abbrev pub orderNumber : ℕ → Bool
-orderNumber v = between 1 largestOrderNumber v
+abbrev pub order_number : ℕ → Bool
+order_number v = between 1 largest_order_number v
 
 -- the fields that are neither the session's nor fixed
-abbrev pub timeField : Field
-timeField = field 4 4 timeOfDay
+abbrev pub time_field : Field
+time_field = field 4 4 time_of_day
 
-abbrev pub centreField : Field
-centreField = field 15 2 any
+abbrev pub centre_field : Field
+centre_field = field 15 2 any
 
-abbrev pub orderField : Field
-orderField = field 17 2 orderNumber
+abbrev pub order_field : Field
+order_field = field 17 2 order_number
 
 -- position, bytes, rule; date and entities are those of the direction
-unfoldable pub headerFields : Route → List Field
-headerFields route =
-    timeField  -- 4-7
+unfoldable pub header_fields : Route → List Field
+header_fields route =
+    time_field  -- 4-7
     ∷ field 8 3 (exactly route.date)
     ∷ field 11 2 (exactly route.presenting)
     ∷ field 13 2 (exactly route.receiving)
-    ∷ centreField  -- 15-16
-    ∷ orderField  -- 17-18
+    ∷ centre_field  -- 15-16
+    ∷ order_field  -- 17-18
     ∷ field 19 1 (exactly 0)
     ∷ []
 
 -- 19 bytes, operation 01
 abbrev pub header : Route → Layout
-header route = record { bytes = headerBytes; operation = headerOperation; fields = headerFields route }
+header route = record { bytes = header_bytes; operation = header_operation; fields = header_fields route }
 
 -- the numbers of a header, in the order of the table
-abbrev pub headerValues : Route → Header → List ℕ
-headerValues route h = h.time ∷ routeValues route ++ h.centre ∷ h.number ∷ 0 ∷ []
+abbrev pub header_values : Route → Header → List ℕ
+header_values route h = h.time ∷ route_values route ++ h.centre ∷ h.number ∷ 0 ∷ []
 
 -- and a header of the numbers that a body holds
-abbrev pub headerOf : List ℕ → Header
-headerOf body = record { time = fieldNumber firstPosition body timeField; centre = fieldNumber firstPosition body centreField; number = fieldNumber firstPosition body orderField }
+abbrev pub header_of : List ℕ → Header
+header_of body = record { time = field_number first_position body time_field; centre = field_number first_position body centre_field; number = field_number first_position body order_field }
 
 -- what the answer of a reading says
-abbrev pub headerSaid : Route → ReadHeader → Reading
-headerSaid route (ReadHeader.Read h) = reading 0 (headerValues route h)
-headerSaid route ReadHeader.Wrong = reading (codeNumber Code.WrongField) []
+abbrev pub header_said : Route → ReadHeader → Reading
+header_said route (ReadHeader.Read h) = reading 0 (header_values route h)
+header_said route ReadHeader.Wrong = reading (code_number Code.WrongField) []
 
 -- what a presenter may put into a header; the rest is the session's
-unfoldable pub headerSendable : (time centre number : ℕ) → Bool
-headerSendable time centre number = timeOfDay time && leb centre largestCentre && orderNumber number
+unfoldable pub header_sendable : (time centre number : ℕ) → Bool
+header_sendable time centre number = time_of_day time && leb centre largest_centre && order_number number

@@ -2,30 +2,30 @@
 -- writing gives its bytes, free bytes becoming 00. All four are proved in proofs/Laws/Line.
 use Rattle.std.specs.Prelude.{◌≡◌, true, List, ◌++◌, ℕ, take}
 use Rattle.codes.specs.Body.{cleared}
-use Rattle.codes.specs.Field.{tableTakes}
+use Rattle.codes.specs.Field.{table_takes}
 use Rattle.message.specs.declared.envelope.Envelope.{Envelope}
 use Rattle.message.specs.declared.envelope.Kind.{Kind}
 use Rattle.message.specs.declared.envelope.ReadEnvelope.{ReadEnvelope}
 use Rattle.message.specs.declared.reply.Reply.{Reply}
 use Rattle.message.specs.declared.reply.ReadReply.{ReadReply}
-use Rattle.message.specs.Limits.{envelopeBytes}
+use Rattle.message.specs.Limits.{envelope_bytes}
 use Rattle.message.specs.Reading.{reading}
 use Rattle.message.specs.Layout.{read_body}
-use Rattle.message.specs.Envelope.{envelopeFields, envelopeValues, readEnvelope, envelopeSaid, body_of}
-use Rattle.message.specs.Reply.{readReply, replySaid}
-use Rattle.message.specs.Line.{Body, layout_of, values_of, bodyBytes, wholeMessage, wholeReply}
+use Rattle.message.specs.Envelope.{envelope_fields, envelope_values, read_envelope, envelope_said, body_of}
+use Rattle.message.specs.Reply.{read_reply, reply_said}
+use Rattle.message.specs.Line.{Body, layout_of, values_of, body_bytes, whole_message, whole_reply}
 
 -- its numbers are such as the fields of an envelope take
 abbrev pub EnvelopeFits : Envelope → Type 0
-EnvelopeFits e = tableTakes envelopeFields (envelopeValues e) ≡ true
+EnvelopeFits e = table_takes envelope_fields (envelope_values e) ≡ true
 
 -- and those of a body in its direction
 abbrev pub BodyFits : Envelope → Body → Type 0
-BodyFits e x = tableTakes (layout_of e.route x).fields (values_of e.route x) ≡ true
+BodyFits e x = table_takes (layout_of e.route x).fields (values_of e.route x) ≡ true
 
 -- some bytes are read as this envelope
 abbrev pub EnvelopeRead : Kind → Envelope → (bytes : List ℕ) → Type 0
-EnvelopeRead kind e bytes = readEnvelope kind bytes ≡ envelopeSaid (ReadEnvelope.Read e)
+EnvelopeRead kind e bytes = read_envelope kind bytes ≡ envelope_said (ReadEnvelope.Read e)
 
 -- a body is read as this one
 abbrev pub BodyRead : Envelope → Body → (body : List ℕ) → Type 0
@@ -36,21 +36,21 @@ abbrev pub MessageRead : Envelope → Body → (bytes : List ℕ) → Type 0
 MessageRead e x bytes = EnvelopeRead Kind.Message e bytes × BodyRead e x (body_of bytes)
 
 -- the bytes of a message or a reply, with the free byte of its body 00
-abbrev pub clearedBody : (bytes : List ℕ) → List ℕ
-clearedBody bytes = take envelopeBytes bytes ++ cleared (body_of bytes)
+abbrev pub cleared_body : (bytes : List ℕ) → List ℕ
+cleared_body bytes = take envelope_bytes bytes ++ cleared (body_of bytes)
 
 -- a message that is written and read
 abbrev pub MessageWrittenThenRead : Type 0
-MessageWrittenThenRead = (e : Envelope) (x : Body) → EnvelopeFits e → BodyFits e x → MessageRead e x (wholeMessage e (bodyBytes e.route x))
+MessageWrittenThenRead = (e : Envelope) (x : Body) → EnvelopeFits e → BodyFits e x → MessageRead e x (whole_message e (body_bytes e.route x))
 
 -- a message that is read and written
 abbrev pub MessageReadThenWritten : Type 0
-MessageReadThenWritten = (e : Envelope) (x : Body) (bytes : List ℕ) → MessageRead e x bytes → wholeMessage e (bodyBytes e.route x) ≡ clearedBody bytes
+MessageReadThenWritten = (e : Envelope) (x : Body) (bytes : List ℕ) → MessageRead e x bytes → whole_message e (body_bytes e.route x) ≡ cleared_body bytes
 
 -- a reply that is written and read
 abbrev pub ReplyWrittenThenRead : Type 0
-ReplyWrittenThenRead = (e : Envelope) (r : Reply) → EnvelopeFits e → EnvelopeRead Kind.Reply e (wholeReply e r) × (readReply (body_of (wholeReply e r)) ≡ replySaid (ReadReply.Read r))
+ReplyWrittenThenRead = (e : Envelope) (r : Reply) → EnvelopeFits e → EnvelopeRead Kind.Reply e (whole_reply e r) × (read_reply (body_of (whole_reply e r)) ≡ reply_said (ReadReply.Read r))
 
 -- a reply that is read and written
 abbrev pub ReplyReadThenWritten : Type 0
-ReplyReadThenWritten = (e : Envelope) (r : Reply) (bytes : List ℕ) → EnvelopeRead Kind.Reply e bytes → readReply (body_of bytes) ≡ replySaid (ReadReply.Read r) → wholeReply e r ≡ clearedBody bytes
+ReplyReadThenWritten = (e : Envelope) (r : Reply) (bytes : List ℕ) → EnvelopeRead Kind.Reply e bytes → read_reply (body_of bytes) ≡ reply_said (ReadReply.Read r) → whole_reply e r ≡ cleared_body bytes

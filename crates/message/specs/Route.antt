@@ -3,9 +3,9 @@ use Rattle.std.specs.Prelude.{ℕ, Bool, ◌&&◌, List, [], ◌∷◌, eqb}
 use Rattle.message.specs.declared.route.Route.{Route}
 
 -- the numbers, in the order in which both carry them
-abbrev pub routeValues : Route → List ℕ
-routeValues r = r.date ∷ r.presenting ∷ r.receiving ∷ []
+abbrev pub route_values : Route → List ℕ
+route_values r = r.date ∷ r.presenting ∷ r.receiving ∷ []
 
 -- 33 otherwise: one date and one pair, in one direction
-abbrev pub sameRoute : Route → Route → Bool
-sameRoute r s = eqb r.date s.date && eqb r.presenting s.presenting && eqb r.receiving s.receiving
+abbrev pub same_route : Route → Route → Bool
+same_route r s = eqb r.date s.date && eqb r.presenting s.presenting && eqb r.receiving s.receiving

@@ -1,6 +1,6 @@
 // What a body is: its operation byte alone says it.
 ghost use Rattle.std.specs.Prelude.{◌≡◌};
-ghost use Rattle.message.specs.Content.{byOperation, contentOf};
+ghost use Rattle.message.specs.Content.{by_operation, content_of};
 
 use codes::body::operation_of;
 use document::{PRESENTED, RETURNED};
@@ -23,7 +23,7 @@ pub enum Content {
 }
 
 fn by_operation(operation: u8) -> Content
-    ensures { result ≡ byOperation operation }
+    ensures { result ≡ by_operation operation }
 {
     if operation == HEADER {
         return Content::Header;
@@ -42,7 +42,7 @@ fn by_operation(operation: u8) -> Content
 
 // A body under three bytes has no operation and is unknown.
 pub fn content_of(body: &[u8]) -> Content
-    ensures { result ≡ contentOf body.now }
+    ensures { result ≡ content_of body.now }
 {
     by_operation(operation_of(body))
 }

@@ -1,8 +1,8 @@
 // The envelope before every body: kind, route and serial.
 ghost use Rattle.std.specs.Prelude.{◌≡◌, ◌≤◌, length};
 ghost use Rattle.std.proofs.lemmas.List.Edits.{sets};
-ghost use Rattle.message.specs.Limits.{envelopeBytes};
-ghost use Rattle.message.specs.Envelope.{kindByte, lengthGood, envelopeOf, readEnvelope, envelopeSaid, writtenEnvelope};
+ghost use Rattle.message.specs.Limits.{envelope_bytes};
+ghost use Rattle.message.specs.Envelope.{kind_byte, length_good, envelope_of, read_envelope, envelope_said, written_envelope};
 
 use crate::reply::REPLY_BYTES;
 use crate::route::{Route, read_route, write_route};
@@ -49,7 +49,7 @@ pub enum ReadEnvelope {
 }
 
 fn kind_byte(kind: Kind) -> u8
-    ensures { result ≡ kindByte kind }
+    ensures { result ≡ kind_byte kind }
 {
     match kind {
         Kind::Message => 0x01,
@@ -59,7 +59,7 @@ fn kind_byte(kind: Kind) -> u8
 
 // Whether envelope and body have a length that the kind allows.
 fn length_good(kind: Kind, n: usize) -> bool
-    ensures { result ≡ lengthGood kind n }
+    ensures { result ≡ length_good kind n }
 {
     match kind {
         Kind::Message => (ENVELOPE_BYTES + 1 <= n) & (n <= MESSAGE_ROOM),
@@ -69,8 +69,8 @@ fn length_good(kind: Kind, n: usize) -> bool
 
 // Route and serial, whatever their digits.
 fn fields_of(bytes: &[u8]) -> Envelope
-    requires { envelopeBytes ≤ length bytes.now }
-    ensures { result ≡ envelopeOf bytes.now }
+    requires { envelope_bytes ≤ length bytes.now }
+    ensures { result ≡ envelope_of bytes.now }
 {
     Envelope {
         route: read_route(bytes, ROUTE),
@@ -80,7 +80,7 @@ fn fields_of(bytes: &[u8]) -> Envelope
 
 // The envelope of bytes that should be a message, or that should be a reply.
 pub fn read_envelope(bytes: &[u8], kind: Kind) -> ReadEnvelope
-    ensures { envelopeSaid result ≡ readEnvelope kind bytes.now }
+    ensures { envelope_said result ≡ read_envelope kind bytes.now }
 {
     if length_good(kind, bytes.len()) {
         let e = fields_of(bytes);
@@ -96,8 +96,8 @@ pub fn read_envelope(bytes: &[u8], kind: Kind) -> ReadEnvelope
 
 // Writes an envelope at the start of the line buffer; every other byte keeps its value.
 pub fn write_envelope(line: &mut [u8], kind: Kind, e: Envelope)
-    requires { envelopeBytes ≤ length line.old }
-    ensures { line.new ≡ sets line.old 0 (writtenEnvelope kind e) }
+    requires { envelope_bytes ≤ length line.old }
+    ensures { line.new ≡ sets line.old 0 (written_envelope kind e) }
 {
     let route = e.route;
     line[0] = kind_byte(kind);

@@ -2,11 +2,11 @@
 ghost use Rattle.std.specs.Prelude.{◌≡◌, ◌≤◌, length};
 ghost use Rattle.std.proofs.lemmas.List.Edits.{sets};
 ghost use Rattle.codes.specs.declared.code.Code.{Code};
-ghost use Rattle.codes.specs.Code.{codeNumber};
-ghost use Rattle.codes.specs.Field.{tableGood};
-ghost use Rattle.message.specs.Limits.{firstPosition, headerBytes};
-ghost use Rattle.message.specs.Layout.{read_body, writtenBody};
-ghost use Rattle.message.specs.Header.{timeOfDay, orderNumber, headerFields, header, headerValues, headerOf, headerSaid, headerSendable};
+ghost use Rattle.codes.specs.Code.{code_number};
+ghost use Rattle.codes.specs.Field.{table_good};
+ghost use Rattle.message.specs.Limits.{first_position, header_bytes};
+ghost use Rattle.message.specs.Layout.{read_body, written_body};
+ghost use Rattle.message.specs.Header.{time_of_day, order_number, header_fields, header, header_values, header_of, header_said, header_sendable};
 
 use crate::content::HEADER;
 use crate::layout::{FIELDS, fixed_shape, write_head};
@@ -51,28 +51,28 @@ pub enum ReadHeader {
 }
 
 fn time_of_day(v: u32) -> bool
-    ensures { result ≡ timeOfDay v }
+    ensures { result ≡ time_of_day v }
 {
     (v / 1_000_000 < 24) & (v / 10_000 % 100 < 60) & (v / 100 % 100 < 60)
 }
 
 fn order_number(v: u16) -> bool
-    ensures { result ≡ orderNumber v }
+    ensures { result ≡ order_number v }
 {
     (1 <= v) & (v <= LARGEST_ORDER_NUMBER)
 }
 
 // Whether a presenter may write a header of these.
 pub fn header_sendable(time: u32, centre: u16, number: u16) -> bool
-    ensures { result ≡ headerSendable time centre number }
+    ensures { result ≡ header_sendable time centre number }
 {
     time_of_day(time) & (centre <= LARGEST_CENTRE) & order_number(number)
 }
 
 // The three numbers, whatever their digits.
 fn fields_of(body: &[u8]) -> Header
-    requires { headerBytes ≤ length body.now }
-    ensures { result ≡ headerOf body.now }
+    requires { header_bytes ≤ length body.now }
+    ensures { result ≡ header_of body.now }
 {
     Header {
         time: number4(body, FIELDS),
@@ -83,9 +83,9 @@ fn fields_of(body: &[u8]) -> Header
 
 // Whether every field is good, of a body whose numbers are these.
 fn fields_good(body: &[u8], h: Header, route: Route) -> bool
-    requires header_bytes_in_bounds { headerBytes ≤ length body.now }
-    requires h_value { h ≡ headerOf body.now }
-    ensures { result ≡ tableGood firstPosition (codeNumber Code.WrongField) (headerFields route) body.now }
+    requires header_bytes_in_bounds { header_bytes ≤ length body.now }
+    requires h_value { h ≡ header_of body.now }
+    ensures { result ≡ table_good first_position (code_number Code.WrongField) (header_fields route) body.now }
 {
     are_digits(body, FIELDS, DIGITS)
         & time_of_day(h.time)
@@ -96,7 +96,7 @@ fn fields_good(body: &[u8], h: Header, route: Route) -> bool
 
 // A received body, in a direction of this route.
 pub fn read_header(body: &[u8], route: Route) -> ReadHeader
-    ensures { headerSaid route result ≡ read_body (header route) body.now }
+    ensures { header_said route result ≡ read_body (header route) body.now }
 {
     if fixed_shape(body, HEADER_BYTES, HEADER) {
         let h = fields_of(body);
@@ -109,8 +109,8 @@ pub fn read_header(body: &[u8], route: Route) -> ReadHeader
 
 // Writes a header's body at the start of `out`; every other byte keeps its value.
 pub fn write_header(out: &mut [u8], route: Route, h: Header)
-    requires { headerBytes ≤ length out.old }
-    ensures { out.new ≡ sets out.old 0 (writtenBody (header route) (headerValues route h)) }
+    requires { header_bytes ≤ length out.old }
+    ensures { out.new ≡ sets out.old 0 (written_body (header route) (header_values route h)) }
 {
     write_head(out, HEADER);
     put(out, FIELDS, 4, h.time as u64);

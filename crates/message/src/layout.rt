@@ -2,7 +2,7 @@
 ghost use Rattle.std.specs.Prelude.{◌≡◌, ◌∷◌, [], ◌≤◌, length};
 ghost use Rattle.std.proofs.lemmas.List.Edits.{sets};
 ghost use Rattle.codes.specs.Body.{free, mark};
-ghost use Rattle.message.specs.Layout.{fixedShape};
+ghost use Rattle.message.specs.Layout.{fixed_shape};
 
 use codes::body::MARK;
 
@@ -12,7 +12,7 @@ pub const FIELDS: usize = 3;
 // Whether a body has the length, the mark and the operation.
 pub fn fixed_shape(body: &[u8], bytes: usize, operation: u8) -> bool
     requires { 3 ≤ bytes }
-    ensures { result ≡ fixedShape bytes operation body.now }
+    ensures { result ≡ fixed_shape bytes operation body.now }
 {
     if body.len() == bytes {
         return (body[1] == MARK) & (body[2] == operation);

@@ -1,12 +1,12 @@
 // The reply's body: the operation that answers what was received, and a code.
 ghost use Rattle.std.specs.Prelude.{◌≡◌, not, [], ◌∷◌, ◌≤◌, length};
 ghost use Rattle.std.proofs.lemmas.List.Edits.{sets};
-ghost use Rattle.packed.specs.Number.{byteValue};
+ghost use Rattle.packed.specs.Number.{byte_value};
 ghost use Rattle.codes.specs.Chain.{◌when◌};
-ghost use Rattle.codes.specs.Code.{codeNumber};
-ghost use Rattle.message.specs.Limits.{replyBytes};
+ghost use Rattle.codes.specs.Code.{code_number};
+ghost use Rattle.message.specs.Limits.{reply_bytes};
 ghost use Rattle.message.specs.Reading.{reading};
-ghost use Rattle.message.specs.Reply.{operationNumber, operationByte, operationFor, knownOperation, readReply, replySaid, writtenReplyBody};
+ghost use Rattle.message.specs.Reply.{operation_number, operation_byte, operation_for, known_operation, read_reply, reply_said, written_reply_body};
 
 use crate::content::Content;
 use crate::layout::write_head;
@@ -39,7 +39,7 @@ pub enum ReadReply {
 
 // The paper's number.
 fn operation_number(o: ReplyOperation) -> u8
-    ensures { result ≡ operationNumber o }
+    ensures { result ≡ operation_number o }
 {
     match o {
         ReplyOperation::Other => 86,
@@ -49,14 +49,14 @@ fn operation_number(o: ReplyOperation) -> u8
 }
 
 pub fn operation_byte(o: ReplyOperation) -> u8
-    ensures { result ≡ operationByte o }
+    ensures { result ≡ operation_byte o }
 {
     packed_byte(operation_number(o) as u64)
 }
 
 // The operation of the reply to a body that is this.
 pub fn operation_for(c: Content) -> ReplyOperation
-    ensures { result ≡ operationFor c }
+    ensures { result ≡ operation_for c }
 {
     match c {
         Content::Header => ReplyOperation::Other,
@@ -69,7 +69,7 @@ pub fn operation_for(c: Content) -> ReplyOperation
 
 // A reply of an operation byte and a code.
 fn answered(operation: u8, code: Code) -> ReadReply
-    ensures { replySaid result ≡ reading (22 when not (knownOperation operation)) (byteValue operation ∷ codeNumber code ∷ []) }
+    ensures { reply_said result ≡ reading (22 when not (known_operation operation)) (byte_value operation ∷ code_number code ∷ []) }
 {
     if operation == operation_byte(ReplyOperation::Other) {
         return ReadReply::Read(Reply {
@@ -94,7 +94,7 @@ fn answered(operation: u8, code: Code) -> ReadReply
 
 // The body of a reply, of any bytes.
 pub fn read_reply(body: &[u8]) -> ReadReply
-    ensures { replySaid result ≡ readReply body.now }
+    ensures { reply_said result ≡ read_reply body.now }
 {
     if body.len() == REPLY_BYTES {
         if body[1] == MARK {
@@ -109,8 +109,8 @@ pub fn read_reply(body: &[u8]) -> ReadReply
 
 // Writes the body of a reply at the start of `out`; every other byte keeps its value.
 pub fn write_reply_body(out: &mut [u8], r: Reply)
-    requires { replyBytes ≤ length out.old }
-    ensures { out.new ≡ sets out.old 0 (writtenReplyBody r) }
+    requires { reply_bytes ≤ length out.old }
+    ensures { out.new ≡ sets out.old 0 (written_reply_body r) }
 {
     let operation = r.operation;
     let code = r.code;

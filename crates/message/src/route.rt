@@ -2,8 +2,8 @@
 // with its own.
 ghost use Rattle.std.specs.Prelude.{◌≡◌, ◌+◌, ◌≤◌, length};
 ghost use Rattle.std.proofs.lemmas.List.Edits.{sets};
-ghost use Rattle.message.specs.Inner.Route.{routeBytes, writtenRoute, routeAt};
-ghost use Rattle.message.specs.Route.{sameRoute};
+ghost use Rattle.message.specs.Inner.Route.{route_bytes, written_route, route_at};
+ghost use Rattle.message.specs.Route.{same_route};
 
 use packed::number::{number, number2};
 use packed::writing::put;
@@ -18,15 +18,15 @@ pub struct Route {
 
 // Whether two routes are the same.
 pub fn same_route(r: Route, s: Route) -> bool
-    ensures { result ≡ sameRoute r s }
+    ensures { result ≡ same_route r s }
 {
     (r.date == s.date) & (r.presenting == s.presenting) & (r.receiving == s.receiving)
 }
 
 // The seven bytes from `at` on, whatever their digits.
 pub fn read_route(s: &[u8], at: usize) -> Route
-    requires { at + routeBytes ≤ length s.now }
-    ensures { result ≡ routeAt at s.now }
+    requires { at + route_bytes ≤ length s.now }
+    ensures { result ≡ route_at at s.now }
 {
     Route {
         date: number(s, at, 3) as u32,
@@ -37,8 +37,8 @@ pub fn read_route(s: &[u8], at: usize) -> Route
 
 // Writes the seven bytes from `at` on; every other byte keeps its value.
 pub fn write_route(out: &mut [u8], at: usize, r: Route)
-    requires { at + routeBytes ≤ length out.old }
-    ensures { out.new ≡ sets out.old at (writtenRoute r) }
+    requires { at + route_bytes ≤ length out.old }
+    ensures { out.new ≡ sets out.old at (written_route r) }
 {
     put(out, at, 3, r.date as u64);
     put(out, at + 3, 2, r.presenting as u64);

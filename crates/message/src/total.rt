@@ -3,10 +3,10 @@ ghost use Rattle.std.specs.Prelude.{◌≡◌, ◌+◌, ◌≤◌, length};
 ghost use Rattle.std.proofs.lemmas.List.Edits.{sets};
 ghost use Rattle.packed.specs.Part.{part};
 ghost use Rattle.packed.specs.Number.{number};
-ghost use Rattle.message.specs.Limits.{lotTotalBytes, sessionTotalBytes};
-ghost use Rattle.message.specs.Layout.{read_body, writtenBody};
-ghost use Rattle.message.specs.Inner.Widths.{totalFields, total};
-ghost use Rattle.message.specs.Total.{lotTotal, sessionTotal, totalValues, total_of, totalSaid};
+ghost use Rattle.message.specs.Limits.{lot_total_bytes, session_total_bytes};
+ghost use Rattle.message.specs.Layout.{read_body, written_body};
+ghost use Rattle.message.specs.Inner.Widths.{total_fields, total};
+ghost use Rattle.message.specs.Total.{lot_total, session_total, total_values, total_of, total_said};
 
 use crate::content::{LOT_TOTAL, SESSION_TOTAL};
 use crate::layout::{FIELDS, fixed_shape, write_head};
@@ -70,7 +70,7 @@ fn fields_of(body: &[u8], documents: usize, nominal: usize, commission: usize) -
     requires documents_bound { documents ≤ 9 }
     requires nominal_bound { nominal ≤ 9 }
     requires commission_bound { commission ≤ 9 }
-    ensures { result ≡ total_of (totalFields documents nominal commission) body.now }
+    ensures { result ≡ total_of (total_fields documents nominal commission) body.now }
 {
     let nominal_at = DOCUMENTS + documents;
     Total {
@@ -94,7 +94,7 @@ fn read_total(
     requires documents_bound { documents ≤ 9 }
     requires nominal_bound { nominal ≤ 9 }
     requires commission_bound { commission ≤ 9 }
-    ensures { totalSaid result ≡ read_body (total operation documents nominal commission) body.now }
+    ensures { total_said result ≡ read_body (total operation documents nominal commission) body.now }
 {
     let nominal_at = DOCUMENTS + documents;
     let amounts = nominal + commission;
@@ -110,13 +110,13 @@ fn read_total(
 }
 
 pub fn read_lot_total(body: &[u8]) -> ReadTotal
-    ensures { totalSaid result ≡ read_body lotTotal body.now }
+    ensures { total_said result ≡ read_body lot_total body.now }
 {
     read_total(body, LOT_TOTAL, LOT_DOCUMENTS, LOT_NOMINAL, LOT_COMMISSION)
 }
 
 pub fn read_session_total(body: &[u8]) -> ReadTotal
-    ensures { totalSaid result ≡ read_body sessionTotal body.now }
+    ensures { total_said result ≡ read_body session_total body.now }
 {
     read_total(
         body,
@@ -137,7 +137,7 @@ fn write_total(
     t: Total,
 )
     requires { 5 + documents + nominal + commission ≤ length out.old }
-    ensures { out.new ≡ sets out.old 0 (writtenBody (total operation documents nominal commission) (totalValues t)) }
+    ensures { out.new ≡ sets out.old 0 (written_body (total operation documents nominal commission) (total_values t)) }
 {
     let nominal_at = DOCUMENTS + documents;
     let commission_at = nominal_at + nominal;
@@ -149,8 +149,8 @@ fn write_total(
 }
 
 pub fn write_lot_total(out: &mut [u8], t: Total)
-    requires { lotTotalBytes ≤ length out.old }
-    ensures { out.new ≡ sets out.old 0 (writtenBody lotTotal (totalValues t)) }
+    requires { lot_total_bytes ≤ length out.old }
+    ensures { out.new ≡ sets out.old 0 (written_body lot_total (total_values t)) }
 {
     write_total(
         out,
@@ -163,8 +163,8 @@ pub fn write_lot_total(out: &mut [u8], t: Total)
 }
 
 pub fn write_session_total(out: &mut [u8], t: Total)
-    requires { sessionTotalBytes ≤ length out.old }
-    ensures { out.new ≡ sets out.old 0 (writtenBody sessionTotal (totalValues t)) }
+    requires { session_total_bytes ≤ length out.old }
+    ensures { out.new ≡ sets out.old 0 (written_body session_total (total_values t)) }
 {
     write_total(
         out,

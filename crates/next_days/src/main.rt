@@ -4,9 +4,9 @@ mod text;
 
 ghost use Rattle.std.specs.Prelude.{◌≡◌, ◌*◌, ◌≤◌, length, take};
 ghost use Rattle.io.specs.Counts.{IsPrefixLen};
-ghost use Rattle.calendar.specs.Rule.{yearDays, table_of};
+ghost use Rattle.calendar.specs.Rule.{year_days, table_of};
 ghost use Rattle.calendar.specs.Year.{unworked2028};
-ghost use Rattle.next_days.specs.Text.{mostLineBytes, programText};
+ghost use Rattle.next_days.specs.Text.{most_line_bytes, program_text};
 
 use crate::text::write_table;
 use calendar::generator::{PLACES, next_days};
@@ -24,9 +24,9 @@ fn made() -> [u16; PLACES]
 
 // The text of the table stands at the start of the buffer, and is so long.
 fn answer(text: &mut [u8]) -> usize
-    requires { yearDays * mostLineBytes ≤ length text.old }
+    requires { year_days * most_line_bytes ≤ length text.old }
     ensures counts { IsPrefixLen result text.new }
-    ensures written { take result text.new ≡ programText }
+    ensures written { take result text.new ≡ program_text }
 {
     let table = made();
     write_table(&table, text)

@@ -5,7 +5,7 @@ use Prim.Native.Nat.{ℕ, ◌*◌}
 use lib.ListN.{length, get_or, replicate}
 use Rattle.codes.specs.Chain.{◌when◌}
 use Rattle.codes.proofs.Cases.{◌is◌, AllDue}
-use Rattle.outgoing.specs.Outgoing.{next, checkCode}
+use Rattle.outgoing.specs.Outgoing.{next, check_code}
 
 -- a document filled with one byte, and a tray of so many of the same
 abbrev document : (byte : ℕ) → List ℕ
@@ -22,23 +22,23 @@ abbrev returns : List ℕ
 returns = document 4 ++ document 5
 
 -- the next part of these trays: how long it is, and its first byte, 0 where it has none
-abbrev size : (presentationsSent returnsSent : ℕ) → ℕ
+abbrev size : (presentations_sent returns_sent : ℕ) → ℕ
 size p r = length (next presentations returns p r)
 
-abbrev first : (presentationsSent returnsSent : ℕ) → ℕ
+abbrev first : (presentations_sent returns_sent : ℕ) → ℕ
 first p r = get_or (next presentations returns p r) 0 0
 
-all-due : AllDue
+all_due : AllDue
     -- a length that is no multiple of 51, in either tray
-    (checkCode [] [] 0 0 is 0
-    ∷ checkCode presentations returns 0 0 is 0
-    ∷ checkCode (presentations ++ 1 ∷ []) returns 0 0 is 25
-    ∷ checkCode (replicate 50 1) returns 0 0 is 25
-    ∷ checkCode presentations (returns ++ 2 ∷ []) 0 0 is 25
+    (check_code [] [] 0 0 is 0
+    ∷ check_code presentations returns 0 0 is 0
+    ∷ check_code (presentations ++ 1 ∷ []) returns 0 0 is 25
+    ∷ check_code (replicate 50 1) returns 0 0 is 25
+    ∷ check_code presentations (returns ++ 2 ∷ []) 0 0 is 25
     -- a cursor at the end, and past it
-    ∷ checkCode presentations returns 3 2 is 0
-    ∷ checkCode presentations returns 4 0 is 25
-    ∷ checkCode presentations returns 0 3 is 25
+    ∷ check_code presentations returns 3 2 is 0
+    ∷ check_code presentations returns 4 0 is 25
+    ∷ check_code presentations returns 0 3 is 25
     -- a refusal gives an empty part
     ∷ length (next presentations returns 4 0) is 0
     ∷ length (next presentations (returns ++ 2 ∷ []) 0 0) is 0
@@ -57,4 +57,4 @@ all-due : AllDue
     ∷ length (next [] (tray 201 2) 0 0) is 10200
     ∷ [])
 unfolding ◌when◌
-all-due = refl
+all_due = refl

@@ -1,7 +1,7 @@
 // Ready documents that wait to be sent, 01's trays: presentations and returns, each a run of whole documents with a cursor
 // that counts how many of them are sent; moving it is the caller's part. What the words mean stands in specs/.
 ghost use Rattle.std.specs.Prelude.{◌≡◌, true};
-ghost use Rattle.outgoing.specs.Outgoing.{readyGood, bothGood, next_of, next, checkCode, checkNumber};
+ghost use Rattle.outgoing.specs.Outgoing.{ready_good, both_good, next_of, next, check_code, check_number};
 
 use codes::refusal::Refusal;
 use document::{DOCUMENT_BYTES, MOST_DETAIL_DOCUMENTS};
@@ -17,7 +17,7 @@ pub enum TrayAnswer {
 // Whether a tray has whole documents and its cursor is not past them. The cursor is compared in documents: in bytes it
 // might not fit a number.
 fn ready_good(ready: &[u8], cursor: usize) -> bool
-    ensures { result ≡ readyGood ready.now cursor }
+    ensures { result ≡ ready_good ready.now cursor }
 {
     (ready.len() % DOCUMENT_BYTES == 0) & (cursor <= ready.len() / DOCUMENT_BYTES)
 }
@@ -29,14 +29,14 @@ fn both_good(
     presentations_sent: usize,
     returns_sent: usize,
 ) -> bool
-    ensures { result ≡ bothGood presentations.now returns.now presentations_sent returns_sent }
+    ensures { result ≡ both_good presentations.now returns.now presentations_sent returns_sent }
 {
     ready_good(presentations, presentations_sent) & ready_good(returns, returns_sent)
 }
 
 // At most 200 documents from the cursor on.
 fn next_of<'a>(ready: &'a [u8], cursor: usize) -> &'a [u8]
-    requires { readyGood ready.now cursor ≡ true }
+    requires { ready_good ready.now cursor ≡ true }
     ensures { result.now ≡ next_of ready.now cursor }
 {
     let at = cursor * DOCUMENT_BYTES;
@@ -69,7 +69,7 @@ pub fn check(
     presentations_sent: usize,
     returns_sent: usize,
 ) -> TrayAnswer
-    ensures { checkNumber result ≡ checkCode presentations.now returns.now presentations_sent returns_sent }
+    ensures { check_number result ≡ check_code presentations.now returns.now presentations_sent returns_sent }
 {
     if both_good(presentations, returns, presentations_sent, returns_sent) {
         return TrayAnswer::Ready;

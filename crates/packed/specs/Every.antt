@@ -18,10 +18,10 @@ member n [] = false
 member n (x ∷ xs) = eqb n x || member n xs
 
 -- whether no number is there twice
-unfoldable pub noneTwice : List ℕ → Bool
-noneTwice [] = true
-noneTwice (n ∷ ns) = not (member n ns) && noneTwice ns
+unfoldable pub none_twice : List ℕ → Bool
+none_twice [] = true
+none_twice (n ∷ ns) = not (member n ns) && none_twice ns
 
 -- whether none is larger than one
-abbrev pub noneAbove : (largest : ℕ) → List ℕ → Bool
-noneAbove largest ns = every (λ (n : ℕ). leb n largest) ns
+abbrev pub none_above : (largest : ℕ) → List ℕ → Bool
+none_above largest ns = every (λ (n : ℕ). leb n largest) ns

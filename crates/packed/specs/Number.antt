@@ -2,10 +2,10 @@
 use Rattle.std.specs.Prelude.{ℕ, ◌+◌, ◌*◌, ◌^◌, ◌/◌, ◌%◌, List, [], ◌∷◌, length}
 
 -- one byte: the high half tens, the low half units
-unfoldable pub byteValue : ℕ → ℕ
-byteValue b = b / 16 * 10 + b % 16
+unfoldable pub byte_value : ℕ → ℕ
+byte_value b = b / 16 * 10 + b % 16
 
 -- a run: each byte weighs a hundred times the one after it
 unfoldable pub number : List ℕ → ℕ
 number [] = 0
-number (b ∷ bs) = byteValue b * 100 ^ length bs + number bs
+number (b ∷ bs) = byte_value b * 100 ^ length bs + number bs

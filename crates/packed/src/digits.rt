@@ -1,11 +1,11 @@
 // Whether bytes are packed digits.
 ghost use Rattle.std.specs.Prelude.{◌≡◌, ◌+◌, ◌≤◌, length};
 ghost use Rattle.packed.specs.Part.{part};
-ghost use Rattle.packed.specs.Digits.{isDigits, areDigits};
+ghost use Rattle.packed.specs.Digits.{is_digits, are_digits};
 
 // Whether both halves of a byte are decimal digits.
 pub fn is_digits(b: u8) -> bool
-    ensures { result ≡ isDigits b }
+    ensures { result ≡ is_digits b }
 {
     (b / 16 < 10) & (b % 16 < 10)
 }
@@ -14,7 +14,7 @@ pub fn is_digits(b: u8) -> bool
 // good input.
 pub fn are_digits(s: &[u8], at: usize, n: usize) -> bool
     requires { at + n ≤ length s.now }
-    ensures { result ≡ areDigits (part at n s.now) }
+    ensures { result ≡ are_digits (part at n s.now) }
 {
     let end = at + n;
     let mut ok = true;

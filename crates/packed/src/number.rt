@@ -1,11 +1,11 @@
 // The value of a run of packed bytes, total on any bytes: a half that is no digit counts as the number it is.
 ghost use Rattle.std.specs.Prelude.{◌≡◌, ◌+◌, ◌*◌, ◌^◌, ◌≤◌, ◌<◌, length};
 ghost use Rattle.packed.specs.Part.{part};
-ghost use Rattle.packed.specs.Number.{byteValue, number};
+ghost use Rattle.packed.specs.Number.{byte_value, number};
 
 // The value of one byte.
 pub fn byte_value(b: u8) -> u32
-    ensures value { result ≡ byteValue b }
+    ensures value { result ≡ byte_value b }
     ensures bound { result ≤ 165 }
 {
     let wide = b as u32;

@@ -1,11 +1,11 @@
 // A value written as packed bytes, and bytes copied as they are.
 ghost use Rattle.std.specs.Prelude.{◌≡◌, ◌+◌, ◌≤◌, length};
 ghost use Rattle.std.proofs.lemmas.List.Edits.{sets};
-ghost use Rattle.packed.specs.Writing.{packedByte, packedBytes};
+ghost use Rattle.packed.specs.Writing.{packed_byte, packed_bytes};
 
 // The last two digits of a value as a byte.
 pub fn packed_byte(value: u64) -> u8
-    ensures { result ≡ packedByte value }
+    ensures { result ≡ packed_byte value }
 {
     let pair = value % 100;
     (pair + pair / 10 * 6) as u8
@@ -14,7 +14,7 @@ pub fn packed_byte(value: u64) -> u8
 // Writes the last `n` pairs of digits of a value from `at` on, the highest pair at `at`; every other byte keeps its value.
 pub fn put(d: &mut [u8], at: usize, n: usize, value: u64)
     requires { at + n ≤ length d.old }
-    ensures { d.new ≡ sets d.old at (packedBytes n value) }
+    ensures { d.new ≡ sets d.old at (packed_bytes n value) }
 {
     let mut rest = value;
     let mut i = at + n;

@@ -1,11 +1,11 @@
 // What a send answers.
 ghost use Rattle.std.specs.Prelude.{◌≡◌, cond, eqb};
 ghost use Rattle.codes.specs.Chain.{◌when◌};
-ghost use Rattle.codes.specs.Code.{codeNumber};
-ghost use Rattle.session.specs.Outcome.{answerNumber};
-ghost use Rattle.session.specs.Sending.{sendRefusal};
-ghost use Rattle.presenting.specs.Said.{sendNumber, sendWritten};
-ghost use Rattle.presenting.specs.Inner.Order.{beforeCode, fromCode};
+ghost use Rattle.codes.specs.Code.{code_number};
+ghost use Rattle.session.specs.Outcome.{answer_number};
+ghost use Rattle.session.specs.Sending.{send_refusal};
+ghost use Rattle.presenting.specs.Said.{send_number, send_written};
+ghost use Rattle.presenting.specs.Inner.Order.{before_code, from_code};
 ghost use Rattle.presenting.specs.Inner.Begun.{unstopped};
 
 use crate::pending::is_pending;
@@ -44,7 +44,7 @@ pub fn outcome(answer: SendAnswer, session: Session) -> SendOutcome
 
 // The paper's number, 0 for a message that is written.
 pub fn send_number(a: SendAnswer) -> u8
-    ensures { result ≡ sendNumber a }
+    ensures { result ≡ send_number a }
 {
     match a {
         SendAnswer::Written(_) => 0,
@@ -55,7 +55,7 @@ pub fn send_number(a: SendAnswer) -> u8
 
 // How many bytes it wrote.
 pub fn send_written(a: SendAnswer) -> usize
-    ensures { result ≡ sendWritten a }
+    ensures { result ≡ send_written a }
 {
     match a {
         SendAnswer::Written(bytes) => bytes,
@@ -74,7 +74,7 @@ pub fn is_unstopped(o: SendOutcome) -> bool
 
 // What refuses a send before its own code.
 fn ready(session: Session, time: u32) -> Answer
-    ensures { answerNumber result ≡ beforeCode time session }
+    ensures { answer_number result ≡ before_code time session }
 {
     let close = session.close;
     let presenting = session.presenting;
@@ -90,8 +90,8 @@ fn ready(session: Session, time: u32) -> Answer
 
 // The answer of a send that nothing but its code or the room may stop.
 fn unrefused(code: Code, bytes: usize, room: usize) -> SendAnswer
-    ensures number { sendNumber result ≡ fromCode (codeNumber code) bytes room }
-    ensures written { sendWritten result ≡ cond (eqb (sendNumber result) 0) bytes 0 }
+    ensures number { send_number result ≡ from_code (code_number code) bytes room }
+    ensures written { send_written result ≡ cond (eqb (send_number result) 0) bytes 0 }
 {
     if is_accepted(code) {
         if room < bytes {
@@ -104,8 +104,8 @@ fn unrefused(code: Code, bytes: usize, room: usize) -> SendAnswer
 
 // The answer of a send whose own code is this, of so many bytes into a buffer of so many.
 pub fn send_answer(session: Session, time: u32, code: Code, bytes: usize, room: usize) -> SendAnswer
-    ensures number { sendNumber result ≡ sendRefusal time (codeNumber code) bytes room session }
-    ensures written { sendWritten result ≡ cond (eqb (sendNumber result) 0) bytes 0 }
+    ensures number { send_number result ≡ send_refusal time (code_number code) bytes room session }
+    ensures written { send_written result ≡ cond (eqb (send_number result) 0) bytes 0 }
 {
     match ready(session, time) {
         Answer::Done => unrefused(code, bytes, room),

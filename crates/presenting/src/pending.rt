@@ -1,14 +1,14 @@
 // What awaits a reply.
 ghost use Rattle.std.specs.Prelude.{◌≡◌};
-ghost use Rattle.session.specs.Sending.{isPending};
-ghost use Rattle.session.specs.Reply.{awaitedOperation};
+ghost use Rattle.session.specs.Sending.{is_pending};
+ghost use Rattle.session.specs.Reply.{awaited_operation};
 
 use message::reply::ReplyOperation;
 use session::effect::Effect;
 
 // Whether a reply is awaited.
 pub fn is_pending(effect: Effect) -> bool
-    ensures { result ≡ isPending effect }
+    ensures { result ≡ is_pending effect }
 {
     match effect {
         Effect::Nothing => false,
@@ -21,7 +21,7 @@ pub fn is_pending(effect: Effect) -> bool
 
 // The operation of the reply that is awaited; where none is, it is not asked.
 pub fn awaited_operation(effect: Effect) -> ReplyOperation
-    ensures { result ≡ awaitedOperation effect }
+    ensures { result ≡ awaited_operation effect }
 {
     match effect {
         Effect::LotTotal(_) => ReplyOperation::LotTotal,

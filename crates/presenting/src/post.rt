@@ -2,11 +2,11 @@
 // stands in the line buffer, and the message awaits its reply. The counters stay.
 ghost use Rattle.std.specs.Prelude.{◌≡◌, ◌≤◌, ◌<◌, length};
 ghost use Rattle.std.proofs.lemmas.List.Edits.{sets};
-ghost use Rattle.message.specs.Limits.{envelopeBytes, largestSerial};
-ghost use Rattle.message.specs.Envelope.{writtenEnvelope};
-ghost use Rattle.session.specs.Parties.{presentingRoute};
-ghost use Rattle.codes.specs.Code.{codeNumber};
-ghost use Rattle.session.specs.Sending.{nextEnvelope, sent};
+ghost use Rattle.message.specs.Limits.{envelope_bytes, largest_serial};
+ghost use Rattle.message.specs.Envelope.{written_envelope};
+ghost use Rattle.session.specs.Parties.{presenting_route};
+ghost use Rattle.codes.specs.Code.{code_number};
+ghost use Rattle.session.specs.Sending.{next_envelope, sent};
 ghost use Rattle.presenting.specs.Inner.Begun.{Begun};
 
 use crate::answer::{SendOutcome, outcome, send_answer, send_number};
@@ -19,7 +19,7 @@ use session::session::{Presenting, Session};
 
 // The route of what the centre presents.
 pub fn presenting_route(p: Parties) -> Route
-    ensures { result ≡ presentingRoute p }
+    ensures { result ≡ presenting_route p }
 {
     Route {
         date: p.date,
@@ -30,7 +30,7 @@ pub fn presenting_route(p: Parties) -> Route
 
 // The session with this message sent.
 fn sent(session: Session, time: u32, effect: Effect) -> Session
-    requires { session.presenting.serial < largestSerial }
+    requires { session.presenting.serial < largest_serial }
     ensures { result ≡ sent time effect session }
 {
     let parties = session.parties;
@@ -54,10 +54,10 @@ fn sent(session: Session, time: u32, effect: Effect) -> Session
 
 // Writes the next envelope at the start of the line buffer, and gives the session after it.
 fn post(session: Session, time: u32, effect: Effect, line: &mut [u8]) -> Session
-    requires serial_lt_largest_serial { session.presenting.serial < largestSerial }
-    requires envelope_bytes_in_bounds { envelopeBytes ≤ length line.old }
+    requires serial_lt_largest_serial { session.presenting.serial < largest_serial }
+    requires envelope_bytes_in_bounds { envelope_bytes ≤ length line.old }
     ensures session { result ≡ sent time effect session }
-    ensures line { line.new ≡ sets line.old 0 (writtenEnvelope Kind.Message (nextEnvelope session)) }
+    ensures line { line.new ≡ sets line.old 0 (written_envelope Kind.Message (next_envelope session)) }
 {
     let parties = session.parties;
     write_envelope(
@@ -80,8 +80,8 @@ pub fn begin(
     effect: Effect,
     line: &mut [u8],
 ) -> SendOutcome
-    requires { envelopeBytes ≤ bytes }
-    ensures { Begun time (codeNumber code) bytes effect session line.old line.new result }
+    requires { envelope_bytes ≤ bytes }
+    ensures { Begun time (code_number code) bytes effect session line.old line.new result }
 {
     let answer = send_answer(session, time, code, bytes, line.len());
     if send_number(answer) == 0 {

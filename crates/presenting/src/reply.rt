@@ -1,16 +1,16 @@
 // The call that takes the reply to what is pending.
 ghost use Rattle.std.specs.Prelude.{◌≡◌, false, not, List, ℕ, eqb};
 ghost use Rattle.packed.specs.Part.{byte_at};
-ghost use Rattle.packed.specs.Number.{byteValue};
+ghost use Rattle.packed.specs.Number.{byte_value};
 ghost use Rattle.codes.specs.Chain.{◌when◌};
-ghost use Rattle.message.specs.Reply.{operationByte};
+ghost use Rattle.message.specs.Reply.{operation_byte};
 ghost use Rattle.session.specs.Parties.{Direction};
 ghost use Rattle.session.specs.Outcome.{silent, held};
-ghost use Rattle.session.specs.Reply.{isAwaited, isAccepted, replyOrder, replied, takeReply};
+ghost use Rattle.session.specs.Reply.{is_awaited, is_accepted, reply_order, replied, take_reply};
 ghost use Rattle.session.specs.Premise.{Sound, Carried, KeptBeside};
 ghost use Rattle.calls.specs.Inner.Arrival.{Told};
-ghost use Rattle.calls.specs.Said.{calledSaid};
-ghost use Rattle.presenting.specs.Inner.Order.{ofBody};
+ghost use Rattle.calls.specs.Said.{called_said};
+ghost use Rattle.presenting.specs.Inner.Order.{of_body};
 
 use crate::pending::{awaited_operation, is_pending};
 use crate::post::presenting_route;
@@ -52,7 +52,7 @@ fn refused(refusal: Refusal) -> Arrival
 
 // Whether a reply is awaited, and it is this one.
 fn is_awaited(serial: u32, operation: ReplyOperation, p: Presenting) -> bool
-    ensures { result ≡ isAwaited serial (operationByte operation) p }
+    ensures { result ≡ is_awaited serial (operation_byte operation) p }
 {
     let pending = p.pending;
     is_pending(pending)
@@ -62,7 +62,7 @@ fn is_awaited(serial: u32, operation: ReplyOperation, p: Presenting) -> bool
 
 // The body of a reply with this serial.
 fn read_body(body: &[u8], serial: u32, p: Presenting) -> Arrival
-    ensures { Told (ofBody body.now serial p) (eqb (byteValue (byte_at 4 body.now)) 0) result.answer result.accepted }
+    ensures { Told (of_body body.now serial p) (eqb (byte_value (byte_at 4 body.now)) 0) result.answer result.accepted }
 {
     match read_reply(body) {
         ReadReply::Read(reply) => {
@@ -79,7 +79,7 @@ fn read_body(body: &[u8], serial: u32, p: Presenting) -> Arrival
 
 // A whole reply, at any time.
 fn read_whole(reply: &[u8], route: Route, p: Presenting) -> Arrival
-    ensures { Told (replyOrder reply.now route p) (isAccepted reply.now) result.answer result.accepted }
+    ensures { Told (reply_order reply.now route p) (is_accepted reply.now) result.answer result.accepted }
 {
     match read_envelope(reply, Kind::Reply) {
         ReadEnvelope::Read(e) => {
@@ -97,7 +97,7 @@ fn read_whole(reply: &[u8], route: Route, p: Presenting) -> Arrival
 fn replied(session: Session, running: Running, time: u32, accepted: bool) -> ReplyOutcome
     requires sound { Sound session }
     requires carried { Carried Direction.presenting session running }
-    ensures { (line : List ℕ) → calledSaid result.called result.running line ≡ silent (replied time accepted (held session running line)) }
+    ensures { (line : List ℕ) → called_said result.called result.running line ≡ silent (replied time accepted (held session running line)) }
 {
     let parties = session.parties;
     let presenting = session.presenting;
@@ -133,7 +133,7 @@ fn replied(session: Session, running: Running, time: u32, accepted: bool) -> Rep
 pub fn take_reply(session: Session, running: Running, time: u32, reply: &[u8]) -> ReplyOutcome
     requires sound { Sound session }
     requires carried { Carried Direction.presenting session running }
-    ensures outcome { (line : List ℕ) → calledSaid result.called result.running line ≡ takeReply time reply.now (held session running line) }
+    ensures outcome { (line : List ℕ) → called_said result.called result.running line ≡ take_reply time reply.now (held session running line) }
     ensures premise { KeptBeside Direction.presenting session result.called.session result.running }
 {
     let parties = session.parties;

@@ -3,10 +3,10 @@
 ghost use Rattle.std.specs.Prelude.{◌≡◌};
 ghost use Rattle.session.specs.declared.running.Running.{Running};
 ghost use Rattle.session.specs.Parties.{Direction};
-ghost use Rattle.session.specs.Sending.{openNumber, Send, sendMessage};
+ghost use Rattle.session.specs.Sending.{open_number, Send, send_message};
 ghost use Rattle.session.specs.Premise.{Sound, Carried, Kept, KeptBeside};
 ghost use Rattle.session.specs.Outcome.{held};
-ghost use Rattle.presenting.specs.Said.{sendSaid};
+ghost use Rattle.presenting.specs.Said.{send_said};
 
 use crate::answer::{SendOutcome, is_unstopped};
 use crate::post::{begin, presenting_route};
@@ -34,7 +34,7 @@ pub fn send_header(
     line: &mut [u8],
 ) -> SendOutcome
     requires { Sound session }
-    ensures outcome { (t : Running) → sendSaid result t line.new ≡ sendMessage time (Send.header moment centre number) (held session t line.old) }
+    ensures outcome { (t : Running) → send_said result t line.new ≡ send_message time (Send.header moment centre number) (held session t line.old) }
     ensures premise { Kept session result.session }
 {
     let parties = session.parties;
@@ -75,7 +75,7 @@ pub fn send_detail(
 ) -> SendOutcome
     requires sound { Sound session }
     requires carried { Carried Direction.presenting session running }
-    ensures outcome { sendSaid result running line.new ≡ sendMessage time (Send.detail operation part.now) (held session running line.old) }
+    ensures outcome { send_said result running line.new ≡ send_message time (Send.detail operation part.now) (held session running line.old) }
     ensures premise { KeptBeside Direction.presenting session result.session running }
 {
     let presenting = session.presenting;
@@ -103,7 +103,7 @@ pub fn send_detail(
 
 // The number of an open lot; 0 where there is none, and then no total is written.
 fn open_number(lot: OpenLot) -> u16
-    ensures { result ≡ openNumber lot }
+    ensures { result ≡ open_number lot }
 {
     match lot {
         OpenLot::None => 0,
@@ -115,7 +115,7 @@ fn open_number(lot: OpenLot) -> u16
 pub fn send_lot_total(session: Session, running: Running, time: u32, line: &mut [u8]) -> SendOutcome
     requires sound { Sound session }
     requires carried { Carried Direction.presenting session running }
-    ensures outcome { sendSaid result running line.new ≡ sendMessage time Send.lotTotal (held session running line.old) }
+    ensures outcome { send_said result running line.new ≡ send_message time Send.lot_total (held session running line.old) }
     ensures premise { KeptBeside Direction.presenting session result.session running }
 {
     let presenting = session.presenting;
@@ -149,7 +149,7 @@ pub fn send_lot_total(session: Session, running: Running, time: u32, line: &mut 
 // Sends the session total: what the accepted lots have gathered. No running totals are asked for.
 pub fn send_session_total(session: Session, time: u32, line: &mut [u8]) -> SendOutcome
     requires { Sound session }
-    ensures outcome { (t : Running) → sendSaid result t line.new ≡ sendMessage time Send.sessionTotal (held session t line.old) }
+    ensures outcome { (t : Running) → send_said result t line.new ≡ send_message time Send.session_total (held session t line.old) }
     ensures premise { Kept session result.session }
 {
     let presenting = session.presenting;

@@ -1,7 +1,7 @@
 // What stops a header or a detail before it is sent. A total has only its place to ask for, 07.
 ghost use Rattle.std.specs.Prelude.{◌≡◌};
-ghost use Rattle.codes.specs.Code.{codeNumber};
-ghost use Rattle.session.specs.Sending.{partAdds, headerStop, detailStop};
+ghost use Rattle.codes.specs.Code.{code_number};
+ghost use Rattle.session.specs.Sending.{part_adds, header_stop, detail_stop};
 
 use calls::details::detail_code;
 use calls::sequence::header_sequence;
@@ -17,7 +17,7 @@ use session::session::Presenting;
 
 // The first of 01, 07, 10 and 11 that a header of these earns.
 pub fn header_stop(time: u32, moment: u32, centre: u16, number: u16, p: Presenting) -> Code
-    ensures { codeNumber result ≡ headerStop time moment centre number p }
+    ensures { code_number result ≡ header_stop time moment centre number p }
 {
     let counters = p.counters;
     let lot = counters.current;
@@ -48,8 +48,8 @@ pub fn detail_stop(
     running: Running,
     p: Presenting,
 ) -> PartStop
-    ensures code { codeNumber result.code ≡ detailStop operation partner part.now running p }
-    ensures adds { codeNumber result.code ≡ 0 → result.adds ≡ partAdds operation part.now }
+    ensures code { code_number result.code ≡ detail_stop operation partner part.now running p }
+    ensures adds { code_number result.code ≡ 0 → result.adds ≡ part_adds operation part.now }
 {
     let counters = p.counters;
     let lot = counters.current;

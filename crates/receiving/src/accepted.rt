@@ -1,9 +1,9 @@
 // The accepted lots, and whether a new one repeats one of them.
 ghost use Rattle.std.specs.Prelude.{◌≡◌, ◌≤◌, ◌<◌, true, length, take};
-ghost use Rattle.session.specs.Limits.{mostLots};
+ghost use Rattle.session.specs.Limits.{most_lots};
 ghost use Rattle.session.specs.Course.{kept};
-ghost use Rattle.session.specs.Receiving.{numberUsed, totalsUsed};
-ghost use Rattle.receiving.specs.Inner.Earned.{endsLot};
+ghost use Rattle.session.specs.Receiving.{number_used, totals_used};
+ghost use Rattle.receiving.specs.Inner.Earned.{ends_lot};
 
 use amounts::Totals;
 use session::counters::{Lot, Lots};
@@ -19,10 +19,10 @@ pub struct Used {
 
 // Looks through the first `count` places, once for both.
 pub fn look_up(number: u16, totals: Totals, count: usize, lots: Lots) -> Used
-    requires count_le_most_lots { count ≤ mostLots }
-    requires lots_len { length lots ≡ mostLots }
-    ensures number { result.number ≡ numberUsed number (take count lots) }
-    ensures totals { result.totals ≡ totalsUsed totals (take count lots) }
+    requires count_le_most_lots { count ≤ most_lots }
+    requires lots_len { length lots ≡ most_lots }
+    ensures number { result.number ≡ number_used number (take count lots) }
+    ensures totals { result.totals ≡ totals_used totals (take count lots) }
 {
     let mut by_number = false;
     let mut by_totals = false;
@@ -42,7 +42,7 @@ pub fn look_up(number: u16, totals: Totals, count: usize, lots: Lots) -> Used
 
 // The places with one lot more, where it is accepted.
 fn stored(lot: Lot, accepted: bool, count: usize, lots: Lots) -> Lots
-    requires { accepted ≡ true → count < mostLots }
+    requires { accepted ≡ true → count < most_lots }
     ensures { result ≡ kept (Effect.LotTotal lot) accepted count lots }
 {
     let mut places = lots;
@@ -54,7 +54,7 @@ fn stored(lot: Lot, accepted: bool, count: usize, lots: Lots) -> Lots
 
 // The places after a message, with the code that was replied.
 pub fn kept(effect: Effect, accepted: bool, count: usize, lots: Lots) -> Lots
-    requires { accepted ≡ true → endsLot effect ≡ true → count < mostLots }
+    requires { accepted ≡ true → ends_lot effect ≡ true → count < most_lots }
     ensures { result ≡ kept effect accepted count lots }
 {
     match effect {

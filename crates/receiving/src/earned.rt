@@ -1,6 +1,6 @@
 // The code that each message earns, in the paper's order, and what the message does once its code is known.
 ghost use Rattle.std.specs.Prelude.{◌≡◌};
-ghost use Rattle.session.specs.Parties.{receivingRoute};
+ghost use Rattle.session.specs.Parties.{receiving_route};
 ghost use Rattle.receiving.specs.Inner.Earned.{Earns};
 ghost use Rattle.receiving.specs.Inner.Lent.{Lent};
 
@@ -33,7 +33,7 @@ pub struct Found {
 
 // The route of what the centre receives.
 pub fn receiving_route(p: Parties) -> Route
-    ensures { result ≡ receivingRoute p }
+    ensures { result ≡ receiving_route p }
 {
     Route {
         date: p.date,

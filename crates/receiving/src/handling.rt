@@ -1,6 +1,6 @@
 // The receiving direction after a message.
 ghost use Rattle.std.specs.Prelude.{◌≡◌, cond};
-ghost use Rattle.receiving.specs.Inner.Handled.{newReceiving, newRunning};
+ghost use Rattle.receiving.specs.Inner.Handled.{new_receiving, new_running};
 ghost use Rattle.receiving.specs.Inner.Lent.{Lent};
 
 use crate::accepted::kept;
@@ -23,8 +23,8 @@ pub struct Handled {
 // A new message: its serial becomes the last, its reply is kept, and what it does is counted.
 fn handle(time: u32, body: &[u8], p: Parties, running: Running, r: Receiving) -> Handled
     requires { Lent p running r }
-    ensures receiving { result.receiving ≡ newReceiving time body.now p running r }
-    ensures running { result.running ≡ newRunning time body.now p running r }
+    ensures receiving { result.receiving ≡ new_receiving time body.now p running r }
+    ensures running { result.running ≡ new_running time body.now p running r }
 {
     let content = content_of(body);
     let found = earned(content, time, body, p, running, r);
@@ -63,8 +63,8 @@ pub fn handle_if(
     r: Receiving,
 ) -> Handled
     requires { Lent p running r }
-    ensures receiving { result.receiving ≡ cond next (newReceiving time body.now p running r) r }
-    ensures running { result.running ≡ cond next (newRunning time body.now p running r) running }
+    ensures receiving { result.receiving ≡ cond next (new_receiving time body.now p running r) r }
+    ensures running { result.running ≡ cond next (new_running time body.now p running r) running }
 {
     if next {
         return handle(time, body, p, running, r);

@@ -1,13 +1,13 @@
 // Receiving: a message of any bytes goes in, and the reply to it comes out in the line buffer.
 ghost use Rattle.std.specs.Prelude.{◌≡◌, ◌≤◌, length};
 ghost use Rattle.std.proofs.lemmas.List.Edits.{sets};
-ghost use Rattle.message.specs.Limits.{replyRoom};
-ghost use Rattle.message.specs.Line.{wholeReply};
-ghost use Rattle.session.specs.Parties.{receivingRoute, Direction};
+ghost use Rattle.message.specs.Limits.{reply_room};
+ghost use Rattle.message.specs.Line.{whole_reply};
+ghost use Rattle.session.specs.Parties.{receiving_route, Direction};
 ghost use Rattle.session.specs.Receiving.{receive};
 ghost use Rattle.session.specs.Premise.{Sound, Carried, KeptBeside};
-ghost use Rattle.session.specs.Outcome.{held, seen_at, withReceiving};
-ghost use Rattle.receiving.specs.Said.{receivedSaid};
+ghost use Rattle.session.specs.Outcome.{held, seen_at, with_receiving};
+ghost use Rattle.receiving.specs.Said.{received_said};
 
 use crate::arrival::read_message;
 use crate::earned::receiving_route;
@@ -37,9 +37,9 @@ pub struct ReceiveOutcome {
 
 // Writes the reply that is kept after a message, new or again, and gives what the call leaves.
 fn replying(session: Session, time: u32, after: Handled, line: &mut [u8]) -> ReceiveOutcome
-    requires { replyRoom ≤ length line.old }
-    ensures result { result ≡ record { running = after.running; received = record { answer = Answer.Done; written = replyRoom; session = seen_at time (withReceiving after.receiving session) } } }
-    ensures line { line.new ≡ sets line.old 0 (wholeReply (record { route = receivingRoute session.parties; serial = after.receiving.serial }) after.receiving.reply) }
+    requires { reply_room ≤ length line.old }
+    ensures result { result ≡ record { running = after.running; received = record { answer = Answer.Done; written = reply_room; session = seen_at time (with_receiving after.receiving session) } } }
+    ensures line { line.new ≡ sets line.old 0 (whole_reply (record { route = receiving_route session.parties; serial = after.receiving.serial }) after.receiving.reply) }
 {
     let parties = session.parties;
     let presenting = session.presenting;
@@ -78,7 +78,7 @@ pub fn receive(
 ) -> ReceiveOutcome
     requires sound { Sound session }
     requires carried { Carried Direction.receiving session running }
-    ensures outcome { receivedSaid result.received result.running line.new ≡ receive time message.now (held session running line.old) }
+    ensures outcome { received_said result.received result.running line.new ≡ receive time message.now (held session running line.old) }
     ensures premise { KeptBeside Direction.receiving session result.received.session result.running }
 {
     let parties = session.parties;

@@ -1,8 +1,8 @@
 -- Two ends of a line, each with a session or none yet, and what a line of a script does to them.
 use Rattle.std.specs.Prelude.{ℕ, Bool, true, cond, List, [], eqb}
 use Rattle.session.specs.Start as Start
-use Rattle.session.specs.Engine.{Call, Engine, withEmpty, Ready, performed, saidBy}
-use Rattle.centre.specs.Turn.{engineOf}
+use Rattle.session.specs.Engine.{Call, Engine, with_empty, Ready, performed, said_by}
+use Rattle.centre.specs.Turn.{engine_of}
 use Rattle.script.specs.declared.player.Seat.{Seat}
 use Rattle.script.specs.declared.player.Player.{Player}
 use Rattle.script.specs.Reading.{Named}
@@ -16,51 +16,51 @@ pub record Ends : Type 0 where
   pub near : Seated
   pub far : Seated
 
-abbrev pub seatOf : Seat → Seated
-seatOf s = record { started = s.started; engine = engineOf s.centre }
+abbrev pub seat_of : Seat → Seated
+seat_of s = record { started = s.started; engine = engine_of s.centre }
 
-abbrev pub endsOf : Player → Ends
-endsOf p = record { near = seatOf p.near; far = seatOf p.far }
+abbrev pub ends_of : Player → Ends
+ends_of p = record { near = seat_of p.near; far = seat_of p.far }
 
 -- a call at an end; one without a session stays as it is
 unfoldable pub called : Call → (line : List ℕ) → Seated → Seated
 called call line s = cond s.started (record { started = true; engine = (performed call line s.engine).engine }) s
 
 -- a start at an end; a refused one leaves what was there
-unfoldable pub begunAt : (date own partner : ℕ) (represented : List ℕ) → Seated → Seated
-begunAt date own partner represented s =
+unfoldable pub begun_at : (date own partner : ℕ) (represented : List ℕ) → Seated → Seated
+begun_at date own partner represented s =
     let o = Start.start date own partner represented in
-    cond (eqb o.number 0) (record { started = true; engine = withEmpty o.session }) s
+    cond (eqb o.number 0) (record { started = true; engine = with_empty o.session }) s
 
 -- the bytes that a call at an end writes; none without a session
-unfoldable pub wroteAt : Call → (line : List ℕ) → Seated → List ℕ
-wroteAt call line s = cond s.started (saidBy (performed call line s.engine)).bytes []
+unfoldable pub wrote_at : Call → (line : List ℕ) → Seated → List ℕ
+wrote_at call line s = cond s.started (said_by (performed call line s.engine)).bytes []
 
 -- what a line names is done at its end
 abbrev pub done : Named → (line : List ℕ) → Seated → Seated
 done Named.nothing line s = s
-done (Named.start date own partner represented) line s = begunAt date own partner represented s
+done (Named.start date own partner represented) line s = begun_at date own partner represented s
 done (Named.call call) line s = called call line s
 
 -- and what is written there
 abbrev pub wrote : Named → (line : List ℕ) → Seated → List ℕ
 wrote Named.nothing line s = []
 wrote (Named.start date own partner represented) line s = []
-wrote (Named.call call) line s = wroteAt call line s
+wrote (Named.call call) line s = wrote_at call line s
 
-abbrev pub seatAt : (near : Bool) → Ends → Seated
-seatAt near e = cond near e.near e.far
+abbrev pub seat_at : (near : Bool) → Ends → Seated
+seat_at near e = cond near e.near e.far
 
-abbrev pub withSeat : (near : Bool) → Seated → Ends → Ends
-withSeat near s e = cond near (record { near = s; far = e.far }) (record { near = e.near; far = s })
+abbrev pub with_seat : (near : Bool) → Seated → Ends → Ends
+with_seat near s e = cond near (record { near = s; far = e.far }) (record { near = e.near; far = s })
 
 -- both ends after what a line names was done at one of them, with this line buffer
-abbrev pub playedAt : (near : Bool) → Named → (line : List ℕ) → Ends → Ends
-playedAt near named line e = withSeat near (done named line (seatAt near e)) e
+abbrev pub played_at : (near : Bool) → Named → (line : List ℕ) → Ends → Ends
+played_at near named line e = with_seat near (done named line (seat_at near e)) e
 
 -- the premise of every call, at each end
 abbrev pub ReadySeat : Seat → Type 0
-ReadySeat s = Ready (engineOf s.centre)
+ReadySeat s = Ready (engine_of s.centre)
 
 pub record ReadyPlayer (p : Player) : Type 0 where
   pub near : ReadySeat p.near

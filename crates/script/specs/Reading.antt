@@ -20,18 +20,18 @@ abbrev pub u8 : ℕ → ℕ
 u8 n = min n (2 ^ 8 - 1)
 
 -- the arguments of each call, in the order of the line
-unfoldable pub askedBy : Kind → (numbers : List ℕ) → Asked
-askedBy Start ns = Asked.Start (u32 (get_or ns 0 0)) (u16 (get_or ns 1 0)) (u16 (get_or ns 2 0))
-askedBy Header ns = Asked.Call (Order.Header (u32 (get_or ns 0 0)) (u32 (get_or ns 1 0)) (u16 (get_or ns 2 0)) (u16 (get_or ns 3 0)))
-askedBy Detail ns = Asked.Call (Order.Detail (u32 (get_or ns 0 0)) (u8 (get_or ns 1 0)))
-askedBy LotTotal ns = Asked.Call (Order.LotTotal (u32 (get_or ns 0 0)))
-askedBy SessionTotal ns = Asked.Call (Order.SessionTotal (u32 (get_or ns 0 0)))
-askedBy Receive ns = Asked.Call (Order.Receive (u32 (get_or ns 0 0)))
-askedBy Reply ns = Asked.Call (Order.Reply (u32 (get_or ns 0 0)))
-askedBy Clock ns = Asked.Call (Order.Clock (u32 (get_or ns 0 0)))
-askedBy Report ns = Asked.Nothing
-askedBy Passed ns = Asked.Nothing
-askedBy Bad ns = Asked.Nothing
+unfoldable pub asked_by : Kind → (numbers : List ℕ) → Asked
+asked_by Start ns = Asked.Start (u32 (get_or ns 0 0)) (u16 (get_or ns 1 0)) (u16 (get_or ns 2 0))
+asked_by Header ns = Asked.Call (Order.Header (u32 (get_or ns 0 0)) (u32 (get_or ns 1 0)) (u16 (get_or ns 2 0)) (u16 (get_or ns 3 0)))
+asked_by Detail ns = Asked.Call (Order.Detail (u32 (get_or ns 0 0)) (u8 (get_or ns 1 0)))
+asked_by LotTotal ns = Asked.Call (Order.LotTotal (u32 (get_or ns 0 0)))
+asked_by SessionTotal ns = Asked.Call (Order.SessionTotal (u32 (get_or ns 0 0)))
+asked_by Receive ns = Asked.Call (Order.Receive (u32 (get_or ns 0 0)))
+asked_by Reply ns = Asked.Call (Order.Reply (u32 (get_or ns 0 0)))
+asked_by Clock ns = Asked.Call (Order.Clock (u32 (get_or ns 0 0)))
+asked_by Report ns = Asked.Nothing
+asked_by Passed ns = Asked.Nothing
+asked_by Bad ns = Asked.Nothing
 
 -- nothing, as a report and a line that is no call; a start; or a call of 01
 pub data Named : Type 0 where
@@ -54,11 +54,11 @@ pub record Meant : Type 0 where
 
 -- by what it says; the numbers from the fourth on are the represented entities of a start
 abbrev pub meant : Said → Meant
-meant s = record { kind = s.kind; near = s.near; named = name_of (askedBy s.kind s.numbers) (map u16 (drop 3 s.numbers)) s.bytes; room = s.room }
+meant s = record { kind = s.kind; near = s.near; named = name_of (asked_by s.kind s.numbers) (map u16 (drop 3 s.numbers)) s.bytes; room = s.room }
 
 abbrev pub named_by : Asked → Reading → (bytes : List ℕ) → Named
 named_by asked r bytes = name_of asked (take r.more r.entities) bytes
 
 -- by what was made of it, and the buffer that was left
-abbrev pub meantBy : Reading → (buffer : List ℕ) → Meant
-meantBy r buffer = record { kind = r.kind; near = r.near; named = named_by r.asked r (take r.bytes buffer); room = r.room }
+abbrev pub meant_by : Reading → (buffer : List ℕ) → Meant
+meant_by r buffer = record { kind = r.kind; near = r.near; named = named_by r.asked r (take r.bytes buffer); room = r.room }

@@ -1,8 +1,8 @@
 // The answer to a line that was read: its words, then the bytes that the call wrote, and a line feed.
 ghost use Rattle.std.specs.Prelude.{◌≡◌, ◌+◌, ◌*◌, ◌≤◌, length, drop};
-ghost use Rattle.script.specs.Answer.{answerBytes};
+ghost use Rattle.script.specs.Answer.{answer_bytes};
 ghost use Rattle.script.specs.Player.{ReadySeat};
-ghost use Rattle.text.specs.Line.{mostRoom};
+ghost use Rattle.text.specs.Line.{most_room};
 
 use crate::player::Seat;
 use crate::wording::{put_code, put_signed, put_text};
@@ -232,8 +232,8 @@ pub fn put_answer(
 // The length of an answer: its words, two digits a byte, and a line feed; nothing where there are no words.
 pub fn answer_bytes(words: usize, shown: usize) -> usize
     requires words_bound { words ≤ 400 }
-    requires shown_le_most_room { shown ≤ mostRoom }
-    ensures { result ≡ answerBytes words shown }
+    requires shown_le_most_room { shown ≤ most_room }
+    ensures { result ≡ answer_bytes words shown }
 {
     if words == 0 {
         return 0;
@@ -256,8 +256,8 @@ fn write_words(output: &mut [u8], words: &[u8], shown: &[u8]) -> usize
 
 // Writes an answer. What stands behind it keeps its values.
 pub fn write_answer(output: &mut [u8], words: &[u8], shown: &[u8]) -> usize
-    requires { answerBytes (length words.now) (length shown.now) ≤ length output.old }
-    ensures length { result ≡ answerBytes (length words.now) (length shown.now) }
+    requires { answer_bytes (length words.now) (length shown.now) ≤ length output.old }
+    ensures length { result ≡ answer_bytes (length words.now) (length shown.now) }
     ensures kept { drop result output.new ≡ drop result output.old }
 {
     if words.len() == 0 {

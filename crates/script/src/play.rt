@@ -2,10 +2,10 @@
 ghost use Rattle.std.specs.Prelude.{◌≡◌, true, ◌≤◌, ◌<◌, List, length, take, drop};
 ghost use Rattle.text.specs.Memory.{recalled};
 ghost use Rattle.text.specs.Held.{Written, Holds};
-ghost use Rattle.text.specs.Line.{readLine, mostRoom};
+ghost use Rattle.text.specs.Line.{read_line, most_room};
 ghost use Rattle.script.specs.Reading.{named_by, meant};
-ghost use Rattle.script.specs.Player.{seatOf, done, endsOf, seatAt, withSeat, wrote, playedAt, ReadySeat, ReadyPlayer};
-ghost use Rattle.script.specs.Play.{filled, played, heldAfter, heldBy, Remembers, longestAnswer, Done, ReadOf};
+ghost use Rattle.script.specs.Player.{seat_of, done, ends_of, seat_at, with_seat, wrote, played_at, ReadySeat, ReadyPlayer};
+ghost use Rattle.script.specs.Play.{filled, played, held_after, held_by, Remembers, longest_answer, Done, ReadOf};
 ghost use Rattle.script.specs.Inner.Play.{Behind, CutWithin};
 
 use crate::answer::{answer_bytes, put_answer, write_answer};
@@ -30,7 +30,7 @@ pub struct LinePlayed {
 
 fn seat_at(player: Player, near: bool) -> Seat
     requires { ReadyPlayer player }
-    ensures outcome { seatOf result ≡ seatAt near (endsOf player) }
+    ensures outcome { seat_of result ≡ seat_at near (ends_of player) }
     ensures premise { ReadySeat result }
 {
     if near {
@@ -42,7 +42,7 @@ fn seat_at(player: Player, near: bool) -> Seat
 fn with_seat(player: Player, near: bool, seat: Seat, memory: Memory) -> Player
     requires ready_player { ReadyPlayer player }
     requires ready_seat { ReadySeat seat }
-    ensures outcome { endsOf result ≡ withSeat near (seatOf seat) (endsOf player) }
+    ensures outcome { ends_of result ≡ with_seat near (seat_of seat) (ends_of player) }
     ensures premise { (ReadyPlayer result) × (result.memory ≡ memory) }
 {
     let here = player.near;
@@ -65,7 +65,7 @@ fn with_seat(player: Player, near: bool, seat: Seat, memory: Memory) -> Player
 
 // What was written is remembered, if something was.
 fn after_writing(memory: Memory, written: &[u8], wire: &mut [u8]) -> Memory
-    ensures { (ws : List Written) → Holds memory wire.old ws → Holds result wire.new (heldAfter memory written.now (length wire.old) ws) }
+    ensures { (ws : List Written) → Holds memory wire.old ws → Holds result wire.new (held_after memory written.now (length wire.old) ws) }
 {
     if written.len() == 0 {
         return memory;
@@ -101,9 +101,9 @@ fn answer_at(
     requires ready_seat { ReadySeat seat }
     requires more_in_bounds { reading.more ≤ length reading.entities }
     requires in_bounds { 400 ≤ length head.old }
-    ensures outcome { seatOf result.seat ≡ done (named_by reading.asked reading bytes.now) line.old (seatOf seat) }
+    ensures outcome { seat_of result.seat ≡ done (named_by reading.asked reading bytes.now) line.old (seat_of seat) }
     ensures premise { ReadySeat result.seat }
-    ensures sizes { (result.words ≤ 400) × (result.written ≤ length line.old) × (take result.written line.new ≡ wrote (named_by reading.asked reading bytes.now) line.old (seatOf seat)) }
+    ensures sizes { (result.words ≤ 400) × (result.written ≤ length line.old) × (take result.written line.new ≡ wrote (named_by reading.asked reading bytes.now) line.old (seat_of seat)) }
 {
     let kind = reading.kind;
     let step = act(seat, reading, bytes, line);
@@ -136,10 +136,10 @@ pub struct Emitted {
 // Writes an answer of so many words and bytes, if it fits.
 fn emit(output: &mut [u8], head: &[u8], line: &[u8], words: usize, written: usize) -> Emitted
     requires words_bound { (words ≤ 400) × (words ≤ length head.now) }
-    requires written_le_most_room { (written ≤ mostRoom) × (written ≤ length line.now) }
+    requires written_le_most_room { (written ≤ most_room) × (written ≤ length line.now) }
     ensures written { result.count ≤ length output.old }
     ensures kept { drop result.count output.new ≡ drop result.count output.old }
-    ensures full { result.full ≡ true → length output.old < longestAnswer }
+    ensures full { result.full ≡ true → length output.old < longest_answer }
 {
     if output.len() < answer_bytes(words, written) {
         return Emitted {
@@ -164,9 +164,9 @@ fn play_reading(
 ) -> LinePlayed
     requires ready_player { ReadyPlayer player }
     requires more_in_bounds { reading.more ≤ length reading.entities }
-    requires line_len_bound { length line.old ≤ mostRoom }
-    ensures done { Done player (playedAt reading.near (named_by reading.asked reading bytes.now) line.old (endsOf player)) output.old output.new result }
-    ensures memory { Remembers player (heldAfter player.memory (wrote (named_by reading.asked reading bytes.now) line.old (seatAt reading.near (endsOf player))) (length wire.old)) wire.old wire.new result }
+    requires line_len_bound { length line.old ≤ most_room }
+    ensures done { Done player (played_at reading.near (named_by reading.asked reading bytes.now) line.old (ends_of player)) output.old output.new result }
+    ensures memory { Remembers player (held_after player.memory (wrote (named_by reading.asked reading bytes.now) line.old (seat_at reading.near (ends_of player))) (length wire.old)) wire.old wire.new result }
 {
     let near = reading.near;
     let memory = player.memory;
@@ -194,7 +194,7 @@ fn play_reading(
 // The line buffer of a call.
 fn filled() -> [u8; MOST_ROOM]
     ensures value { result ≡ filled }
-    ensures size { mostRoom ≡ length result }
+    ensures size { most_room ≡ length result }
 {
     [0xee; MOST_ROOM]
 }
@@ -208,8 +208,8 @@ fn play_line(
     bytes: &mut [u8],
 ) -> LinePlayed
     requires { ReadyPlayer player }
-    ensures done { Done player (played (meant (readLine (recalled player.memory wire.old) (length bytes.old) text.now)) (endsOf player)) output.old output.new result }
-    ensures memory { Remembers player (heldBy player (meant (readLine (recalled player.memory wire.old) (length bytes.old) text.now)) (length wire.old)) wire.old wire.new result }
+    ensures done { Done player (played (meant (read_line (recalled player.memory wire.old) (length bytes.old) text.now)) (ends_of player)) output.old output.new result }
+    ensures memory { Remembers player (held_by player (meant (read_line (recalled player.memory wire.old) (length bytes.old) text.now)) (length wire.old)) wire.old wire.new result }
 {
     let said = read_line(text, player.memory, wire, bytes);
     let reading = reading_of(said);
@@ -293,7 +293,7 @@ fn cut_line(text: &[u8], at: usize, last: bool, skipping: bool) -> Cut
 
 fn with_skipping(player: Player, skipping: bool) -> Player
     requires { ReadyPlayer player }
-    ensures outcome { endsOf result ≡ endsOf player }
+    ensures outcome { ends_of result ≡ ends_of player }
     ensures premise { ReadyPlayer result }
 {
     let near = player.near;

@@ -3,7 +3,7 @@ ghost use Rattle.std.specs.Prelude.{◌≡◌, true, false, List, [], ℕ, ◌�
 ghost use Rattle.centre.specs.Turn.{call_of};
 ghost use Rattle.text.specs.Held.{Holds};
 ghost use Rattle.script.specs.Reading.{named_by};
-ghost use Rattle.script.specs.Player.{seatOf, ReadySeat, ReadyPlayer, called, begunAt, done, wroteAt, wrote};
+ghost use Rattle.script.specs.Player.{seat_of, ReadySeat, ReadyPlayer, called, begun_at, done, wrote_at, wrote};
 
 use crate::reading::{Asked, Reading};
 use calls::answer::answer_number;
@@ -65,9 +65,9 @@ pub fn fresh() -> Player
 // A call of 01 at a seat; one without a session stays as it is.
 fn call_at(seat: Seat, order: Order, bytes: &[u8], line: &mut [u8]) -> Step
     requires { ReadySeat seat }
-    ensures outcome { seatOf result.seat ≡ called (call_of order bytes.now) line.old (seatOf seat) }
+    ensures outcome { seat_of result.seat ≡ called (call_of order bytes.now) line.old (seat_of seat) }
     ensures premise { ReadySeat result.seat }
-    ensures written { take result.written line.new ≡ wroteAt (call_of order bytes.now) line.old (seatOf seat) }
+    ensures written { take result.written line.new ≡ wrote_at (call_of order bytes.now) line.old (seat_of seat) }
 {
     if seat.started {
         let centre = seat.centre;
@@ -99,7 +99,7 @@ fn untouched(seat: Seat) -> Step
 // A start at a seat; a refused one leaves the session that was there.
 fn start_at(seat: Seat, date: u32, own: u16, partner: u16, represented: &[u16]) -> Step
     requires { ReadySeat seat }
-    ensures outcome { seatOf result.seat ≡ begunAt date own partner represented.now (seatOf seat) }
+    ensures outcome { seat_of result.seat ≡ begun_at date own partner represented.now (seat_of seat) }
     ensures premise { ReadySeat result.seat }
     ensures written { result.written ≡ 0 }
 {
@@ -128,9 +128,9 @@ fn start_at(seat: Seat, date: u32, own: u16, partner: u16, represented: &[u16]) 
 pub fn act(seat: Seat, reading: Reading, bytes: &[u8], line: &mut [u8]) -> Step
     requires ready_seat { ReadySeat seat }
     requires more_in_bounds { reading.more ≤ length reading.entities }
-    ensures outcome { seatOf result.seat ≡ done (named_by reading.asked reading bytes.now) line.old (seatOf seat) }
+    ensures outcome { seat_of result.seat ≡ done (named_by reading.asked reading bytes.now) line.old (seat_of seat) }
     ensures premise { ReadySeat result.seat }
-    ensures written { take result.written line.new ≡ wrote (named_by reading.asked reading bytes.now) line.old (seatOf seat) }
+    ensures written { take result.written line.new ≡ wrote (named_by reading.asked reading bytes.now) line.old (seat_of seat) }
 {
     let asked = reading.asked;
     let entities = reading.entities;

@@ -2,7 +2,7 @@
 ghost use Rattle.std.specs.Prelude.{◌≡◌, List, map, ℕ, ◌-◌, ◌≤◌, length, drop};
 ghost use Rattle.text.specs.Kind.{shape_of};
 ghost use Rattle.text.specs.Line.{said_of};
-ghost use Rattle.script.specs.Reading.{u16, askedBy, meant, meantBy};
+ghost use Rattle.script.specs.Reading.{u16, asked_by, meant, meant_by};
 
 use centre::call::Order;
 use text::kind::Kind;
@@ -60,7 +60,7 @@ fn behind_three(count: usize) -> usize
 
 // What a line of this kind and with these numbers asks.
 fn asked_by(kind: Kind, numbers: [u64; MOST_NUMBERS]) -> Asked
-    ensures { result ≡ askedBy kind numbers }
+    ensures { result ≡ asked_by kind numbers }
 {
     let time = to_u32(numbers[0]);
     match kind {
@@ -88,7 +88,7 @@ pub fn reading_of(line: Line) -> Reading
     requires numbers_len { length line.numbers ≡ 19 }
     requires kind_bound { (shape_of line.kind).asked ≤ line.count }
     requires count_bound { line.count ≤ 19 }
-    ensures meaning { (buffer : List ℕ) → meantBy result buffer ≡ meant (said_of line buffer) }
+    ensures meaning { (buffer : List ℕ) → meant_by result buffer ≡ meant (said_of line buffer) }
     ensures entities { result.more ≤ length result.entities }
     ensures sizes { (result.bytes ≡ line.bytes) × (result.room ≡ line.room) }
 {

@@ -3,42 +3,42 @@
 use Prim.Native.Nat.{ℕ}
 use mathlib.Core.List.{List}
 use lib.ListN.{replicate}
-use Rattle.packed.specs.Writing.{packedByte}
+use Rattle.packed.specs.Writing.{packed_byte}
 use Rattle.amounts.specs.declared.Totals.{Totals}
 use Rattle.codes.specs.declared.code.Code.{Code}
-use Rattle.codes.specs.Field.{tableWritten}
+use Rattle.codes.specs.Field.{table_written}
 use Rattle.codes.specs.Numbered.{numbered}
-use Rattle.codes.specs.Code.{codes, codeByte, codeNumbered, read_code, knownCode}
-use Rattle.detail.specs.Writing.{writtenDetail}
-use Rattle.detail.proofs.Cases.{computing as detailComputing}
+use Rattle.codes.specs.Code.{codes, code_byte, code_numbered, read_code, known_code}
+use Rattle.detail.specs.Writing.{written_detail}
+use Rattle.detail.proofs.Cases.{computing as detail_computing}
 use Rattle.message.specs.declared.envelope.Envelope.{Envelope}
 use Rattle.message.specs.declared.route.Route.{Route}
-use Rattle.message.specs.Content.{byOperation, contentOf}
-use Rattle.message.specs.Envelope.{envelopeFields, envelopeGood}
-use Rattle.message.specs.Header.{headerFields, headerSendable}
-use Rattle.message.specs.Layout.{fixedShape, bodyCode}
-use Rattle.message.specs.Line.{Body, bodyBytes, wholeMessage, wholeReply}
-use Rattle.message.specs.Reply.{operationByte, operationFor, replyGood}
-use Rattle.message.specs.Total.{lotTotalFields, sessionTotalFields}
-use Rattle.session.specs.Parties.{realDate, partiesGood, padded}
+use Rattle.message.specs.Content.{by_operation, content_of}
+use Rattle.message.specs.Envelope.{envelope_fields, envelope_good}
+use Rattle.message.specs.Header.{header_fields, header_sendable}
+use Rattle.message.specs.Layout.{fixed_shape, body_code}
+use Rattle.message.specs.Line.{Body, body_bytes, whole_message, whole_reply}
+use Rattle.message.specs.Reply.{operation_byte, operation_for, reply_good}
+use Rattle.message.specs.Total.{lot_total_fields, session_total_fields}
+use Rattle.session.specs.Parties.{real_date, parties_good, padded}
 use Rattle.session.specs.Start.{fresh, start}
 use Rattle.session.specs.Course.{advance, kept}
-use Rattle.session.specs.Sequence.{headerSequence, lotSequence, lotTotalSequence, sessionTotalSequence}
+use Rattle.session.specs.Sequence.{header_sequence, lot_sequence, lot_total_sequence, session_total_sequence}
 use Rattle.session.specs.Outcome.{decided}
-use Rattle.session.specs.Time.{clockRefusal, timeRefusal}
-use Rattle.session.specs.Sending.{sendRefusal, send, headerStop, detailStop, lotTotalStop, sessionTotalStop, Send, sendMessage}
-use Rattle.session.specs.Receiving.{headerCode, detailCode, lotTotalCode, sessionTotalCode, receivedCode, receivedEffect, receivingAfter, receiveRefusal, receive}
-use Rattle.session.specs.Reply.{isAwaited, replyRefusal, takeReply}
+use Rattle.session.specs.Time.{clock_refusal, time_refusal}
+use Rattle.session.specs.Sending.{send_refusal, send, header_stop, detail_stop, lot_total_stop, session_total_stop, Send, send_message}
+use Rattle.session.specs.Receiving.{header_code, detail_code, lot_total_code, session_total_code, received_code, received_effect, receiving_after, receive_refusal, receive}
+use Rattle.session.specs.Reply.{is_awaited, reply_refusal, take_reply}
 use Rattle.session.specs.Clock.{clock}
 use Rattle.session.specs.Report.{report}
-use Rattle.session.specs.Ledger.{enter, receivedEntry, sum, lotsSum}
+use Rattle.session.specs.Ledger.{enter, received_entry, sum, lots_sum}
 use Rattle.session.specs.Engine.{Call, meaning, performed}
 use Rattle.session.specs.Ends.{End, act, run, begun}
-use Rattle.session.specs.Entering.{presenterLedgerAt, receiverLedgerAt}
+use Rattle.session.specs.Entering.{presenter_ledger_at, receiver_ledger_at}
 
 -- whoever unfolds this unfolds them all, those of a detail among them
 unfoldable pub computing : Unit {0}
-unfolding detailComputing tableWritten numbered codes codeByte codeNumbered read_code knownCode writtenDetail byOperation envelopeFields envelopeGood headerFields headerSendable fixedShape bodyCode bodyBytes operationByte replyGood lotTotalFields sessionTotalFields realDate partiesGood padded fresh start advance kept headerSequence lotSequence lotTotalSequence sessionTotalSequence decided clockRefusal timeRefusal sendRefusal send headerStop detailStop lotTotalStop sessionTotalStop sendMessage headerCode detailCode lotTotalCode sessionTotalCode receivedCode receivedEffect receivingAfter receiveRefusal receive isAwaited replyRefusal takeReply clock report enter receivedEntry sum lotsSum meaning performed act run presenterLedgerAt receiverLedgerAt begun
+unfolding detail_computing table_written numbered codes code_byte code_numbered read_code known_code written_detail by_operation envelope_fields envelope_good header_fields header_sendable fixed_shape body_code body_bytes operation_byte reply_good lot_total_fields session_total_fields real_date parties_good padded fresh start advance kept header_sequence lot_sequence lot_total_sequence session_total_sequence decided clock_refusal time_refusal send_refusal send header_stop detail_stop lot_total_stop session_total_stop send_message header_code detail_code lot_total_code session_total_code received_code received_effect receiving_after receive_refusal receive is_awaited reply_refusal take_reply clock report enter received_entry sum lots_sum meaning performed act run presenter_ledger_at receiver_ledger_at begun
 computing = tt
 
 -- the route on which an end presents
@@ -50,28 +50,28 @@ way End.far = record { date = 140328; presenting = 72; receiving = 81 }
 pub data Sent : Type 0 where
   header : (number : ℕ) → Sent
   detail : (operation : ℕ) (part : List ℕ) → Sent
-  lotTotal : (number : ℕ) → Totals → Sent
-  sessionTotal : (lots : ℕ) → Totals → Sent
+  lot_total : (number : ℕ) → Totals → Sent
+  session_total : (lots : ℕ) → Totals → Sent
 
 -- every header says 21:00:00.00 and centre 1
 abbrev pub moment : ℕ
 moment = 21000000
 
-abbrev pub bodyFrom : End → Sent → List ℕ
-bodyFrom p (Sent.header number) = bodyBytes (way p) (Body.opening (record { time = moment; centre = 1; number = number }))
-bodyFrom p (Sent.detail operation part) = writtenDetail (packedByte operation) part
-bodyFrom p (Sent.lotTotal number stated) = bodyBytes (way p) (Body.lotEnding (record { number = number; stated = stated }))
-bodyFrom p (Sent.sessionTotal lots stated) = bodyBytes (way p) (Body.sessionEnding (record { number = lots; stated = stated }))
+abbrev pub body_from : End → Sent → List ℕ
+body_from p (Sent.header number) = body_bytes (way p) (Body.opening (record { time = moment; centre = 1; number = number }))
+body_from p (Sent.detail operation part) = written_detail (packed_byte operation) part
+body_from p (Sent.lot_total number stated) = body_bytes (way p) (Body.lot_ending (record { number = number; stated = stated }))
+body_from p (Sent.session_total lots stated) = body_bytes (way p) (Body.session_ending (record { number = lots; stated = stated }))
 
 -- the whole message that an end presents with a serial, and a reply to it
-abbrev pub envelopeFrom : End → (serial : ℕ) → Envelope
-envelopeFrom p serial = record { route = way p; serial = serial }
+abbrev pub envelope_from : End → (serial : ℕ) → Envelope
+envelope_from p serial = record { route = way p; serial = serial }
 
-abbrev pub messageFrom : End → (serial : ℕ) → Sent → List ℕ
-messageFrom p serial x = wholeMessage (envelopeFrom p serial) (bodyFrom p x)
+abbrev pub message_from : End → (serial : ℕ) → Sent → List ℕ
+message_from p serial x = whole_message (envelope_from p serial) (body_from p x)
 
-abbrev pub replyTo : End → (serial : ℕ) → Sent → Code → List ℕ
-replyTo p serial x code = wholeReply (envelopeFrom p serial) (record { operation = operationFor (contentOf (bodyFrom p x)); code = code })
+abbrev pub reply_to : End → (serial : ℕ) → Sent → Code → List ℕ
+reply_to p serial x code = whole_reply (envelope_from p serial) (record { operation = operation_for (content_of (body_from p x)); code = code })
 
 -- a line buffer, longer than any message here
 abbrev pub buffer : List ℕ
@@ -81,11 +81,11 @@ buffer = replicate 300 0xEE
 abbrev pub sending : (time : ℕ) → Sent → Call
 sending time (Sent.header number) = Call.send time (Send.header moment 1 number)
 sending time (Sent.detail operation part) = Call.send time (Send.detail operation part)
-sending time (Sent.lotTotal number stated) = Call.send time Send.lotTotal
-sending time (Sent.sessionTotal lots stated) = Call.send time Send.sessionTotal
+sending time (Sent.lot_total number stated) = Call.send time Send.lot_total
+sending time (Sent.session_total lots stated) = Call.send time Send.session_total
 
 abbrev pub receiving : (time : ℕ) → End → (serial : ℕ) → Sent → Call
-receiving time p serial x = Call.receive time (messageFrom p serial x)
+receiving time p serial x = Call.receive time (message_from p serial x)
 
 abbrev pub replied : (time : ℕ) → End → (serial : ℕ) → Sent → Code → Call
-replied time p serial x code = Call.reply time (replyTo p serial x code)
+replied time p serial x code = Call.reply time (reply_to p serial x code)

@@ -17,8 +17,8 @@ abbrev pub reopened : OpenLot → Counters → Counters
 reopened lot c = record { current = lot; lots = c.lots; gathered = c.gathered }
 
 -- with one more lot that was accepted, and none open
-abbrev pub oneMoreLot : Lot → Counters → Counters
-oneMoreLot l c = record { current = OpenLot.None; lots = suc c.lots; gathered = gather c.gathered l.gathered }
+abbrev pub one_more_lot : Lot → Counters → Counters
+one_more_lot l c = record { current = OpenLot.None; lots = suc c.lots; gathered = gather c.gathered l.gathered }
 
 -- what a message does to its direction, by whether its reply is 00
 unfoldable pub advance : Effect → (accepted : Bool) → Course → Course
@@ -27,7 +27,7 @@ advance (Effect.Header number) true k = record { counters = reopened (OpenLot.Nu
 -- a detail adds its documents
 advance (Effect.Detail more) true k = record { counters = k.counters; running = gather k.running more }
 -- a lot total counts the lot, or ends it as not transmitted
-advance (Effect.LotTotal lot) true k = record { counters = oneMoreLot lot k.counters; running = empty }
+advance (Effect.LotTotal lot) true k = record { counters = one_more_lot lot k.counters; running = empty }
 advance (Effect.LotTotal lot) false k = record { counters = reopened OpenLot.None k.counters; running = empty }
 -- nothing else moves
 advance (Effect.Header number) false k = k

@@ -1,7 +1,7 @@
 -- 01, 'Both ends together': two engines, a line that carries only what they wrote, and any list of calls.
 use Rattle.std.specs.Prelude.{ℕ, ◌≡◌, List, [], ◌∷◌, ◌⊎◌}
 use Rattle.session.specs.Start.{start}
-use Rattle.session.specs.Engine.{Call, Engine, Said, saidBy, performed, withEmpty}
+use Rattle.session.specs.Engine.{Call, Engine, Said, said_by, performed, with_empty}
 
 -- the two ends of the line
 pub data End : Type 0 where
@@ -41,7 +41,7 @@ pub record Step : Type 0 where
 unfoldable pub act : Step → World → World
 act s w =
     let d = performed s.call s.line (w.engine s.at) in
-    record { engine = replaced s.at d.engine w.engine; trace = record { at = s.at; call = s.call; said = saidBy d } ∷ w.trace }
+    record { engine = replaced s.at d.engine w.engine; trace = record { at = s.at; call = s.call; said = said_by d } ∷ w.trace }
 
 -- a list of calls, in order
 unfoldable pub run : List Step → World → World
@@ -72,14 +72,14 @@ engines here there End.near = here
 engines here there End.far = there
 
 -- both ends at the beginning: two starts with the pair exchanged, and nothing gathered
-unfoldable pub begun : (date nearEntity farEntity : ℕ) (represented : End → List ℕ) → World
-begun date nearEntity farEntity represented =
+unfoldable pub begun : (date near_entity far_entity : ℕ) (represented : End → List ℕ) → World
+begun date near_entity far_entity represented =
     record {
-      engine = engines (withEmpty (start date nearEntity farEntity (represented End.near)).session) (withEmpty (start date farEntity nearEntity (represented End.far)).session);
+      engine = engines (with_empty (start date near_entity far_entity (represented End.near)).session) (with_empty (start date far_entity near_entity (represented End.far)).session);
       trace = [];
     }
 
 -- neither start was refused
-pub record StartsAccepted (date nearEntity farEntity : ℕ) (represented : End → List ℕ) : Type 0 where
-  pub near : (start date nearEntity farEntity (represented End.near)).number ≡ 0
-  pub far : (start date farEntity nearEntity (represented End.far)).number ≡ 0
+pub record StartsAccepted (date near_entity far_entity : ℕ) (represented : End → List ℕ) : Type 0 where
+  pub near : (start date near_entity far_entity (represented End.near)).number ≡ 0
+  pub far : (start date far_entity near_entity (represented End.far)).number ≡ 0

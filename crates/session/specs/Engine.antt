@@ -5,9 +5,9 @@ use Rattle.session.specs.declared.session.Session.{Session}
 use Rattle.session.specs.declared.running.Running.{Running}
 use Rattle.session.specs.Running.{empty}
 use Rattle.session.specs.Outcome.{Held, held, Outcome, silent}
-use Rattle.session.specs.Sending.{Send, sendMessage}
+use Rattle.session.specs.Sending.{Send, send_message}
 use Rattle.session.specs.Receiving as Receiving
-use Rattle.session.specs.Reply.{takeReply}
+use Rattle.session.specs.Reply.{take_reply}
 use Rattle.session.specs.Clock as Clock
 use Rattle.session.specs.Premise.{Sound, Carried}
 
@@ -21,19 +21,19 @@ pub data Call : Type 0 where
 
 -- what each of them means
 unfoldable pub meaning : Call → Held → Outcome
-meaning (Call.send time x) h = sendMessage time x h
+meaning (Call.send time x) h = send_message time x h
 meaning (Call.receive time bytes) h = Receiving.receive time bytes h
-meaning (Call.reply time bytes) h = takeReply time bytes h
+meaning (Call.reply time bytes) h = take_reply time bytes h
 meaning (Call.clock time) h = Clock.clock time h
 meaning Call.report h = silent h  -- what it shows is `report`
 
 -- the direction whose running totals stand in what it is lent; header, session total, clock call and report do not use them
-abbrev pub directionOf : Call → Direction
-directionOf (Call.receive time bytes) = Direction.receiving
-directionOf (Call.send time x) = Direction.presenting
-directionOf (Call.reply time bytes) = Direction.presenting
-directionOf (Call.clock time) = Direction.presenting
-directionOf Call.report = Direction.presenting
+abbrev pub direction_of : Call → Direction
+direction_of (Call.receive time bytes) = Direction.receiving
+direction_of (Call.send time x) = Direction.presenting
+direction_of (Call.reply time bytes) = Direction.presenting
+direction_of (Call.clock time) = Direction.presenting
+direction_of Call.report = Direction.presenting
 
 -- one end of the line
 pub record Engine : Type 0 where
@@ -47,9 +47,9 @@ lent Direction.presenting line e = held e.session e.presenting line
 lent Direction.receiving line e = held e.session e.receiving line
 
 -- and what it leaves of it
-abbrev pub givenBack : Direction → Held → Engine → Engine
-givenBack Direction.presenting h e = record { session = h.session; presenting = h.running; receiving = e.receiving }
-givenBack Direction.receiving h e = record { session = h.session; presenting = e.presenting; receiving = h.running }
+abbrev pub given_back : Direction → Held → Engine → Engine
+given_back Direction.presenting h e = record { session = h.session; presenting = h.running; receiving = e.receiving }
+given_back Direction.receiving h e = record { session = h.session; presenting = e.presenting; receiving = h.running }
 
 -- what a call with a line buffer gives: its number, how many bytes it wrote, the buffer, and the engine that it leaves
 pub record Performed : Type 0 where
@@ -59,24 +59,24 @@ pub record Performed : Type 0 where
   pub engine : Engine
 
 -- by the outcome of a call of a direction
-abbrev pub performedBy : Direction → Outcome → Engine → Performed
-performedBy d o e = record { number = o.number; written = o.written; line = o.left.line; engine = givenBack d o.left e }
+abbrev pub performed_by : Direction → Outcome → Engine → Performed
+performed_by d o e = record { number = o.number; written = o.written; line = o.left.line; engine = given_back d o.left e }
 
 -- a call; a reply call, a clock call and a report do not use their line buffer
 unfoldable pub performed : Call → (line : List ℕ) → Engine → Performed
-performed call line e = performedBy (directionOf call) (meaning call (lent (directionOf call) line e)) e
+performed call line e = performed_by (direction_of call) (meaning call (lent (direction_of call) line e)) e
 
 -- what a call says: its number, and the whole message or reply that it wrote, which are the first bytes of the line buffer
 pub record Said : Type 0 where
   pub number : ℕ
   pub bytes : List ℕ
 
-abbrev pub saidBy : Performed → Said
-saidBy p = record { number = p.number; bytes = take p.written p.line }
+abbrev pub said_by : Performed → Said
+said_by p = record { number = p.number; bytes = take p.written p.line }
 
 -- a session with running totals zero
-abbrev pub withEmpty : Session → Engine
-withEmpty s = record { session = s; presenting = empty; receiving = empty }
+abbrev pub with_empty : Session → Engine
+with_empty s = record { session = s; presenting = empty; receiving = empty }
 
 -- the premise of every call, of an engine
 pub record Ready (e : Engine) : Type 0 where

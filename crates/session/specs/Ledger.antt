@@ -1,19 +1,19 @@
 -- 01, 'Both ends together': a ledger, 01's book, how a message is entered, and the counts and sums over it. Each direction has one at each end.
 use Rattle.std.specs.Prelude.{ℕ, ◌≡◌, Bool, true, false, List, [], ◌∷◌, ◌++◌, map, length}
 use Rattle.std.proofs.Math.Option.{Option, none, some}
-use Rattle.packed.specs.Writing.{packedByte}
-use Rattle.codes.specs.Body.{operationOf}
+use Rattle.packed.specs.Writing.{packed_byte}
+use Rattle.codes.specs.Body.{operation_of}
 use Rattle.packed.specs.Every.{member}
 use Rattle.detail.specs.Groups.{documents}
 use Rattle.message.specs.declared.content.Content.{Content}
-use Rattle.message.specs.Content.{contentOf}
-use Rattle.message.specs.Header.{headerOf}
+use Rattle.message.specs.Content.{content_of}
+use Rattle.message.specs.Header.{header_of}
 use Rattle.session.specs.declared.counters.Lot.{Lot}
 use Rattle.session.specs.declared.report.Tally.{Tally}
 use Rattle.session.specs.declared.running.Running.{Running}
-use Rattle.session.specs.Running.{empty, gather, detailAdds}
+use Rattle.session.specs.Running.{empty, gather, detail_adds}
 use Rattle.session.specs.Sending.{Send}
-use Rattle.document.specs.Part.{documentsOf}
+use Rattle.document.specs.Part.{documents_of}
 
 -- a document to the byte, its key included, and its operation as the byte of its group
 pub record Document : Type 0 where
@@ -38,8 +38,8 @@ blank = record { lots = []; current = none }
 pub data Entry : Type 0 where
   header : (number : ℕ) → Entry
   detail : List Document → Entry
-  lotTotal : Entry
-  sessionTotal : Entry
+  lot_total : Entry
+  session_total : Entry
 
 -- the open lot with more documents
 abbrev pub longer : List Document → Option LedgerLot → Option LedgerLot
@@ -56,59 +56,59 @@ unfoldable pub enter : Entry → (accepted : Bool) → Ledger → Ledger
 -- on 00
 enter (Entry.header number) true b = record { lots = b.lots; current = some (record { number = number; documents = [] }) }
 enter (Entry.detail ds) true b = record { lots = b.lots; current = longer ds b.current }
-enter Entry.lotTotal true b = record { lots = moved b.lots b.current; current = none }
+enter Entry.lot_total true b = record { lots = moved b.lots b.current; current = none }
 -- on another code
-enter Entry.lotTotal false b = record { lots = b.lots; current = none }
+enter Entry.lot_total false b = record { lots = b.lots; current = none }
 -- else the ledger stays
 enter (Entry.header number) false b = b
 enter (Entry.detail ds) false b = b
-enter Entry.sessionTotal accepted b = b
+enter Entry.session_total accepted b = b
 
 -- the same of a body that was read: one that is no message enters nothing
-abbrev pub enterRead : Option Entry → (accepted : Bool) → Ledger → Ledger
-enterRead none accepted b = b
-enterRead (some e) accepted b = enter e accepted b
+abbrev pub enter_read : Option Entry → (accepted : Bool) → Ledger → Ledger
+enter_read none accepted b = b
+enter_read (some e) accepted b = enter e accepted b
 
 -- documents of one operation
-abbrev pub ofOperation : (operation : ℕ) → List (List ℕ) → List Document
-ofOperation operation ds = map (λ (d : List ℕ). record { operation = operation; bytes = d }) ds
+abbrev pub of_operation : (operation : ℕ) → List (List ℕ) → List Document
+of_operation operation ds = map (λ (d : List ℕ). record { operation = operation; bytes = d }) ds
 
 -- what a send is entered as
-abbrev pub sentEntry : Send → Entry
-sentEntry (Send.header moment centre number) = Entry.header number
-sentEntry (Send.detail operation part) = Entry.detail (ofOperation (packedByte operation) (documentsOf part))
-sentEntry Send.lotTotal = Entry.lotTotal
-sentEntry Send.sessionTotal = Entry.sessionTotal
+abbrev pub sent_entry : Send → Entry
+sent_entry (Send.header moment centre number) = Entry.header number
+sent_entry (Send.detail operation part) = Entry.detail (of_operation (packed_byte operation) (documents_of part))
+sent_entry Send.lot_total = Entry.lot_total
+sent_entry Send.session_total = Entry.session_total
 
 -- and what a received body is entered as, by its content
-unfoldable pub receivedEntry : Content → (body : List ℕ) → Option Entry
-receivedEntry Content.Header body = some (Entry.header (headerOf body).number)
-receivedEntry Content.Detail body = some (Entry.detail (ofOperation (operationOf body) (documents body)))
-receivedEntry Content.LotTotal body = some Entry.lotTotal
-receivedEntry Content.SessionTotal body = some Entry.sessionTotal
-receivedEntry Content.Unknown body = none
+unfoldable pub received_entry : Content → (body : List ℕ) → Option Entry
+received_entry Content.Header body = some (Entry.header (header_of body).number)
+received_entry Content.Detail body = some (Entry.detail (of_operation (operation_of body) (documents body)))
+received_entry Content.LotTotal body = some Entry.lot_total
+received_entry Content.SessionTotal body = some Entry.session_total
+received_entry Content.Unknown body = none
 
 -- which its operation tells
-abbrev pub bodyEntry : (body : List ℕ) → Option Entry
-bodyEntry body = receivedEntry (contentOf body) body
+abbrev pub body_entry : (body : List ℕ) → Option Entry
+body_entry body = received_entry (content_of body) body
 
 -- counts and sums over documents
 unfoldable pub sum : List Document → Running
 sum [] = empty
-sum (d ∷ ds) = gather (detailAdds d.operation (d.bytes ∷ [])) (sum ds)
+sum (d ∷ ds) = gather (detail_adds d.operation (d.bytes ∷ [])) (sum ds)
 
 -- a lot as a report names it
-abbrev pub lotSum : LedgerLot → Lot
-lotSum l = record { number = l.number; gathered = sum l.documents }
+abbrev pub lot_sum : LedgerLot → Lot
+lot_sum l = record { number = l.number; gathered = sum l.documents }
 
 -- over a list of lots
-unfoldable pub lotsSum : List LedgerLot → Running
-lotsSum [] = empty
-lotsSum (l ∷ ls) = gather (sum l.documents) (lotsSum ls)
+unfoldable pub lots_sum : List LedgerLot → Running
+lots_sum [] = empty
+lots_sum (l ∷ ls) = gather (sum l.documents) (lots_sum ls)
 
 -- as a report's totals
 abbrev pub tallied : List LedgerLot → Tally
-tallied ls = record { lots = length ls; gathered = lotsSum ls }
+tallied ls = record { lots = length ls; gathered = lots_sum ls }
 
 -- the numbers of the lots
 abbrev pub numbers : List LedgerLot → List ℕ

@@ -2,17 +2,17 @@
 use Rattle.std.specs.Prelude.{ℕ, Bool, leb, ltb}
 
 -- the most documents of a lot; 001 advises it
-abbrev pub mostLotDocuments : ℕ
-mostLotDocuments = 2600
+abbrev pub most_lot_documents : ℕ
+most_lot_documents = 2600
 
 -- the most accepted lots of a direction
-abbrev pub mostLots : ℕ
-mostLots = 64
+abbrev pub most_lots : ℕ
+most_lots = 64
 
 -- 12: so many documents are too many for a lot
-abbrev pub passesLot : ℕ → Bool
-passesLot documents = ltb mostLotDocuments documents
+abbrev pub passes_lot : ℕ → Bool
+passes_lot documents = ltb most_lot_documents documents
 
 -- 11: with so many accepted lots there may be no more
-abbrev pub lotsUsed : ℕ → Bool
-lotsUsed lots = leb mostLots lots
+abbrev pub lots_used : ℕ → Bool
+lots_used lots = leb most_lots lots

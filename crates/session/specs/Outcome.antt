@@ -1,7 +1,7 @@
 -- 01, 'Given because of the input': what a call is lent and what it leaves, refused or not.
 use Rattle.std.specs.Prelude.{ℕ, zero, suc, Bool, List, ltb, length}
 use Rattle.std.proofs.lemmas.List.Edits.{sets}
-use Rattle.codes.specs.Refusal.{refusalNumber}
+use Rattle.codes.specs.Refusal.{refusal_number}
 use Rattle.session.specs.declared.session.Answer.{Answer}
 use Rattle.session.specs.declared.session.Presenting.{Presenting}
 use Rattle.session.specs.declared.session.Receiving.{Receiving}
@@ -24,9 +24,9 @@ pub record Outcome : Type 0 where
   pub left : Held
 
 -- the paper's number of an answer
-abbrev pub answerNumber : Answer → ℕ
-answerNumber Answer.Done = 0
-answerNumber (Answer.Refused r) = refusalNumber r
+abbrev pub answer_number : Answer → ℕ
+answer_number Answer.Done = 0
+answer_number (Answer.Refused r) = refusal_number r
 
 -- 'A refused call gives its number and changes nothing'
 abbrev pub refused : ℕ → Held → Outcome
@@ -46,16 +46,16 @@ abbrev pub wrote : (bytes : List ℕ) → Held → Outcome
 wrote bytes h = record { number = 0; written = length bytes; left = held h.session h.running (sets h.line 0 bytes) }
 
 -- 23: a buffer is too short for so many bytes
-abbrev pub noRoom : (bytes room : ℕ) → Bool
-noRoom bytes room = ltb room bytes
+abbrev pub no_room : (bytes room : ℕ) → Bool
+no_room bytes room = ltb room bytes
 
 -- 'An unrefused call makes its time the last seen'
 abbrev pub seen_at : (time : ℕ) → Session → Session
 seen_at time s = record { parties = s.parties; presenting = s.presenting; receiving = s.receiving; seen = time; close = s.close }
 
 -- a session with another presenting direction, or another receiving one
-abbrev pub withPresenting : Presenting → Session → Session
-withPresenting p s = record { parties = s.parties; presenting = p; receiving = s.receiving; seen = s.seen; close = s.close }
+abbrev pub with_presenting : Presenting → Session → Session
+with_presenting p s = record { parties = s.parties; presenting = p; receiving = s.receiving; seen = s.seen; close = s.close }
 
-abbrev pub withReceiving : Receiving → Session → Session
-withReceiving r s = record { parties = s.parties; presenting = s.presenting; receiving = r; seen = s.seen; close = s.close }
+abbrev pub with_receiving : Receiving → Session → Session
+with_receiving r s = record { parties = s.parties; presenting = s.presenting; receiving = r; seen = s.seen; close = s.close }

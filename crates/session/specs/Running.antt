@@ -2,7 +2,7 @@
 use Rattle.std.specs.Prelude.{ℕ, List}
 use Rattle.amounts.specs.declared.Totals.{Totals}
 use Rattle.amounts.specs.Totals.{zeros, plus}
-use Rattle.document.specs.Amounts.{totalsOf}
+use Rattle.document.specs.Amounts.{totals_of}
 use Rattle.session.specs.declared.running.Running.{Running}
 
 -- of a lot that has no documents yet
@@ -22,9 +22,9 @@ abbrev pub gather : Running → Running → Running
 gather a b = record { totals = plus (stated a) (stated b) }
 
 -- what an accepted detail adds
-abbrev pub detailAdds : (operation : ℕ) (documents : List (List ℕ)) → Running
-detailAdds operation documents = adding operation (totalsOf documents)
+abbrev pub detail_adds : (operation : ℕ) (documents : List (List ℕ)) → Running
+detail_adds operation documents = adding operation (totals_of documents)
 
 -- how many documents there are
-abbrev pub documentsIn : Running → ℕ
-documentsIn r = (stated r).documents.0
+abbrev pub documents_in : Running → ℕ
+documents_in r = (stated r).documents.0

@@ -2,23 +2,23 @@
 use Rattle.std.specs.Prelude.{ℕ, Bool, true, false, not, ltb}
 use Rattle.codes.specs.Chain.{◌when◌, ◌orelse◌}
 use Rattle.session.specs.declared.session.Close.{Close}
-use Rattle.session.specs.Hours.{pastDay, withinHours}
+use Rattle.session.specs.Hours.{past_day, within_hours}
 
 -- 32: closed, in whatever way
-abbrev pub isClosed : Close → Bool
-isClosed Close.Open = false
-isClosed Close.Ordered = true
-isClosed Close.Forced = true
+abbrev pub is_closed : Close → Bool
+is_closed Close.Open = false
+is_closed Close.Ordered = true
+is_closed Close.Forced = true
 
 -- of a clock call, which 31 does not concern
-unfoldable pub clockRefusal : (time seen : ℕ) → Close → ℕ
-clockRefusal time seen close =
-    20 when pastDay time
-    orelse 32 when isClosed close
+unfoldable pub clock_refusal : (time seen : ℕ) → Close → ℕ
+clock_refusal time seen close =
+    20 when past_day time
+    orelse 32 when is_closed close
     orelse 30 when ltb time seen
 
 -- of every other call
-unfoldable pub timeRefusal : (time seen : ℕ) → Close → ℕ
-timeRefusal time seen close =
-    clockRefusal time seen close
-    orelse 31 when not (withinHours time)
+unfoldable pub time_refusal : (time seen : ℕ) → Close → ℕ
+time_refusal time seen close =
+    clock_refusal time seen close
+    orelse 31 when not (within_hours time)

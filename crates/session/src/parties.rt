@@ -1,7 +1,7 @@
 // Date and entities of a session, which never change: what a start is given, and its limits.
 ghost use Rattle.std.specs.Prelude.{◌≡◌, length, ◌≤◌};
-ghost use Rattle.document.specs.Limits.{mostRepresented};
-ghost use Rattle.session.specs.Parties.{realDate, partiesGood, padded, partiesOf, nobody};
+ghost use Rattle.document.specs.Limits.{most_represented};
+ghost use Rattle.session.specs.Parties.{real_date, parties_good, padded, parties_of, nobody};
 
 use document::entities::{LARGEST_ENTITY, MOST_REPRESENTED, entities_good};
 use document::rules::day_and_month;
@@ -24,7 +24,7 @@ const LEAP_DAY: u32 = 2902;
 
 // Whether a number is a date DDMMYY of the years 2000 to 2099, of which every fourth is a leap year.
 fn real_date(date: u32) -> bool
-    ensures { result ≡ realDate date }
+    ensures { result ≡ real_date date }
 {
     if LARGEST_DATE < date {
         return false;
@@ -36,7 +36,7 @@ fn real_date(date: u32) -> bool
 
 // Whether a start may be made of these.
 pub fn parties_good(date: u32, own: u16, partner: u16, represented: &[u16]) -> bool
-    ensures { result ≡ partiesGood date own partner represented.now }
+    ensures { result ≡ parties_good date own partner represented.now }
 {
     real_date(date)
         & entities_good(own, represented)
@@ -46,7 +46,7 @@ pub fn parties_good(date: u32, own: u16, partner: u16, represented: &[u16]) -> b
 
 // The represented entities in their eight places, the rest of them 0.
 fn padded(represented: &[u16]) -> [u16; MOST_REPRESENTED]
-    requires { length represented.now ≤ mostRepresented }
+    requires { length represented.now ≤ most_represented }
     ensures { result ≡ padded represented.now }
 {
     let mut places = [0; MOST_REPRESENTED];
@@ -60,8 +60,8 @@ fn padded(represented: &[u16]) -> [u16; MOST_REPRESENTED]
 
 // The parties of a start.
 pub fn parties_of(date: u32, own: u16, partner: u16, represented: &[u16]) -> Parties
-    requires { length represented.now ≤ mostRepresented }
-    ensures { result ≡ partiesOf date own partner represented.now }
+    requires { length represented.now ≤ most_represented }
+    ensures { result ≡ parties_of date own partner represented.now }
 {
     Parties {
         date: date,

@@ -2,7 +2,7 @@
 // gathered may grow by counts that no message states. Nothing looks inside but the functions here.
 ghost use Rattle.std.specs.Prelude.{◌≡◌};
 ghost use Rattle.amounts.specs.Inner.Fits.{SumFits};
-ghost use Rattle.session.specs.Running.{empty, adding, gather, stated, documentsIn};
+ghost use Rattle.session.specs.Running.{empty, adding, gather, stated, documents_in};
 
 use amounts::Totals;
 
@@ -49,7 +49,7 @@ pub fn gather(running: Running, more: Running) -> Running
 
 // How many documents there are.
 pub fn documents_in(running: Running) -> u64
-    ensures { result ≡ documentsIn running }
+    ensures { result ≡ documents_in running }
 {
     running.totals.documents.0
 }

@@ -1,7 +1,7 @@
 // A session of one centre: both of its directions, the last seen time and the close.
 ghost use Rattle.std.specs.Prelude.{◌≡◌};
-ghost use Rattle.session.specs.Start.{noLots, unsent, unheard, fresh, startSaid, start};
-ghost use Rattle.session.specs.Engine.{withEmpty, Ready};
+ghost use Rattle.session.specs.Start.{no_lots, unsent, unheard, fresh, start_said, start};
+ghost use Rattle.session.specs.Engine.{with_empty, Ready};
 
 use crate::counters::{Counters, Lot, Lots, OpenLot};
 use crate::effect::Effect;
@@ -67,7 +67,7 @@ pub struct Started {
 
 // No lot is open and none accepted.
 fn no_lots() -> Counters
-    ensures { result ≡ noLots }
+    ensures { result ≡ no_lots }
 {
     Counters {
         current: OpenLot::None,
@@ -135,8 +135,8 @@ impl Session {
     // A session just started; or 24. What stands beside 24 the paper leaves open: a session that is closed, was never
     // started, and meets the premise of every call.
     pub fn start(date: u32, own: u16, partner: u16, represented: &[u16]) -> Started
-        ensures outcome { startSaid result ≡ start date own partner represented.now }
-        ensures premise { Ready (withEmpty result.session) }
+        ensures outcome { start_said result ≡ start date own partner represented.now }
+        ensures premise { Ready (with_empty result.session) }
     {
         if parties_good(date, own, partner, represented) {
             return Started {

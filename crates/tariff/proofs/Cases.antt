@@ -5,55 +5,55 @@ use mathlib.Core.List.{List, [], ◌∷◌, ◌++◌, flat_map}
 use Prim.Native.Nat.{ℕ, zero, suc}
 use lib.ListN.{take, drop, set}
 use Rattle.packed.specs.Every.{every, member}
-use Rattle.packed.specs.Digits.{isDigits}
-use Rattle.packed.specs.Number.{byteValue, number}
-use Rattle.packed.specs.Writing.{packedByte, packedBytes}
+use Rattle.packed.specs.Digits.{is_digits}
+use Rattle.packed.specs.Number.{byte_value, number}
+use Rattle.packed.specs.Writing.{packed_byte, packed_bytes}
 use Rattle.packed.specs.Pieces.{cut}
 use Rattle.codes.specs.Chain.{◌when◌, ◌orelse◌}
 use Rattle.codes.specs.Numbered.{numbered}
 use Rattle.codes.proofs.Cases.{◌is◌, AllDue}
 use Rattle.document.specs.Operation.{presented}
-use Rattle.document.specs.Fields.{documentFields}
+use Rattle.document.specs.Fields.{document_fields}
 use Rattle.document.specs.Amounts.{nominal, commission}
-use Rattle.tariff.specs.Tariff.{rows_of, noneTwice, goodTariff}
+use Rattle.tariff.specs.Tariff.{rows_of, none_twice, good_tariff}
 use Rattle.tariff.specs.Rounding.{rounded}
-use Rattle.tariff.specs.Commission.{byRow, searched, ruleOf, due, commissionRefusal, commissioned}
-use Rattle.tariff.specs.Tray.{tariffKeyField, tariffKey, documentRefusal, firstRefusal, goodBefore, fillRefusal, filled, withCommission, filledDocument, trayAfter}
+use Rattle.tariff.specs.Commission.{by_row, searched, rule_of, due, commission_refusal, commissioned}
+use Rattle.tariff.specs.Tray.{tariff_key_field, tariff_key, document_refusal, first_refusal, good_before, fill_refusal, filled, with_commission, filled_document, tray_after}
 
 -- so many keys with a rate of 0, from the largest down
 keys : (count : ℕ) → List ℕ
 keys zero = []
 keys (suc n) = suc n ∷ 0 ∷ 0 ∷ 0 ∷ keys n
 
-good-tariffs : AllDue
-    (goodTariff [] is true
+good_tariffs : AllDue
+    (good_tariff [] is true
     -- 20 keys and 21, and lengths that are no multiple of four
-    ∷ goodTariff (keys 20) is true
-    ∷ goodTariff (keys 21) is false
-    ∷ goodTariff (5 ∷ []) is false
-    ∷ goodTariff (5 ∷ 0 ∷ 0 ∷ []) is false
-    ∷ goodTariff (5 ∷ 0 ∷ 0 ∷ 0 ∷ 6 ∷ []) is false
+    ∷ good_tariff (keys 20) is true
+    ∷ good_tariff (keys 21) is false
+    ∷ good_tariff (5 ∷ []) is false
+    ∷ good_tariff (5 ∷ 0 ∷ 0 ∷ []) is false
+    ∷ good_tariff (5 ∷ 0 ∷ 0 ∷ 0 ∷ 6 ∷ []) is false
     -- a key twice, beside itself and apart
-    ∷ goodTariff (5 ∷ 0 ∷ 0 ∷ 0 ∷ 5 ∷ 0 ∷ 0 ∷ 0 ∷ []) is false
-    ∷ goodTariff (20 ∷ 0 ∷ 0 ∷ 0 ∷ keys 19) is true
-    ∷ goodTariff (1 ∷ 0 ∷ 0 ∷ 0 ∷ keys 19) is false
+    ∷ good_tariff (5 ∷ 0 ∷ 0 ∷ 0 ∷ 5 ∷ 0 ∷ 0 ∷ 0 ∷ []) is false
+    ∷ good_tariff (20 ∷ 0 ∷ 0 ∷ 0 ∷ keys 19) is true
+    ∷ good_tariff (1 ∷ 0 ∷ 0 ∷ 0 ∷ keys 19) is false
     -- keys 0, 9999 and 10,000
-    ∷ goodTariff (0 ∷ 0 ∷ 0 ∷ 0 ∷ []) is false
-    ∷ goodTariff (9999 ∷ 0 ∷ 0 ∷ 0 ∷ []) is true
-    ∷ goodTariff (10000 ∷ 0 ∷ 0 ∷ 0 ∷ []) is false
+    ∷ good_tariff (0 ∷ 0 ∷ 0 ∷ 0 ∷ []) is false
+    ∷ good_tariff (9999 ∷ 0 ∷ 0 ∷ 0 ∷ []) is true
+    ∷ good_tariff (10000 ∷ 0 ∷ 0 ∷ 0 ∷ []) is false
     -- rates of 10,000 and 10,001
-    ∷ goodTariff (5 ∷ 10000 ∷ 0 ∷ 0 ∷ []) is true
-    ∷ goodTariff (5 ∷ 10001 ∷ 0 ∷ 0 ∷ []) is false
+    ∷ good_tariff (5 ∷ 10000 ∷ 0 ∷ 0 ∷ []) is true
+    ∷ good_tariff (5 ∷ 10001 ∷ 0 ∷ 0 ∷ []) is false
     -- a least that is its greatest, and one above it; the largest greatest, and one more
-    ∷ goodTariff (5 ∷ 0 ∷ 7 ∷ 7 ∷ []) is true
-    ∷ goodTariff (5 ∷ 0 ∷ 8 ∷ 7 ∷ []) is false
-    ∷ goodTariff (5 ∷ 0 ∷ 0 ∷ 99999999 ∷ []) is true
-    ∷ goodTariff (5 ∷ 0 ∷ 0 ∷ 100000000 ∷ []) is false
+    ∷ good_tariff (5 ∷ 0 ∷ 7 ∷ 7 ∷ []) is true
+    ∷ good_tariff (5 ∷ 0 ∷ 8 ∷ 7 ∷ []) is false
+    ∷ good_tariff (5 ∷ 0 ∷ 0 ∷ 99999999 ∷ []) is true
+    ∷ good_tariff (5 ∷ 0 ∷ 0 ∷ 100000000 ∷ []) is false
     -- a row that is not the first
-    ∷ goodTariff (5 ∷ 0 ∷ 0 ∷ 0 ∷ 6 ∷ 10001 ∷ 0 ∷ 0 ∷ []) is false
+    ∷ good_tariff (5 ∷ 0 ∷ 0 ∷ 0 ∷ 6 ∷ 10001 ∷ 0 ∷ 0 ∷ []) is false
     ∷ [])
-unfolding goodTariff rows_of noneTwice every member cut keys
-good-tariffs = refl
+unfolding good_tariff rows_of none_twice every member cut keys
+good_tariffs = refl
 
 -- a tenth, with bounds that no case reaches and with 10 and 20; the smallest rate; the whole nominal; two keys with nothing but bounds
 tenth : List ℕ
@@ -92,7 +92,7 @@ halves : AllDue
     ∷ gives smallest 7 5000 0 is 1
     ∷ gives smallest 7 5001 0 is 1
     ∷ [])
-unfolding commissioned commissionRefusal goodTariff rows_of noneTwice every member cut ruleOf searched numbered due byRow rounded ◌when◌ ◌orelse◌ tenth smallest
+unfolding commissioned commission_refusal good_tariff rows_of none_twice every member cut rule_of searched numbered due by_row rounded ◌when◌ ◌orelse◌ tenth smallest
 halves = refl
 
 commissions : AllDue
@@ -128,13 +128,13 @@ commissions : AllDue
     ∷ gives tenth 7 0 100000000 is 0
     ∷ gives tenth 6 0 5 is 0
     ∷ [])
-unfolding commissioned commissionRefusal goodTariff rows_of noneTwice every member cut ruleOf searched numbered due byRow rounded ◌when◌ ◌orelse◌ tenth bounded whole two bad
+unfolding commissioned commission_refusal good_tariff rows_of none_twice every member cut rule_of searched numbered due by_row rounded ◌when◌ ◌orelse◌ tenth bounded whole two bad
 commissions = refl
 
 -- a document of this key, nominal and commission
 document : (key nominal commission : ℕ) → List ℕ
 document key nominal commission =
-    packedBytes 25 0 ++ packedBytes 6 nominal ++ packedBytes 10 0 ++ packedBytes 2 key ++ packedBytes 4 commission ++ packedBytes 4 1234
+    packed_bytes 25 0 ++ packed_bytes 6 nominal ++ packed_bytes 10 0 ++ packed_bytes 2 key ++ packed_bytes 4 commission ++ packed_bytes 4 1234
 
 -- one with a byte that is no digits, at a place from 0
 broken : (place : ℕ) → List ℕ → List ℕ
@@ -147,9 +147,9 @@ trays : AllDue
     -- no document, two, one with key 0 among them
     (answer tenth [] is (0 ∷ 0 ∷ [])
     ∷ answer tenth (document 7 30 0 ++ document 0 30 9) is (0 ∷ 2 ∷ [])
-    ∷ trayAfter tenth (document 7 30 0 ++ document 0 30 9) is (document 7 30 3 ++ document 0 30 9)
-    ∷ trayAfter whole (document 7 999999999999 5) is document 7 999999999999 99999999
-    ∷ trayAfter (1 ∷ 0 ∷ 4 ∷ 4 ∷ []) (document 1 30 0) is document 1 30 4
+    ∷ tray_after tenth (document 7 30 0 ++ document 0 30 9) is (document 7 30 3 ++ document 0 30 9)
+    ∷ tray_after whole (document 7 999999999999 5) is document 7 999999999999 99999999
+    ∷ tray_after (1 ∷ 0 ∷ 4 ∷ 4 ∷ []) (document 1 30 0) is document 1 30 4
     -- 42, then 25, then a document's, and none counted
     ∷ answer bad (drop 1 (document 7 30 0)) is (42 ∷ 0 ∷ [])
     ∷ answer tenth (drop 1 (document 7 30 0)) is (25 ∷ 0 ∷ [])
@@ -163,18 +163,18 @@ trays : AllDue
     ∷ answer tenth (document 7 30 0 ++ broken 43 (document 0 30 0) ++ document 6 30 0) is (3 ∷ 1 ∷ [])
     ∷ answer tenth (document 7 30 0 ++ document 6 30 0 ++ broken 41 (document 7 30 0)) is (41 ∷ 1 ∷ [])
     -- a refusal leaves every byte
-    ∷ trayAfter bad (document 7 30 0) is document 7 30 0
-    ∷ trayAfter tenth (document 7 30 0 ++ 0 ∷ []) is (document 7 30 0 ++ 0 ∷ [])
-    ∷ trayAfter tenth (document 7 30 0 ++ broken 42 (document 7 30 0)) is (document 7 30 0 ++ broken 42 (document 7 30 0))
-    ∷ trayAfter tenth (document 7 30 0 ++ broken 46 (document 7 30 0)) is (document 7 30 0 ++ broken 46 (document 7 30 0))
-    ∷ trayAfter tenth (document 7 30 0 ++ document 6 30 0) is (document 7 30 0 ++ document 6 30 0)
+    ∷ tray_after bad (document 7 30 0) is document 7 30 0
+    ∷ tray_after tenth (document 7 30 0 ++ 0 ∷ []) is (document 7 30 0 ++ 0 ∷ [])
+    ∷ tray_after tenth (document 7 30 0 ++ broken 42 (document 7 30 0)) is (document 7 30 0 ++ broken 42 (document 7 30 0))
+    ∷ tray_after tenth (document 7 30 0 ++ broken 46 (document 7 30 0)) is (document 7 30 0 ++ broken 46 (document 7 30 0))
+    ∷ tray_after tenth (document 7 30 0 ++ document 6 30 0) is (document 7 30 0 ++ document 6 30 0)
     -- the other bytes are not looked at
     ∷ answer tenth (broken 0 (broken 24 (broken 40 (broken 47 (document 7 30 0))))) is (0 ∷ 1 ∷ [])
     ∷ [])
-unfolding filled fillRefusal firstRefusal goodBefore documentRefusal trayAfter filledDocument withCommission tariffKey nominal commission goodTariff rows_of noneTwice every member cut ruleOf searched numbered due byRow rounded ◌when◌ ◌orelse◌ isDigits number byteValue packedBytes packedByte flat_map tenth whole bad document broken
+unfolding filled fill_refusal first_refusal good_before document_refusal tray_after filled_document with_commission tariff_key nominal commission good_tariff rows_of none_twice every member cut rule_of searched numbered due by_row rounded ◌when◌ ◌orelse◌ is_digits number byte_value packed_bytes packed_byte flat_map tenth whole bad document broken
 trays = refl
 
 -- the tariff key's field is the row of 01's table, which takes any digits of a presented document
-key-field : (receiving : ℕ) → take 1 (drop 15 (documentFields presented receiving)) ≡ tariffKeyField ∷ []
-unfolding documentFields
-key-field receiving = refl
+key_field : (receiving : ℕ) → take 1 (drop 15 (document_fields presented receiving)) ≡ tariff_key_field ∷ []
+unfolding document_fields
+key_field receiving = refl

@@ -3,83 +3,83 @@
 use Rattle.std.specs.Prelude.{ℕ, ◌*◌, ◌≤◌, ◌≡◌, Bool, true, false, not, ◌&&◌, cond, List, eqb, ltb, leb}
 use Rattle.codes.specs.Chain.{◌when◌, ◌orelse◌}
 use Rattle.codes.specs.Numbered.{numbered}
-use Rattle.document.specs.Limits.{largestNominal, largestCommission}
+use Rattle.document.specs.Limits.{largest_nominal, largest_commission}
 use Rattle.tariff.specs.declared.row.Row.{Row}
 use Rattle.tariff.specs.declared.search.Rule.{Rule}
 use Rattle.tariff.specs.declared.commission.CommissionAnswer.{CommissionAnswer}
 use Rattle.tariff.specs.declared.commission.CommissionShown.{CommissionShown}
-use Rattle.tariff.specs.Tariff.{rows_of, goodTariff}
+use Rattle.tariff.specs.Tariff.{rows_of, good_tariff}
 use Rattle.tariff.specs.Rounding.{rounded}
 
 -- 'raised to the least'
-abbrev pub raisedTo : (least n : ℕ) → ℕ
-raisedTo least n = cond (ltb n least) least n
+abbrev pub raised_to : (least n : ℕ) → ℕ
+raised_to least n = cond (ltb n least) least n
 
 -- 'or cut to the greatest'
 abbrev pub cut_to : (greatest n : ℕ) → ℕ
 cut_to greatest n = cond (ltb greatest n) greatest n
 
 -- by a row: 'nominal times rate divided by 10,000', then the two bounds
-unfoldable pub byRow : Row → (nominal : ℕ) → ℕ
-byRow r nominal = cut_to r.greatest (raisedTo r.least (rounded (nominal * r.rate)))
+unfoldable pub by_row : Row → (nominal : ℕ) → ℕ
+by_row r nominal = cut_to r.greatest (raised_to r.least (rounded (nominal * r.rate)))
 
 -- the first row that has a key
 unfoldable pub searched : List Row → (key : ℕ) → Rule
 searched rows key = numbered (λ (r : Row). r.key) Rule.ByRow Rule.Unknown rows key
 
 -- what a key says: 'Key 0 keeps the typed commission', another has a row or is unknown
-unfoldable pub ruleOf : List Row → (key : ℕ) → Rule
-ruleOf rows key = cond (eqb key 0) Rule.Typed (searched rows key)
+unfoldable pub rule_of : List Row → (key : ℕ) → Rule
+rule_of rows key = cond (eqb key 0) Rule.Typed (searched rows key)
 
 -- either of these
-abbrev pub isKnown : Rule → Bool
-isKnown Rule.Typed = true
-isKnown (Rule.ByRow r) = true
-isKnown Rule.Unknown = false
+abbrev pub is_known : Rule → Bool
+is_known Rule.Typed = true
+is_known (Rule.ByRow r) = true
+is_known Rule.Unknown = false
 
 -- the commission that a rule gives; none that matters where there is no rule
 unfoldable pub due : Rule → (nominal typed : ℕ) → ℕ
 due Rule.Typed nominal typed = typed
-due (Rule.ByRow r) nominal typed = byRow r nominal
+due (Rule.ByRow r) nominal typed = by_row r nominal
 due Rule.Unknown nominal typed = 0
 
 -- neither 'a nominal above 999,999,999,999' nor 'a typed commission above 99,999,999', whatever the key
-abbrev pub withinLimits : (nominal typed : ℕ) → Bool
-withinLimits nominal typed = leb nominal largestNominal && leb typed largestCommission
+abbrev pub within_limits : (nominal typed : ℕ) → Bool
+within_limits nominal typed = leb nominal largest_nominal && leb typed largest_commission
 
 -- no 'unknown key'
-abbrev pub keyKnown : List Row → (key : ℕ) → Bool
-keyKnown rows key = isKnown (ruleOf rows key)
+abbrev pub key_known : List Row → (key : ℕ) → Bool
+key_known rows key = is_known (rule_of rows key)
 
 -- '42 comes first, then 01, then 41'
-unfoldable pub commissionRefusal : (tariff : List ℕ) (key nominal typed : ℕ) → ℕ
-commissionRefusal tariff key nominal typed =
-    42 when not (goodTariff tariff)
-    orelse 1 when not (withinLimits nominal typed)
-    orelse 41 when not (keyKnown (rows_of tariff) key)
+unfoldable pub commission_refusal : (tariff : List ℕ) (key nominal typed : ℕ) → ℕ
+commission_refusal tariff key nominal typed =
+    42 when not (good_tariff tariff)
+    orelse 1 when not (within_limits nominal typed)
+    orelse 41 when not (key_known (rows_of tariff) key)
 
 -- the number of each answer, and the commission, 0 beside a code
-abbrev pub commissionShown : CommissionAnswer → CommissionShown
-commissionShown (CommissionAnswer.Given c) = record { code = 0; commission = c }
-commissionShown CommissionAnswer.WrongTariff = record { code = 42; commission = 0 }
-commissionShown CommissionAnswer.OverLimits = record { code = 1; commission = 0 }
-commissionShown CommissionAnswer.UnknownKey = record { code = 41; commission = 0 }
+abbrev pub commission_shown : CommissionAnswer → CommissionShown
+commission_shown (CommissionAnswer.Given c) = record { code = 0; commission = c }
+commission_shown CommissionAnswer.WrongTariff = record { code = 42; commission = 0 }
+commission_shown CommissionAnswer.OverLimits = record { code = 1; commission = 0 }
+commission_shown CommissionAnswer.UnknownKey = record { code = 41; commission = 0 }
 
 -- the answer to a call
 unfoldable pub commissioned : (tariff : List ℕ) (key nominal typed : ℕ) → CommissionShown
 commissioned tariff key nominal typed =
-    let code = commissionRefusal tariff key nominal typed in
-    record { code = code; commission = cond (eqb code 0) (due (ruleOf (rows_of tariff) key) nominal typed) 0 }
+    let code = commission_refusal tariff key nominal typed in
+    record { code = code; commission = cond (eqb code 0) (due (rule_of (rows_of tariff) key) nominal typed) 0 }
 
 -- a row that has a key, and a commission between its least and its greatest
 pub record Bounded (tariff : List ℕ) (key n : ℕ) : Type 0 where
   pub row : Row
-  pub keyed : ruleOf (rows_of tariff) key ≡ Rule.ByRow row
+  pub keyed : rule_of (rows_of tariff) key ≡ Rule.ByRow row
   pub at_least : row.least ≤ n
   pub at_most : n ≤ row.greatest
 
 -- claimed, and proved in proofs/Laws/Commission: whatever is asked, the commission fits the digits that a document has for it, and that of a
 -- known key other than 0 keeps the bounds of its row
 pub record EveryCommission : Type 0 where
-  pub fits : (tariff : List ℕ) (key nominal typed : ℕ) → (commissioned tariff key nominal typed).commission ≤ largestCommission
+  pub fits : (tariff : List ℕ) (key nominal typed : ℕ) → (commissioned tariff key nominal typed).commission ≤ largest_commission
   pub bounded : (tariff : List ℕ) (key nominal typed : ℕ) → (key ≡ 0 → ⊥) → (commissioned tariff key nominal typed).code ≡ 0 → Bounded tariff key (commissioned tariff key nominal typed).commission

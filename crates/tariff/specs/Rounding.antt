@@ -2,12 +2,12 @@
 use Rattle.std.specs.Prelude.{ℕ, suc, ◌*◌, ◌/◌, ◌%◌, cond, leb}
 
 -- what rates are counted by
-abbrev pub tenThousand : ℕ
-tenThousand = 10000
+abbrev pub ten_thousand : ℕ
+ten_thousand = 10000
 
 -- 'divided by 10,000, an exact half going up': to the next unit where twice what is left makes a unit or more
 unfoldable pub rounded : (product : ℕ) → ℕ
 rounded product =
-    let units = product / tenThousand in
-    let left = product % tenThousand in
-    cond (leb tenThousand (2 * left)) (suc units) units
+    let units = product / ten_thousand in
+    let left = product % ten_thousand in
+    cond (leb ten_thousand (2 * left)) (suc units) units

@@ -1,6 +1,6 @@
 // The commission of one document: its tariff key, its nominal and the commission that was typed.
 ghost use Rattle.std.specs.Prelude.{◌≡◌};
-ghost use Rattle.tariff.specs.Commission.{withinLimits, commissionShown, commissioned};
+ghost use Rattle.tariff.specs.Commission.{within_limits, commission_shown, commissioned};
 
 use crate::due::due;
 use crate::good::good_tariff;
@@ -25,7 +25,7 @@ pub struct CommissionShown {
 }
 
 pub fn commission_shown(a: CommissionAnswer) -> CommissionShown
-    ensures { result ≡ commissionShown a }
+    ensures { result ≡ commission_shown a }
 {
     match a {
         CommissionAnswer::Given(commission) => CommissionShown {
@@ -52,14 +52,14 @@ const LARGEST_NOMINAL: u64 = 999_999_999_999;
 const LARGEST_TYPED: u64 = LARGEST_COMMISSION as u64;
 
 fn within_limits(nominal: u64, typed: u64) -> bool
-    ensures { result ≡ withinLimits nominal typed }
+    ensures { result ≡ within_limits nominal typed }
 {
     (nominal <= LARGEST_NOMINAL) & (typed <= LARGEST_TYPED)
 }
 
 // The commission of a document with this key and nominal; `typed` is kept where the key is 0.
 pub fn commission(tariff: &[u32], key: u32, nominal: u64, typed: u64) -> CommissionAnswer
-    ensures { commissionShown result ≡ commissioned tariff.now key nominal typed }
+    ensures { commission_shown result ≡ commissioned tariff.now key nominal typed }
 {
     if good_tariff(tariff) {
         if within_limits(nominal, typed) {

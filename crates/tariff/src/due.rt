@@ -1,15 +1,15 @@
 // The commission that a rule gives: kept, or worked out by a row of the tariff and held within its bounds.
 ghost use Rattle.std.specs.Prelude.{◌≡◌, ◌≤◌};
-ghost use Rattle.tariff.specs.Tariff.{largestRate};
-ghost use Rattle.tariff.specs.Commission.{raisedTo, cut_to, byRow, due};
-ghost use Rattle.tariff.specs.Inner.Bounds.{nominalBound, rateOf};
+ghost use Rattle.tariff.specs.Tariff.{largest_rate};
+ghost use Rattle.tariff.specs.Commission.{raised_to, cut_to, by_row, due};
+ghost use Rattle.tariff.specs.Inner.Bounds.{nominal_bound, rate_of};
 
 use crate::rounding::rounded;
 use crate::row::Row;
 use crate::search::Rule;
 
 fn raised_to(least: u64, n: u64) -> u64
-    ensures { result ≡ raisedTo least n }
+    ensures { result ≡ raised_to least n }
 {
     if n < least {
         return least;
@@ -27,9 +27,9 @@ fn cut_to(greatest: u64, n: u64) -> u64
 }
 
 fn by_row(row: Row, nominal: u64) -> u64
-    requires rate_le_largest_rate { row.rate ≤ largestRate }
-    requires nominal_le_nominal_bound { nominal ≤ nominalBound }
-    ensures { result ≡ byRow row nominal }
+    requires rate_le_largest_rate { row.rate ≤ largest_rate }
+    requires nominal_le_nominal_bound { nominal ≤ nominal_bound }
+    ensures { result ≡ by_row row nominal }
 {
     let product = nominal * row.rate as u64;
     cut_to(
@@ -40,8 +40,8 @@ fn by_row(row: Row, nominal: u64) -> u64
 
 // The commission that a rule gives, 0 where the key is unknown.
 pub fn due(rule: Rule, nominal: u64, typed: u64) -> u64
-    requires rule_bound { rateOf rule ≤ largestRate }
-    requires nominal_le_nominal_bound { nominal ≤ nominalBound }
+    requires rule_bound { rate_of rule ≤ largest_rate }
+    requires nominal_le_nominal_bound { nominal ≤ nominal_bound }
     ensures { result ≡ due rule nominal typed }
 {
     match rule {

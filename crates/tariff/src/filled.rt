@@ -1,6 +1,6 @@
 // What became of a tray.
 ghost use Rattle.std.specs.Prelude.{◌≡◌, eqb};
-ghost use Rattle.tariff.specs.Tray.{fillShown};
+ghost use Rattle.tariff.specs.Tray.{fill_shown};
 
 // How many documents were filled, or what stopped the call; of a document its place, counted from 0.
 #[derive(Drop)]
@@ -22,7 +22,7 @@ pub struct FillShown {
 }
 
 pub fn fill_shown(a: FillAnswer) -> FillShown
-    ensures { result ≡ fillShown a }
+    ensures { result ≡ fill_shown a }
 {
     match a {
         FillAnswer::Filled(documents) => FillShown {
@@ -53,7 +53,7 @@ pub fn fill_shown(a: FillAnswer) -> FillShown
 }
 
 pub fn is_filled(a: FillAnswer) -> bool
-    ensures { result ≡ eqb (fillShown a).code 0 }
+    ensures { result ≡ eqb (fill_shown a).code 0 }
 {
     let shown = fill_shown(a);
     shown.code == 0

@@ -2,10 +2,10 @@
 // the first pass has done.
 ghost use Rattle.std.specs.Prelude.{◌≡◌, true, ◌%◌, length};
 ghost use mathlib.Core.List.{flat_map};
-ghost use Rattle.document.specs.Limits.{documentBytes};
-ghost use Rattle.document.specs.Part.{documentsOf};
-ghost use Rattle.tariff.specs.Tariff.{rows_of, goodTariff};
-ghost use Rattle.tariff.specs.Tray.{filledDocument};
+ghost use Rattle.document.specs.Limits.{document_bytes};
+ghost use Rattle.document.specs.Part.{documents_of};
+ghost use Rattle.tariff.specs.Tariff.{rows_of, good_tariff};
+ghost use Rattle.tariff.specs.Tray.{filled_document};
 
 use crate::TARIFF_KEY;
 use crate::due::due;
@@ -16,9 +16,9 @@ use packed::writing::put;
 
 // Writes the commission of a document, unless its key keeps the typed one.
 fn fill_document(tariff: &[u32], d: &mut [u8])
-    requires tariff_value { goodTariff tariff.now ≡ true }
-    requires d_len { length d.old ≡ documentBytes }
-    ensures { d.new ≡ filledDocument (rows_of tariff.now) d.old }
+    requires tariff_value { good_tariff tariff.now ≡ true }
+    requires d_len { length d.old ≡ document_bytes }
+    ensures { d.new ≡ filled_document (rows_of tariff.now) d.old }
 {
     let key = number2(d, TARIFF_KEY) as u32;
     if key != 0 {
@@ -31,9 +31,9 @@ fn fill_document(tariff: &[u32], d: &mut [u8])
 
 // Writes those of all documents.
 pub fn fill(tariff: &[u32], tray: &mut [u8])
-    requires tariff_value { goodTariff tariff.now ≡ true }
-    requires document_bytes_len { length tray.old % documentBytes ≡ 0 }
-    ensures { tray.new ≡ flat_map (filledDocument (rows_of tariff.now)) (documentsOf tray.old) }
+    requires tariff_value { good_tariff tariff.now ≡ true }
+    requires document_bytes_len { length tray.old % document_bytes ≡ 0 }
+    ensures { tray.new ≡ flat_map (filled_document (rows_of tariff.now)) (documents_of tray.old) }
 {
     let mut at: usize = 0;
     while at < tray.len() {

@@ -1,6 +1,6 @@
 // Whether a tariff is good.
 ghost use Rattle.std.specs.Prelude.{◌≡◌};
-ghost use Rattle.tariff.specs.Tariff.{goodTariff};
+ghost use Rattle.tariff.specs.Tariff.{good_tariff};
 
 use crate::row::{ROW_NUMBERS, row_good, row_in};
 use crate::search::{is_known, search};
@@ -12,7 +12,7 @@ const MOST_NUMBERS: usize = MOST_KEYS * ROW_NUMBERS;
 // Whether a tariff earns no 42. No row is read where one is cut or there are too many; each key is looked for in the rows
 // behind its own.
 pub fn good_tariff(tariff: &[u32]) -> bool
-    ensures { result ≡ goodTariff tariff.now }
+    ensures { result ≡ good_tariff tariff.now }
 {
     if tariff.len() % ROW_NUMBERS != 0 {
         return false;

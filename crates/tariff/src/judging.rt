@@ -1,10 +1,10 @@
 // The first pass over a tray: what its documents earn, up to the first that earns something.
 ghost use Rattle.std.specs.Prelude.{◌≡◌, ◌%◌, eqb, length};
-ghost use Rattle.document.specs.Limits.{documentBytes};
-ghost use Rattle.document.specs.Part.{documentsOf};
-ghost use Rattle.tariff.specs.Tariff.{rowNumbers, rows_of};
-ghost use Rattle.tariff.specs.Tray.{documentRefusal, fillShown};
-ghost use Rattle.tariff.specs.Inner.Judged.{earnedNumber, earnedAt, judged};
+ghost use Rattle.document.specs.Limits.{document_bytes};
+ghost use Rattle.document.specs.Part.{documents_of};
+ghost use Rattle.tariff.specs.Tariff.{row_numbers, rows_of};
+ghost use Rattle.tariff.specs.Tray.{document_refusal, fill_shown};
+ghost use Rattle.tariff.specs.Inner.Judged.{earned_number, earned_at, judged};
 
 use crate::filled::FillAnswer;
 use crate::search::key_known;
@@ -22,7 +22,7 @@ pub enum Earned {
 }
 
 fn earned_number(e: Earned) -> u8
-    ensures { result ≡ earnedNumber e }
+    ensures { result ≡ earned_number e }
 {
     match e {
         Earned::Nothing => 0,
@@ -33,14 +33,14 @@ fn earned_number(e: Earned) -> u8
 }
 
 fn is_nothing(e: Earned) -> bool
-    ensures { result ≡ eqb (earnedNumber e) 0 }
+    ensures { result ≡ eqb (earned_number e) 0 }
 {
     earned_number(e) == 0
 }
 
 // The answer to a tray whose reading ends at a place, with this.
 fn answer_at(e: Earned, place: u64) -> FillAnswer
-    ensures { fillShown result ≡ earnedAt e place }
+    ensures { fill_shown result ≡ earned_at e place }
 {
     match e {
         Earned::Nothing => FillAnswer::Filled(place),
@@ -52,9 +52,9 @@ fn answer_at(e: Earned, place: u64) -> FillAnswer
 
 // What a document earns: by its key's digits, by its amounts', by what the tariff says of the key.
 fn earned_by(tariff: &[u32], d: &[u8]) -> Earned
-    requires row_numbers_len { length tariff.now % rowNumbers ≡ 0 }
-    requires d_len { length d.now ≡ documentBytes }
-    ensures { earnedNumber result ≡ documentRefusal (rows_of tariff.now) d.now }
+    requires row_numbers_len { length tariff.now % row_numbers ≡ 0 }
+    requires d_len { length d.now ≡ document_bytes }
+    ensures { earned_number result ≡ document_refusal (rows_of tariff.now) d.now }
 {
     if are_digits(d, TARIFF_KEY, TARIFF_KEY_BYTES) {
         if are_digits(d, NOMINAL, NOMINAL_BYTES) & are_digits(d, COMMISSION, COMMISSION_BYTES) {
@@ -70,9 +70,9 @@ fn earned_by(tariff: &[u32], d: &[u8]) -> Earned
 
 // Goes through the documents and stops at the first that earns something.
 pub fn judge(tariff: &[u32], tray: &[u8]) -> FillAnswer
-    requires row_numbers_len { length tariff.now % rowNumbers ≡ 0 }
-    requires document_bytes_len { length tray.now % documentBytes ≡ 0 }
-    ensures { fillShown result ≡ judged (rows_of tariff.now) (documentsOf tray.now) }
+    requires row_numbers_len { length tariff.now % row_numbers ≡ 0 }
+    requires document_bytes_len { length tray.now % document_bytes ≡ 0 }
+    ensures { fill_shown result ≡ judged (rows_of tariff.now) (documents_of tray.now) }
 {
     let mut place: u64 = 0;
     let mut at: usize = 0;

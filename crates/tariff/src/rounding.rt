@@ -1,7 +1,7 @@
 // The division of a nominal times a rate by ten thousand. Nothing else knows how it is rounded.
 ghost use Rattle.std.specs.Prelude.{◌≡◌, ◌≤◌};
 ghost use Rattle.tariff.specs.Rounding.{rounded};
-ghost use Rattle.tariff.specs.Inner.Bounds.{productBound};
+ghost use Rattle.tariff.specs.Inner.Bounds.{product_bound};
 
 const WHOLE: u64 = 10_000;
 
@@ -9,7 +9,7 @@ const HALF: u64 = 5_000;
 
 // An exact half goes up.
 pub fn rounded(product: u64) -> u64
-    requires { product ≤ productBound }
+    requires { product ≤ product_bound }
     ensures { result ≡ rounded product }
 {
     (product + HALF) / WHOLE

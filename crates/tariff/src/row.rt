@@ -1,6 +1,6 @@
 // A row of a tariff: a key, and what commission its documents bear.
 ghost use Rattle.std.specs.Prelude.{◌≡◌, length};
-ghost use Rattle.tariff.specs.Tariff.{rowNumbers, rowIn, rowGood};
+ghost use Rattle.tariff.specs.Tariff.{row_numbers, row_in, row_good};
 
 // The numbers of a row.
 pub const ROW_NUMBERS: usize = 4;
@@ -22,8 +22,8 @@ pub struct Row {
 
 // The row that four numbers make up.
 pub fn row_in(numbers: &[u32]) -> Row
-    requires { length numbers.now ≡ rowNumbers }
-    ensures { result ≡ rowIn numbers.now }
+    requires { length numbers.now ≡ row_numbers }
+    ensures { result ≡ row_in numbers.now }
 {
     Row {
         key: numbers[0],
@@ -34,7 +34,7 @@ pub fn row_in(numbers: &[u32]) -> Row
 }
 
 pub fn row_good(row: Row) -> bool
-    ensures { result ≡ rowGood row }
+    ensures { result ≡ row_good row }
 {
     (1 <= row.key)
         & (row.key <= LARGEST_KEY)

@@ -1,7 +1,7 @@
 // What a tariff key says of the commission.
 ghost use Rattle.std.specs.Prelude.{◌≡◌, ◌-◌, ◌%◌, ◌≤◌, length, drop};
-ghost use Rattle.tariff.specs.Tariff.{rowNumbers, rows_of};
-ghost use Rattle.tariff.specs.Commission.{searched, ruleOf, isKnown, keyKnown};
+ghost use Rattle.tariff.specs.Tariff.{row_numbers, rows_of};
+ghost use Rattle.tariff.specs.Commission.{searched, rule_of, is_known, key_known};
 
 use crate::row::{ROW_NUMBERS, Row, row_in};
 
@@ -14,7 +14,7 @@ pub enum Rule {
 }
 
 pub fn is_known(rule: Rule) -> bool
-    ensures { result ≡ isKnown rule }
+    ensures { result ≡ is_known rule }
 {
     match rule {
         Rule::Typed => true,
@@ -26,7 +26,7 @@ pub fn is_known(rule: Rule) -> bool
 // The row that has a key, among those from a place on.
 pub fn search(tariff: &[u32], from: usize, key: u32) -> Rule
     requires from_in_bounds { from ≤ length tariff.now }
-    requires row_numbers_value { (length tariff.now - from) % rowNumbers ≡ 0 }
+    requires row_numbers_value { (length tariff.now - from) % row_numbers ≡ 0 }
     ensures { result ≡ searched (rows_of (drop from tariff.now)) key }
 {
     let mut at = from;
@@ -43,8 +43,8 @@ pub fn search(tariff: &[u32], from: usize, key: u32) -> Rule
 
 // What a key says; 0 is never looked for.
 pub fn rule_of(tariff: &[u32], key: u32) -> Rule
-    requires { length tariff.now % rowNumbers ≡ 0 }
-    ensures { result ≡ ruleOf (rows_of tariff.now) key }
+    requires { length tariff.now % row_numbers ≡ 0 }
+    ensures { result ≡ rule_of (rows_of tariff.now) key }
 {
     if key == 0 {
         return Rule::Typed;
@@ -53,8 +53,8 @@ pub fn rule_of(tariff: &[u32], key: u32) -> Rule
 }
 
 pub fn key_known(tariff: &[u32], key: u32) -> bool
-    requires { length tariff.now % rowNumbers ≡ 0 }
-    ensures { result ≡ keyKnown (rows_of tariff.now) key }
+    requires { length tariff.now % row_numbers ≡ 0 }
+    ensures { result ≡ key_known (rows_of tariff.now) key }
 {
     is_known(rule_of(tariff, key))
 }

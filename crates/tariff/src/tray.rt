@@ -1,6 +1,6 @@
 // A tray of presented documents that gets the commissions of all of them.
 ghost use Rattle.std.specs.Prelude.{◌≡◌};
-ghost use Rattle.tariff.specs.Tray.{fillShown, filled, trayAfter};
+ghost use Rattle.tariff.specs.Tray.{fill_shown, filled, tray_after};
 
 use crate::filled::{FillAnswer, is_filled};
 use crate::filling::fill;
@@ -11,8 +11,8 @@ use document::DOCUMENT_BYTES;
 // Works out the commission of every document. The tariff is judged once; documents are judged before one is written, so
 // that a refusal leaves every byte.
 pub fn fill_commissions(tariff: &[u32], tray: &mut [u8]) -> FillAnswer
-    ensures answer { fillShown result ≡ filled tariff.now tray.old }
-    ensures after { tray.new ≡ trayAfter tariff.now tray.old }
+    ensures answer { fill_shown result ≡ filled tariff.now tray.old }
+    ensures after { tray.new ≡ tray_after tariff.now tray.old }
 {
     if good_tariff(tariff) {
         if tray.len() % DOCUMENT_BYTES != 0 {

@@ -6,13 +6,13 @@ abbrev pub between : (low high : ℕ) → ℕ → Bool
 between low high b = leb low b && leb b high
 
 -- a digit's value; 16 for what is no digit
-unfoldable pub digitValue : ℕ → ℕ
-digitValue b =
+unfoldable pub digit_value : ℕ → ℕ
+digit_value b =
     cond (between (byte "0") (byte "9") b) (b - byte "0")
     (cond (between (byte "a") (byte "f") b) (b - byte "a" + 10) (cond (between (byte "A") (byte "F") b) (b - byte "A" + 10) 16))
 
-abbrev pub isDecimal : ℕ → Bool
-isDecimal b = ltb (digitValue b) 10
+abbrev pub is_decimal : ℕ → Bool
+is_decimal b = ltb (digit_value b) 10
 
-abbrev pub isHexadecimal : ℕ → Bool
-isHexadecimal b = ltb (digitValue b) 16
+abbrev pub is_hexadecimal : ℕ → Bool
+is_hexadecimal b = ltb (digit_value b) 16

@@ -17,5 +17,5 @@ unfoldable pub fitting : (most : ℕ) → Got → Got
 fitting most g = cond (leb (length g.bytes) most) g none
 
 -- what a function says it read, by the buffer that it leaves
-abbrev pub gotOf : Bytes → (buffer : List ℕ) → Got
-gotOf r buffer = record { good = r.good; bytes = take r.count buffer }
+abbrev pub got_of : Bytes → (buffer : List ℕ) → Got
+got_of r buffer = record { good = r.good; bytes = take r.count buffer }

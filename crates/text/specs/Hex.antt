@@ -2,31 +2,31 @@
 use Rattle.std.specs.Prelude.{ℕ, ◌+◌, ◌*◌, ◌/◌, ◌%◌, Bool, ◌&&◌, cond, List, [], ◌∷◌, ltb, eqb, length}
 use Rattle.packed.specs.Every.{every}
 use Rattle.text.specs.Ascii.{ascii}
-use Rattle.text.specs.Digit.{digitValue, isHexadecimal}
-use Rattle.text.specs.Word.{sameBytes}
+use Rattle.text.specs.Digit.{digit_value, is_hexadecimal}
+use Rattle.text.specs.Word.{equal_bytes}
 use Rattle.text.specs.Got.{Got, none, got}
 
 -- the character of a half of a byte: 0 to 9, then a to f
-abbrev pub hexDigit : ℕ → ℕ
-hexDigit half = cond (ltb half 10) (48 + half) (87 + half)
+abbrev pub hex_digit : ℕ → ℕ
+hex_digit half = cond (ltb half 10) (48 + half) (87 + half)
 
 -- two characters a byte
-unfoldable pub hexText : List ℕ → List ℕ
-hexText [] = []
-hexText (b ∷ bs) = hexDigit (b / 16) ∷ hexDigit (b % 16) ∷ hexText bs
+unfoldable pub hex_text : List ℕ → List ℕ
+hex_text [] = []
+hex_text (b ∷ bs) = hex_digit (b / 16) ∷ hex_digit (b % 16) ∷ hex_text bs
 
 -- the bytes of pairs of digits
-unfoldable pub hexBytes : List ℕ → List ℕ
-hexBytes [] = []
-hexBytes (high ∷ []) = []
-hexBytes (high ∷ low ∷ text) = (digitValue high * 16 + digitValue low) ∷ hexBytes text
+unfoldable pub hex_bytes : List ℕ → List ℕ
+hex_bytes [] = []
+hex_bytes (high ∷ []) = []
+hex_bytes (high ∷ low ∷ text) = (digit_value high * 16 + digit_value low) ∷ hex_bytes text
 
 -- an even number of digits, and not none
-abbrev pub isPaired : ℕ → Bool
-isPaired count = ltb 0 count && eqb (count % 2) 0
+abbrev pub is_paired : ℕ → Bool
+is_paired count = ltb 0 count && eqb (count % 2) 0
 
 -- a word as bytes: digits, or `-` for no bytes at all
-unfoldable pub hexWord : List ℕ → Got
-hexWord w =
-    cond (sameBytes w (ascii "-")) (got [])
-    (cond (isPaired (length w)) (cond (every isHexadecimal w) (got (hexBytes w)) none) none)
+unfoldable pub hex_word : List ℕ → Got
+hex_word w =
+    cond (equal_bytes w (ascii "-")) (got [])
+    (cond (is_paired (length w)) (cond (every is_hexadecimal w) (got (hex_bytes w)) none) none)

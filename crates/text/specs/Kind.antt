@@ -6,7 +6,7 @@ use Rattle.text.specs.declared.kind.Source.{Source}
 use Rattle.text.specs.declared.kind.Source.TheVariants.{None, Hex, HexOrWritten}
 use Rattle.text.specs.declared.kind.Shape.{Shape}
 use Rattle.text.specs.Ascii.{ascii}
-use Rattle.text.specs.Word.{sameBytes}
+use Rattle.text.specs.Word.{equal_bytes}
 
 -- the word of each call
 abbrev pub calls : List (List ℕ × Kind)
@@ -23,25 +23,25 @@ calls =
     ∷ []
 
 -- the first whose word it is; a word that none has makes a bad line
-unfoldable pub kindIn : List (List ℕ × Kind) → (word : List ℕ) → Kind
-kindIn [] word = Bad
-kindIn (call ∷ calls) word = cond (sameBytes word call.0) call.1 (kindIn calls word)
+unfoldable pub kind_in : List (List ℕ × Kind) → (word : List ℕ) → Kind
+kind_in [] word = Bad
+kind_in (call ∷ calls) word = cond (equal_bytes word call.0) call.1 (kind_in calls word)
 
 abbrev pub kind_of : (word : List ℕ) → Kind
-kind_of word = kindIn calls word
+kind_of word = kind_in calls word
 
-abbrev pub isBad : Kind → Bool
-isBad Start = false
-isBad Header = false
-isBad Detail = false
-isBad LotTotal = false
-isBad SessionTotal = false
-isBad Receive = false
-isBad Reply = false
-isBad Clock = false
-isBad Report = false
-isBad Passed = false
-isBad Bad = true
+abbrev pub is_bad : Kind → Bool
+is_bad Start = false
+is_bad Header = false
+is_bad Detail = false
+is_bad LotTotal = false
+is_bad SessionTotal = false
+is_bad Receive = false
+is_bad Reply = false
+is_bad Clock = false
+is_bad Report = false
+is_bad Passed = false
+is_bad Bad = true
 
 abbrev pub shape : (asked : ℕ) → Source → (more : ℕ) (room : Bool) → Shape
 shape asked source more room = record { asked = asked; source = source; more = more; room = room }

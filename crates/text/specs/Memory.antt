@@ -7,42 +7,42 @@ use Rattle.text.specs.declared.wire.Memory.{Memory}
 use Rattle.text.specs.Got.{Got, none, got}
 
 -- the first MiB holds what was written, one after another
-abbrev pub contentsBytes : ℕ
-contentsBytes = 1048576
+abbrev pub contents_bytes : ℕ
+contents_bytes = 1048576
 
-abbrev pub mostEntries : ℕ
-mostEntries = 65536
+abbrev pub most_entries : ℕ
+most_entries = 65536
 
 -- with fewer lent bytes nothing is remembered
-abbrev pub wireBytes : ℕ
-wireBytes = 2097152
+abbrev pub wire_bytes : ℕ
+wire_bytes = 2097152
 
 -- behind it stand the entries, each a number and where its bytes end
-unfoldable pub entryNumber : (wire : List ℕ) (i : ℕ) → ℕ
-entryNumber wire i = number (part (contentsBytes + i * 16) 8 wire)
+unfoldable pub entry_number : (wire : List ℕ) (i : ℕ) → ℕ
+entry_number wire i = number (part (contents_bytes + i * 16) 8 wire)
 
 -- where the bytes of the first i entries end
 unfoldable pub end_of : (wire : List ℕ) (i : ℕ) → ℕ
 end_of wire zero = 0
-end_of wire (suc i) = number (part (contentsBytes + i * 16 + 8) 8 wire)
+end_of wire (suc i) = number (part (contents_bytes + i * 16 + 8) 8 wire)
 
 -- the entry of a number among the first i; entries stand in the order of their numbers, so that none is looked for before a smaller one
-unfoldable pub placeBelow : (wire : List ℕ) (wanted i : ℕ) → ℕ
-placeBelow wire wanted zero = mostEntries
-placeBelow wire wanted (suc i) =
-    cond (eqb (entryNumber wire i) wanted) i (cond (ltb (entryNumber wire i) wanted) mostEntries (placeBelow wire wanted i))
+unfoldable pub place_below : (wire : List ℕ) (wanted i : ℕ) → ℕ
+place_below wire wanted zero = most_entries
+place_below wire wanted (suc i) =
+    cond (eqb (entry_number wire i) wanted) i (cond (ltb (entry_number wire i) wanted) most_entries (place_below wire wanted i))
 
 -- none stands behind the place that its number has
-abbrev pub lastPlace : (kept wanted : ℕ) → ℕ
-lastPlace kept wanted = cond (ltb mostEntries kept) 0 (min kept wanted)
+abbrev pub last_place : (kept wanted : ℕ) → ℕ
+last_place kept wanted = cond (ltb most_entries kept) 0 (min kept wanted)
 
 -- what stands between two places of the memory
-unfoldable pub betweenPlaces : (wire : List ℕ) (from to : ℕ) → Got
-betweenPlaces wire from to = cond (ltb contentsBytes to) none (cond (ltb to from) none (got (part from (to - from) wire)))
+unfoldable pub between_places : (wire : List ℕ) (from to : ℕ) → Got
+between_places wire from to = cond (ltb contents_bytes to) none (cond (ltb to from) none (got (part from (to - from) wire)))
 
-abbrev pub entryBytes : (wire : List ℕ) (i : ℕ) → Got
-entryBytes wire i = cond (eqb i mostEntries) none (betweenPlaces wire (end_of wire i) (end_of wire (i + 1)))
+abbrev pub entry_bytes : (wire : List ℕ) (i : ℕ) → Got
+entry_bytes wire i = cond (eqb i most_entries) none (between_places wire (end_of wire i) (end_of wire (i + 1)))
 
 -- what was written under a number, if it is found
 unfoldable pub recalled : Memory → (wire : List ℕ) (wanted : ℕ) → Got
-recalled m wire wanted = cond (ltb (length wire) wireBytes) none (entryBytes wire (placeBelow wire wanted (lastPlace m.kept wanted)))
+recalled m wire wanted = cond (ltb (length wire) wire_bytes) none (entry_bytes wire (place_below wire wanted (last_place m.kept wanted)))

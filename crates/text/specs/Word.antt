@@ -2,11 +2,11 @@
 use Rattle.std.specs.Prelude.{ℕ, suc, Bool, true, false, not, ◌&&◌, cond, List, [], ◌∷◌, eqb}
 use Rattle.text.specs.Ascii.{byte}
 
-unfoldable pub sameBytes : List ℕ → List ℕ → Bool
-sameBytes [] [] = true
-sameBytes [] (y ∷ ys) = false
-sameBytes (x ∷ xs) [] = false
-sameBytes (x ∷ xs) (y ∷ ys) = eqb x y && sameBytes xs ys
+unfoldable pub equal_bytes : List ℕ → List ℕ → Bool
+equal_bytes [] [] = true
+equal_bytes [] (y ∷ ys) = false
+equal_bytes (x ∷ xs) [] = false
+equal_bytes (x ∷ xs) (y ∷ ys) = eqb x y && equal_bytes xs ys
 
 -- how many bytes stand before the first at which a test holds
 unfoldable pub before : (ℕ → Bool) → List ℕ → ℕ
@@ -16,26 +16,26 @@ before p (b ∷ bs) = cond (p b) 0 (suc (before p bs))
 abbrev pub is : (byte : ℕ) → ℕ → Bool
 is byte b = eqb b byte
 
-abbrev pub isSpace : ℕ → Bool
-isSpace b = is (byte " ") b
+abbrev pub is_space : ℕ → Bool
+is_space b = is (byte " ") b
 
-abbrev pub isOther : ℕ → Bool
-isOther b = not (isSpace b)
+abbrev pub is_other : ℕ → Bool
+is_other b = not (is_space b)
 
-abbrev pub ontoFirst : ℕ → List (List ℕ) → List (List ℕ)
-ontoFirst b [] = (b ∷ []) ∷ []
-ontoFirst b (run ∷ runs) = (b ∷ run) ∷ runs
+abbrev pub onto_first : ℕ → List (List ℕ) → List (List ℕ)
+onto_first b [] = (b ∷ []) ∷ []
+onto_first b (run ∷ runs) = (b ∷ run) ∷ runs
 
 -- the runs between the bytes at which a test holds, empty ones too: one more than there are such bytes
 unfoldable pub runs : (ℕ → Bool) → List ℕ → List (List ℕ)
 runs p [] = [] ∷ []
-runs p (b ∷ bs) = cond (p b) ([] ∷ runs p bs) (ontoFirst b (runs p bs))
+runs p (b ∷ bs) = cond (p b) ([] ∷ runs p bs) (onto_first b (runs p bs))
 
 -- those that are not empty
-unfoldable pub notEmpty : List (List ℕ) → List (List ℕ)
-notEmpty [] = []
-notEmpty ([] ∷ runs) = notEmpty runs
-notEmpty ((b ∷ bs) ∷ runs) = (b ∷ bs) ∷ notEmpty runs
+unfoldable pub not_empty : List (List ℕ) → List (List ℕ)
+not_empty [] = []
+not_empty ([] ∷ runs) = not_empty runs
+not_empty ((b ∷ bs) ∷ runs) = (b ∷ bs) ∷ not_empty runs
 
 abbrev pub words : List ℕ → List (List ℕ)
-words line = notEmpty (runs isSpace line)
+words line = not_empty (runs is_space line)

@@ -1,6 +1,6 @@
 // The digits of numbers and of bytes.
 ghost use Rattle.std.specs.Prelude.{◌≡◌, ◌≤◌};
-ghost use Rattle.text.specs.Digit.{between, digitValue};
+ghost use Rattle.text.specs.Digit.{between, digit_value};
 
 fn is_between(b: u8, low: u8, high: u8) -> bool
     ensures { result ≡ between low high b }
@@ -10,7 +10,7 @@ fn is_between(b: u8, low: u8, high: u8) -> bool
 
 // A digit's value, in either case; 16 for any other byte.
 pub fn digit(b: u8) -> u8
-    ensures value { result ≡ digitValue b }
+    ensures value { result ≡ digit_value b }
     ensures bound { result ≤ 16 }
 {
     if is_between(b, b'0', b'9') {

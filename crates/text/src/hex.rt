@@ -2,9 +2,9 @@
 ghost use Rattle.std.specs.Prelude.{◌≡◌, cond, ◌+◌, ◌*◌, ◌%◌, ◌≤◌, ◌<◌, length};
 ghost use Rattle.std.proofs.lemmas.List.Edits.{sets};
 ghost use Rattle.packed.specs.Every.{every};
-ghost use Rattle.text.specs.Digit.{isHexadecimal};
-ghost use Rattle.text.specs.Got.{none, got, fitting, gotOf};
-ghost use Rattle.text.specs.Hex.{hexText, hexDigit, hexBytes, hexWord, isPaired};
+ghost use Rattle.text.specs.Digit.{is_hexadecimal};
+ghost use Rattle.text.specs.Got.{none, got, fitting, got_of};
+ghost use Rattle.text.specs.Hex.{hex_text, hex_digit, hex_bytes, hex_word, is_paired};
 
 use crate::digit::digit;
 use crate::word::same;
@@ -27,7 +27,7 @@ pub fn no_bytes(good: bool) -> Bytes
 }
 
 fn is_paired(count: usize) -> bool
-    ensures { result ≡ isPaired count }
+    ensures { result ≡ is_paired count }
 {
     (0 < count) & (count % 2 == 0)
 }
@@ -35,7 +35,7 @@ fn is_paired(count: usize) -> bool
 // Reads pairs of digits into the first bytes of a buffer, if they fit.
 fn read_pairs(word: &[u8], bytes: &mut [u8]) -> Bytes
     requires { length word.now % 2 ≡ 0 }
-    ensures read { gotOf result bytes.new ≡ fitting (length bytes.old) (cond (every isHexadecimal word.now) (got (hexBytes word.now)) none) }
+    ensures read { got_of result bytes.new ≡ fitting (length bytes.old) (cond (every is_hexadecimal word.now) (got (hex_bytes word.now)) none) }
     ensures bound { result.count ≤ length bytes.old }
 {
     let count = word.len() / 2;
@@ -60,7 +60,7 @@ fn read_pairs(word: &[u8], bytes: &mut [u8]) -> Bytes
 
 // A word of an even number of digits, or `-` for no bytes at all.
 pub fn read_hex(word: &[u8], bytes: &mut [u8]) -> Bytes
-    ensures read { gotOf result bytes.new ≡ fitting (length bytes.old) (hexWord word.now) }
+    ensures read { got_of result bytes.new ≡ fitting (length bytes.old) (hex_word word.now) }
     ensures bound { result.count ≤ length bytes.old }
 {
     if same(word, b"-") {
@@ -75,7 +75,7 @@ pub fn read_hex(word: &[u8], bytes: &mut [u8]) -> Bytes
 // The digit of a half of a byte.
 fn hex_digit(half: u8) -> u8
     requires { half < 16 }
-    ensures { result ≡ hexDigit half }
+    ensures { result ≡ hex_digit half }
 {
     if half < 10 {
         return b'0' + half;
@@ -86,7 +86,7 @@ fn hex_digit(half: u8) -> u8
 // Writes bytes as pairs of digits from `at` on; every other byte keeps its value.
 pub fn write_hex(d: &mut [u8], at: usize, bytes: &[u8])
     requires { at + 2 * length bytes.now ≤ length d.old }
-    ensures { d.new ≡ sets d.old at (hexText bytes.now) }
+    ensures { d.new ≡ sets d.old at (hex_text bytes.now) }
 {
     let mut i: usize = 0;
     while i < bytes.len() {

@@ -1,6 +1,6 @@
 // The kinds of lines, and what stands in a line of each.
 ghost use Rattle.std.specs.Prelude.{◌≡◌, drop};
-ghost use Rattle.text.specs.Kind.{calls, kindIn, kind_of, isBad, shape, shape_of};
+ghost use Rattle.text.specs.Kind.{calls, kind_in, kind_of, is_bad, shape, shape_of};
 ghost use Rattle.text.specs.Inner.Kind.{Sized};
 
 use crate::word::same;
@@ -95,7 +95,7 @@ pub fn kind_of(word: &[u8]) -> Kind
 
 // The kind of a line whose word is none of those of a start and of a send.
 fn other_kind(word: &[u8]) -> Kind
-    ensures { result ≡ kindIn (drop 5 calls) word.now }
+    ensures { result ≡ kind_in (drop 5 calls) word.now }
 {
     if same(word, b"receive") {
         return Kind::Receive;
@@ -113,7 +113,7 @@ fn other_kind(word: &[u8]) -> Kind
 }
 
 pub fn is_bad(kind: Kind) -> bool
-    ensures { result ≡ isBad kind }
+    ensures { result ≡ is_bad kind }
 {
     match kind {
         Kind::Start => false,

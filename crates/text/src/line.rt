@@ -1,11 +1,11 @@
 // A line of a script, read: the word of its call, its end, its numbers and its bytes.
 ghost use Rattle.std.specs.Prelude.{◌≡◌, List, ℕ, ◌+◌, ◌≤◌, length, take, drop};
 ghost use Rattle.text.specs.Word.{words};
-ghost use Rattle.text.specs.Got.{fitting, gotOf};
+ghost use Rattle.text.specs.Got.{fitting, got_of};
 ghost use Rattle.text.specs.Memory.{recalled};
 ghost use Rattle.text.specs.Kind.{shape_of};
 ghost use Rattle.text.specs.Inner.Kind.{Sized};
-ghost use Rattle.text.specs.Line.{noCall, is_none, is_at, writtenUnder, hexOrWritten, roomIn, readCall, readLine, said_of};
+ghost use Rattle.text.specs.Line.{no_call, is_none, is_at, written_under, hex_or_written, room_in, read_call, read_line, said_of};
 ghost use Rattle.text.specs.Inner.Line.{Bounded, NumbersRead, DataRead, PartsRead, EndRead};
 
 use crate::hex::{Bytes, no_bytes, read_hex};
@@ -38,7 +38,7 @@ pub struct Line {
 // No call; of a kind that asks for no numbers.
 fn no_call(kind: Kind) -> Line
     requires { (shape_of kind).asked ≡ 0 }
-    ensures said { (buffer : List ℕ) → said_of result buffer ≡ noCall kind }
+    ensures said { (buffer : List ℕ) → said_of result buffer ≡ no_call kind }
     ensures bounds { (most : ℕ) → Bounded most result }
 {
     Line {
@@ -105,7 +105,7 @@ fn read_numbers(
 
 // What was written under the number of a word.
 fn read_written(word: &[u8], memory: Memory, wire: &[u8], bytes: &mut [u8]) -> Bytes
-    ensures read { gotOf result bytes.new ≡ fitting (length bytes.old) (writtenUnder (recalled memory wire.now) word.now) }
+    ensures read { got_of result bytes.new ≡ fitting (length bytes.old) (written_under (recalled memory wire.now) word.now) }
     ensures bound { result.count ≤ length bytes.old }
 {
     let wanted = read_number(word);
@@ -126,7 +126,7 @@ fn is_at(word: &[u8]) -> bool
 
 // A word as bytes: digits, or `@` and the number of what was written.
 fn read_word(word: &[u8], memory: Memory, wire: &[u8], bytes: &mut [u8]) -> Bytes
-    ensures read { gotOf result bytes.new ≡ fitting (length bytes.old) (hexOrWritten (recalled memory wire.now) word.now) }
+    ensures read { got_of result bytes.new ≡ fitting (length bytes.old) (hex_or_written (recalled memory wire.now) word.now) }
     ensures bound { result.count ≤ length bytes.old }
 {
     if is_at(word) {
@@ -246,7 +246,7 @@ fn read_end(line: &[u8], at: usize) -> End
 fn room_in(shape: Shape, numbers: [u64; MOST_NUMBERS], count: usize) -> u64
     requires sized { Sized shape }
     requires count_in_bounds { count ≤ length numbers }
-    ensures { result ≡ roomIn shape (take count numbers) }
+    ensures { result ≡ room_in shape (take count numbers) }
 {
     let asked = shape.asked;
     if shape.room & (count == asked + 1) {
@@ -265,7 +265,7 @@ fn read_call(
     bytes: &mut [u8],
 ) -> Line
     requires { at ≤ length line.now }
-    ensures said { said_of result bytes.new ≡ readCall (recalled memory wire.now) (length bytes.old) kind (words (drop at line.now)) }
+    ensures said { said_of result bytes.new ≡ read_call (recalled memory wire.now) (length bytes.old) kind (words (drop at line.now)) }
     ensures bounds { Bounded (length bytes.old) result }
 {
     let end = read_end(line, at);
@@ -288,7 +288,7 @@ fn read_call(
 
 // A line of any bytes, without its line feed.
 pub fn read_line(line: &[u8], memory: Memory, wire: &[u8], bytes: &mut [u8]) -> Line
-    ensures said { said_of result bytes.new ≡ readLine (recalled memory wire.now) (length bytes.old) line.now }
+    ensures said { said_of result bytes.new ≡ read_line (recalled memory wire.now) (length bytes.old) line.now }
     ensures bounds { Bounded (length bytes.old) result }
 {
     if LONGEST_LINE < line.len() {

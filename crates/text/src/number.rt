@@ -1,6 +1,6 @@
 // Decimal numbers of a script: digits alone, at most 20 of them, below 2^64.
 ghost use Rattle.std.specs.Prelude.{◌≡◌, false, ◌-◌, ◌^◌, min};
-ghost use Rattle.text.specs.Number.{decimal, areDecimal, isSized, is_number, numberIf};
+ghost use Rattle.text.specs.Number.{decimal, are_decimal, is_sized, is_number, number_if};
 
 use crate::digit::digit;
 
@@ -25,14 +25,14 @@ fn wrong() -> Number
 }
 
 fn is_sized(count: usize) -> bool
-    ensures { result ≡ isSized count }
+    ensures { result ≡ is_sized count }
 {
     (0 < count) & (count <= MOST_DIGITS)
 }
 
 // The value of digits, if it fits.
 fn read_digits(word: &[u8]) -> Number
-    ensures { result ≡ numberIf (areDecimal word.now) (decimal word.now) }
+    ensures { result ≡ number_if (are_decimal word.now) (decimal word.now) }
 {
     let mut value: u64 = 0;
     let mut i: usize = 0;
@@ -54,7 +54,7 @@ fn read_digits(word: &[u8]) -> Number
 }
 
 pub fn read_number(word: &[u8]) -> Number
-    ensures { result ≡ numberIf (is_number word.now) (decimal word.now) }
+    ensures { result ≡ number_if (is_number word.now) (decimal word.now) }
 {
     if is_sized(word.len()) {
         return read_digits(word);

@@ -3,9 +3,9 @@
 // and no entry. Nothing is believed of the lent bytes: whatever stands there, a place outside them is never reached. Where they
 // hold what was remembered, it is found under its number, and what is remembered is held as well.
 ghost use Rattle.std.specs.Prelude.{◌≡◌, true, List, [], ◌∷◌, ◌++◌, ℕ, ◌+◌, ◌≤◌, ◌<◌, length};
-ghost use Rattle.text.specs.Got.{fitting, gotOf};
-ghost use Rattle.text.specs.Memory.{entryNumber, end_of, placeBelow, lastPlace, betweenPlaces, recalled};
-ghost use Rattle.text.specs.Held.{Written, Holds, nextNumber, hasRoom, remembered};
+ghost use Rattle.text.specs.Got.{fitting, got_of};
+ghost use Rattle.text.specs.Memory.{entry_number, end_of, place_below, last_place, between_places, recalled};
+ghost use Rattle.text.specs.Held.{Written, Holds, next_number, has_room, remembered};
 
 use crate::hex::{Bytes, no_bytes};
 use packed::number::number;
@@ -50,7 +50,7 @@ pub fn nothing() -> Memory
 
 // The number that the next one takes.
 pub fn next_number(m: Memory) -> u64
-    ensures { result ≡ nextNumber m.numbered }
+    ensures { result ≡ next_number m.numbered }
 {
     if m.numbered < u64::MAX {
         return m.numbered + 1;
@@ -71,7 +71,7 @@ fn forgotten(m: Memory) -> Memory
 
 // Whether so many bytes are kept.
 fn has_room(m: Memory, size: usize, lent: usize) -> bool
-    ensures { result ≡ hasRoom m size lent }
+    ensures { result ≡ has_room m size lent }
 {
     let used = m.used;
     if CONTENTS < used {
@@ -85,7 +85,7 @@ fn has_room(m: Memory, size: usize, lent: usize) -> bool
 
 // With one more written and kept.
 fn kept(m: Memory, written: &[u8], wire: &mut [u8]) -> Memory
-    requires { hasRoom m (length written.now) (length wire.old) ≡ true }
+    requires { has_room m (length written.now) (length wire.old) ≡ true }
     ensures { (ws : List Written) → Holds m wire.old ws → Holds result wire.new (ws ++ record { number = m.numbered + 1; bytes = written.now } ∷ []) }
 {
     let used = m.used;
@@ -116,7 +116,7 @@ pub fn remember(m: Memory, written: &[u8], wire: &mut [u8]) -> Memory
 fn entry_number(wire: &[u8], i: usize) -> u64
     requires in_bounds { 2097152 ≤ length wire.now }
     requires i_bound { i < 65536 }
-    ensures { result ≡ entryNumber wire.now i }
+    ensures { result ≡ entry_number wire.now i }
 {
     number(wire, CONTENTS + i * ENTRY_BYTES, NUMBER_BYTES)
 }
@@ -141,7 +141,7 @@ fn end_of(wire: &[u8], i: usize) -> u64
 // Where to look for a number: entries stand in the order of their numbers, so that none stands behind the place that its
 // number has.
 fn last_place(kept: usize, wanted: u64) -> usize
-    ensures place { result ≡ lastPlace kept wanted }
+    ensures place { result ≡ last_place kept wanted }
     ensures bound { result ≤ 65536 }
 {
     if MOST_ENTRIES < kept {
@@ -156,7 +156,7 @@ fn last_place(kept: usize, wanted: u64) -> usize
 // The entry of a number, or the place behind all of them where none has it.
 fn find(m: Memory, wanted: u64, wire: &[u8]) -> usize
     requires { 2097152 ≤ length wire.now }
-    ensures place { result ≡ placeBelow wire.now wanted (lastPlace m.kept wanted) }
+    ensures place { result ≡ place_below wire.now wanted (last_place m.kept wanted) }
     ensures bound { result ≤ 65536 }
 {
     let mut i = last_place(m.kept, wanted);
@@ -176,7 +176,7 @@ fn find(m: Memory, wanted: u64, wire: &[u8]) -> usize
 // A copy of what stands between two places of the memory.
 fn copy_between(wire: &[u8], from: u64, to: u64, bytes: &mut [u8]) -> Bytes
     requires { 2097152 ≤ length wire.now }
-    ensures read { gotOf result bytes.new ≡ fitting (length bytes.old) (betweenPlaces wire.now from to) }
+    ensures read { got_of result bytes.new ≡ fitting (length bytes.old) (between_places wire.now from to) }
     ensures bound { result.count ≤ length bytes.old }
 {
     if (CONTENTS as u64) < to {
@@ -199,7 +199,7 @@ fn copy_between(wire: &[u8], from: u64, to: u64, bytes: &mut [u8]) -> Bytes
 
 // A copy of what was written under a number.
 pub fn recall(m: Memory, wanted: u64, wire: &[u8], bytes: &mut [u8]) -> Bytes
-    ensures read { gotOf result bytes.new ≡ fitting (length bytes.old) (recalled m wire.now wanted) }
+    ensures read { got_of result bytes.new ≡ fitting (length bytes.old) (recalled m wire.now wanted) }
     ensures bound { result.count ≤ length bytes.old }
 {
     if wire.len() < WIRE_BYTES {

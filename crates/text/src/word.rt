@@ -1,7 +1,7 @@
 // The words of a line: what stands between spaces.
 ghost use Rattle.std.specs.Prelude.{◌≡◌, ◌+◌, ◌≤◌, length, drop};
 ghost use Rattle.text.specs.Inner.Within.{Within};
-ghost use Rattle.text.specs.Word.{sameBytes, before, is, isOther};
+ghost use Rattle.text.specs.Word.{equal_bytes, before, is, is_other};
 ghost use Rattle.text.specs.Inner.Word.{NextWord};
 
 // Where a word stands, and where it ends; nothing stands there where the line has no more words.
@@ -14,7 +14,7 @@ pub struct Word {
 // The first place from `at` on that is no space, or the line's end.
 fn skip_spaces(line: &[u8], at: usize) -> usize
     requires { at ≤ length line.now }
-    ensures place { result ≡ at + before isOther (drop at line.now) }
+    ensures place { result ≡ at + before is_other (drop at line.now) }
     ensures within { Within at result line.now }
 {
     let mut i = at;
@@ -57,7 +57,7 @@ pub fn next_word(line: &[u8], at: usize) -> Word
 
 // Whether two runs of bytes are the same.
 pub fn same(a: &[u8], b: &[u8]) -> bool
-    ensures { result ≡ sameBytes a.now b.now }
+    ensures { result ≡ equal_bytes a.now b.now }
 {
     if a.len() != b.len() {
         return false;

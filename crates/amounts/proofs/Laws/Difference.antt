@@ -7,10 +7,10 @@ use lib.IntN.{pos, negsuc}
 use lib.Signed.{mag}
 use Rattle.amounts.specs.Difference.{difference}
 
-either-small : (t : Bool) (m x y : ℕ) → x < m → y < m → mag (cond t (negsuc x) (pos y)) < m
-either-small true m x y hx hy = hx
-either-small false m x y hx hy = hy
+either_small : (t : Bool) (m x y : ℕ) → x < m → y < m → mag (cond t (negsuc x) (pos y)) < m
+either_small true m x y hx hy = hx
+either_small false m x y hx hy = hy
 
-pub difference-small : (m a b : ℕ) → a < m → b < m → mag (difference a b) < m
-difference-small m a zero ha hb = omega arith
-difference-small m a (suc b) ha hb = either-small (ltb a (suc b)) m (suc b - suc a) (a - suc b) (omega arith) (omega arith)
+pub difference_small : (m a b : ℕ) → a < m → b < m → mag (difference a b) < m
+difference_small m a zero ha hb = omega arith
+difference_small m a (suc b) ha hb = either_small (ltb a (suc b)) m (suc b - suc a) (a - suc b) (omega arith) (omega arith)

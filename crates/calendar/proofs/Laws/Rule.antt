@@ -9,30 +9,30 @@ use native.Mathlib.Omega.{arith}
 use borrow.Author.Tests.{eq-eqb, ne_eqb}
 use lib.ListN.{length, get_or, length-map}
 use Rattle.packed.specs.Every.{member}
-use Rattle.calendar.specs.Rule.{yearDays, WorkedAfter, FirstLater, found, none, AsTheRule, worked, from, later, those, nextDay, table_of, entry_of}
+use Rattle.calendar.specs.Rule.{year_days, WorkedAfter, FirstLater, found, none, AsTheRule, worked, from, later, those, next_day, table_of, entry_of}
 
 -- the day after a day is the first of the later ones
-pub later-step : (day : ℕ) → day < yearDays → later day ≡ suc day ∷ later (suc day)
+pub later_step : (day : ℕ) → day < year_days → later day ≡ suc day ∷ later (suc day)
 unfolding later from
-later-step day h = ap (from (suc day)) {x = yearDays - day} {y = suc (yearDays - suc day)} (omega arith)
+later_step day h = ap (from (suc day)) {x = year_days - day} {y = suc (year_days - suc day)} (omega arith)
 
 -- and from the last day on there is none
-pub none-later : (day : ℕ) → yearDays ≤ day → later day ≡ []
+pub none_later : (day : ℕ) → year_days ≤ day → later day ≡ []
 unfolding later from
-none-later day h = ap (from (suc day)) {x = yearDays - day} {y = 0} (omega arith)
+none_later day h = ap (from (suc day)) {x = year_days - day} {y = 0} (omega arith)
 
 -- so it is the next working day, unless it is in the list
-pub unlisted-next : (unworked : List ℕ) (day : ℕ) → day < yearDays → member (suc day) unworked ≡ false → nextDay unworked day ≡ suc day
-unfolding nextDay those
-unlisted-next unworked day h e = rw (later-step day h, e)
+pub unlisted_next : (unworked : List ℕ) (day : ℕ) → day < year_days → member (suc day) unworked ≡ false → next_day unworked day ≡ suc day
+unfolding next_day those
+unlisted_next unworked day h e = rw (later_step day h, e)
 
-pub listed_next : (unworked : List ℕ) (day : ℕ) → day < yearDays → member (suc day) unworked ≡ true → nextDay unworked day ≡ nextDay unworked (suc day)
-unfolding nextDay those
-listed_next unworked day h e = rw (later-step day h, e)
+pub listed_next : (unworked : List ℕ) (day : ℕ) → day < year_days → member (suc day) unworked ≡ true → next_day unworked day ≡ next_day unworked (suc day)
+unfolding next_day those
+listed_next unworked day h e = rw (later_step day h, e)
 
-pub none-next : (unworked : List ℕ) (day : ℕ) → yearDays ≤ day → nextDay unworked day ≡ 0
-unfolding nextDay those
-none-next unworked day h = rw (none-later day h)
+pub none_next : (unworked : List ℕ) (day : ℕ) → year_days ≤ day → next_day unworked day ≡ 0
+unfolding next_day those
+none_next unworked day h = rw (none_later day h)
 
 -- the table has an entry for each day
 pub length_from : (a k : ℕ) → length (from a k) ≡ k
@@ -40,26 +40,26 @@ unfolding from
 length_from a zero = refl
 length_from a (suc k) = ap suc (length_from (suc a) k)
 
-pub length-table : (unworked : List ℕ) → length (table_of unworked) ≡ yearDays
+pub length_table : (unworked : List ℕ) → length (table_of unworked) ≡ year_days
 unfolding table_of later
-length-table unworked = length-map (from 1 yearDays) (nextDay unworked) ∙ length_from 1 yearDays
+length_table unworked = length-map (from 1 year_days) (next_day unworked) ∙ length_from 1 year_days
 
 -- entries are counted from 1, places from 0
-pub place-of : (list : List ℕ) (number : ℕ) → 0 < number → get_or list (number - 1) 0 ≡ entry_of list number
-place-of list (suc n) h = ap (λ (k : ℕ). get_or list k 0) {x = suc n - 1} {y = n} (omega arith)
-place-of list zero h = omega arith
+pub place_of : (list : List ℕ) (number : ℕ) → 0 < number → get_or list (number - 1) 0 ≡ entry_of list number
+place_of list (suc n) h = ap (λ (k : ℕ). get_or list k 0) {x = suc n - 1} {y = n} (omega arith)
+place_of list zero h = omega arith
 
 -- what is made of numbers in a row, one by one
-pub entry-from : (f : ℕ → ℕ) (a k i : ℕ) → i < k → get_or (map f (from a k)) i 0 ≡ f (a + i)
+pub entry_from : (f : ℕ → ℕ) (a k i : ℕ) → i < k → get_or (map f (from a k)) i 0 ≡ f (a + i)
 unfolding from
-entry-from f a (suc k) zero h = ap f (sym (add-zero a))
-entry-from f a (suc k) (suc i) h = entry-from f (suc a) k i (omega arith) ∙ ap f {x = suc a + i} {y = a + suc i} (omega arith)
-entry-from f a zero i h = absurd (not-suc-le-zero h)
+entry_from f a (suc k) zero h = ap f (sym (add-zero a))
+entry_from f a (suc k) (suc i) h = entry_from f (suc a) k i (omega arith) ∙ ap f {x = suc a + i} {y = a + suc i} (omega arith)
+entry_from f a zero i h = absurd (not-suc-le-zero h)
 
 -- so each entry of the table is its day's
-pub entry : (unworked : List ℕ) (day : ℕ) → 1 ≤ day → day ≤ yearDays → entry_of (table_of unworked) day ≡ nextDay unworked day
+pub entry : (unworked : List ℕ) (day : ℕ) → 1 ≤ day → day ≤ year_days → entry_of (table_of unworked) day ≡ next_day unworked day
 unfolding table_of later
-entry unworked (suc n) h g = entry-from (nextDay unworked) 1 yearDays n (omega arith) ∙ ap (nextDay unworked) {x = 1 + n} {y = suc n} (omega arith)
+entry unworked (suc n) h g = entry_from (next_day unworked) 1 year_days n (omega arith) ∙ ap (next_day unworked) {x = 1 + n} {y = suc n} (omega arith)
 entry unworked zero h g = absurd (not-suc-le-zero h)
 
 -- a list made of those days that pass a test has a day where the test says so
@@ -78,14 +78,14 @@ unfolding those from member
 none_below p n a zero h = refl
 none_below p n a (suc k) h = past_head (p a) n a (those p (from (suc a) k)) (λ e. omega arith) ∙ none_below p n (suc a) k (omega arith)
 
-pub listed-exactly : (p : ℕ → Bool) (n a k : ℕ) → a ≤ n → n < a + k → member n (those p (from a k)) ≡ p n
+pub listed_exactly : (p : ℕ → Bool) (n a k : ℕ) → a ≤ n → n < a + k → member n (those p (from a k)) ≡ p n
 unfolding those from
-listed-exactly p n a zero h g = absurd (omega arith)
-listed-exactly p n a (suc k) h g =
+listed_exactly p n a zero h g = absurd (omega arith)
+listed_exactly p n a (suc k) h g =
     let ds = those p (from (suc a) k) in
     ⊎_elim
     (λ e. at_head (p a) n a ds e (none_below p n (suc a) k (omega arith)) ∙ ap p e)
-    (λ l. past_head (p a) n a ds (λ e. omega arith) ∙ listed-exactly p n (suc a) k l (omega arith))
+    (λ l. past_head (p a) n a ds (λ e. omega arith) ∙ listed_exactly p n (suc a) k l (omega arith))
     (eq-or-lt_of_le h)
 
 -- the function follows the rule: a day that is listed is passed over
@@ -93,26 +93,26 @@ passed : (unworked : List ℕ) (day n : ℕ) → member (suc day) unworked ≡ t
 passed unworked day n on w =
     ⊎_elim
     (λ same. absurd (true≢false (sym w.works ∙ ap (worked unworked) (sym same) ∙ ap not on)))
-    (λ after. record { after = after; inYear = w.inYear; works = w.works })
+    (λ after. record { after = after; in_year = w.in_year; works = w.works })
     (eq-or-lt_of_le w.after)
 
 passed_over : (unworked : List ℕ) (day n : ℕ) → member (suc day) unworked ≡ true → FirstLater unworked (suc day) n → FirstLater unworked day n
 passed_over unworked day n on (found w least) =
-    found (record { after = omega (arith, w.after); inYear = w.inYear; works = w.works }) (λ m v. least m (passed unworked day m on v))
+    found (record { after = omega (arith, w.after); in_year = w.in_year; works = w.works }) (λ m v. least m (passed unworked day m on v))
 passed_over unworked day n on (none z nobody) = none z (λ m v. nobody m (passed unworked day m on v))
 
-follows-from : (unworked : List ℕ) (k day : ℕ) → yearDays - day ≡ k → FirstLater unworked day (nextDay unworked day)
-follows-from unworked zero day h = none (none-next unworked day (omega arith)) (λ m w. omega (arith, w.after, w.inYear))
-follows-from unworked (suc k) day h = go (member (suc day) unworked) refl (follows-from unworked k (suc day) (omega arith))
+follows_from : (unworked : List ℕ) (k day : ℕ) → year_days - day ≡ k → FirstLater unworked day (next_day unworked day)
+follows_from unworked zero day h = none (none_next unworked day (omega arith)) (λ m w. omega (arith, w.after, w.in_year))
+follows_from unworked (suc k) day h = go (member (suc day) unworked) refl (follows_from unworked k (suc day) (omega arith))
   where
-    go : (t : Bool) → member (suc day) unworked ≡ t → FirstLater unworked (suc day) (nextDay unworked (suc day)) → FirstLater unworked day (nextDay unworked day)
-    go true on rest = subst (FirstLater unworked day) (sym (listed_next unworked day (omega arith) on)) (passed_over unworked day (nextDay unworked (suc day)) on rest)
+    go : (t : Bool) → member (suc day) unworked ≡ t → FirstLater unworked (suc day) (next_day unworked (suc day)) → FirstLater unworked day (next_day unworked day)
+    go true on rest = subst (FirstLater unworked day) (sym (listed_next unworked day (omega arith) on)) (passed_over unworked day (next_day unworked (suc day)) on rest)
     go false off rest =
-        subst (FirstLater unworked day) (sym (unlisted-next unworked day (omega arith) off))
-        (found (record { after = omega arith; inYear = omega arith; works = ap not off }) (λ m w. w.after))
+        subst (FirstLater unworked day) (sym (unlisted_next unworked day (omega arith) off))
+        (found (record { after = omega arith; in_year = omega arith; works = ap not off }) (λ m w. w.after))
 
-follows : (unworked : List ℕ) (day : ℕ) → FirstLater unworked day (nextDay unworked day)
-follows unworked day = follows-from unworked (yearDays - day) day refl
+follows : (unworked : List ℕ) (day : ℕ) → FirstLater unworked day (next_day unworked day)
+follows unworked day = follows_from unworked (year_days - day) day refl
 
 -- and of two numbers that follow it neither is the smaller
 the_same : (unworked : List ℕ) (day n m : ℕ) → FirstLater unworked day n → FirstLater unworked day m → n ≡ m
@@ -121,10 +121,10 @@ the_same unworked day n m (found w least) (none z nobody) = absurd (nobody n w)
 the_same unworked day n m (none z nobody) (found w least) = absurd (nobody m w)
 the_same unworked day n m (none z nobody) (none y neither) = z ∙ sym y
 
-pub as-the-rule : AsTheRule
-as-the-rule =
+pub as_the_rule : AsTheRule
+as_the_rule =
     record {
       follows = follows;
       entries = λ unworked day h g. subst (FirstLater unworked day) (sym (entry unworked day h g)) (follows unworked day);
-      alone = λ unworked day n r. the_same unworked day n (nextDay unworked day) r (follows unworked day);
+      alone = λ unworked day n r. the_same unworked day n (next_day unworked day) r (follows unworked day);
     }

@@ -6,20 +6,20 @@ use lib.Dec.{eqb}
 use Rattle.amounts.specs.declared.Totals.{Totals}
 use Rattle.amounts.specs.Totals.{zeros}
 use Rattle.codes.specs.Chain.{◌when◌, ◌orelse◌}
-use Rattle.codes.proofs.Laws.Chain.{none_both, rest-same}
-use Rattle.session.specs.Limits.{passesLot}
+use Rattle.codes.proofs.Laws.Chain.{none_both, rest_same}
+use Rattle.session.specs.Limits.{passes_lot}
 use Rattle.session.specs.declared.running.Running.{Running}
-use Rattle.session.specs.Running.{adding, documentsIn}
+use Rattle.session.specs.Running.{adding, documents_in}
 
 module _ (bytes place operation : ℕ) (t : Running) (adds meant : Totals) (read : adds ≡ cond (eqb bytes 0) meant zeros) where
   abbrev rest : Totals → ℕ
-  rest more = place orelse 12 when passesLot (documentsIn t + documentsIn (adding operation more))
+  rest more = place orelse 12 when passes_lot (documents_in t + documents_in (adding operation more))
 
   told : bytes ≡ 0 → adds ≡ meant
   told e = read ∙ ap (λ (n : ℕ). cond (eqb n 0) meant zeros) e
 
-  pub detail-chain : (bytes orelse rest adds) ≡ (bytes orelse rest meant)
-  detail-chain = rest-same bytes (rest adds) (rest meant) (λ (e : bytes ≡ 0). ap rest (told e))
+  pub detail_chain : (bytes orelse rest adds) ≡ (bytes orelse rest meant)
+  detail_chain = rest_same bytes (rest adds) (rest meant) (λ (e : bytes ≡ 0). ap rest (told e))
 
-  pub detail-adds : (code : ℕ) → code ≡ (bytes orelse rest adds) → code ≡ 0 → adding operation adds ≡ adding operation meant
-  detail-adds code c e = ap (adding operation) (told (none_both bytes (rest adds) (sym c ∙ e)).0)
+  pub detail_adds_lem : (code : ℕ) → code ≡ (bytes orelse rest adds) → code ≡ 0 → adding operation adds ≡ adding operation meant
+  detail_adds_lem code c e = ap (adding operation) (told (none_both bytes (rest adds) (sym c ∙ e)).0)

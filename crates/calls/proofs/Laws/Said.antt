@@ -6,18 +6,18 @@ use Rattle.session.specs.declared.session.Session.{Session}
 use Rattle.session.specs.Parties.{Direction}
 use Rattle.session.specs.Outcome.{Held, Outcome, refused, decided}
 use Rattle.session.specs.Premise.{Kept, KeptBeside}
-use Rattle.session.proofs.Laws.Decided.{unrefused, refused-keeps}
+use Rattle.session.proofs.Laws.Decided.{unrefused, refused_keeps}
 
 module _ (answer number : ℕ) (before : Held) (done : Outcome) (same : answer ≡ number) where
-  pub said-done : answer ≡ 0 → done ≡ decided number before done
-  said-done e = sym (ap (λ (n : ℕ). decided n before done) (sym same ∙ e) ∙ unrefused before done)
+  pub said_done : answer ≡ 0 → done ≡ decided number before done
+  said_done e = sym (ap (λ (n : ℕ). decided n before done) (sym same ∙ e) ∙ unrefused before done)
 
-  pub said-refused : (answer ≡ 0 → ⊥) → refused answer before ≡ decided number before done
-  said-refused e = sym (ap (λ (n : ℕ). decided n before done) (sym same) ∙ refused-keeps answer before done e)
+  pub said_refused : (answer ≡ 0 → ⊥) → refused answer before ≡ decided number before done
+  said_refused e = sym (ap (λ (n : ℕ). decided n before done) (sym same) ∙ refused_keeps answer before done e)
 
 module _ (s : Session) (said meant : Outcome) (same : said ≡ meant) where
-  pub so-kept : Kept s meant.left.session → Kept s said.left.session
-  so-kept = subst (λ (o : Outcome). Kept s o.left.session) (sym same)
+  pub so_kept : Kept s meant.left.session → Kept s said.left.session
+  so_kept = subst (λ (o : Outcome). Kept s o.left.session) (sym same)
 
-  pub so-kept-beside : (d : Direction) → KeptBeside d s meant.left.session meant.left.running → KeptBeside d s said.left.session said.left.running
-  so-kept-beside d = subst (λ (o : Outcome). KeptBeside d s o.left.session o.left.running) (sym same)
+  pub so_kept_beside : (d : Direction) → KeptBeside d s meant.left.session meant.left.running → KeptBeside d s said.left.session said.left.running
+  so_kept_beside d = subst (λ (o : Outcome). KeptBeside d s o.left.session o.left.running) (sym same)

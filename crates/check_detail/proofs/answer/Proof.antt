@@ -3,7 +3,7 @@ use mathlib.Core.Path.{◌≡◌, ap, sym, ◌∙◌}
 use native.Mathlib.Omega.{arith}
 use borrow.Author.Rules.{rules}
 use lib.ListN.{length, take}
-use Rattle.packed.proofs.Laws.Writing.{part-sets}
+use Rattle.packed.proofs.Laws.Writing.{part_sets}
 use Rattle.check_detail.specs.Line.{line_of}
 use Rattle.check_detail.proofs.answer.Statement.{statement}
 use Rattle.check_detail.proofs.answer.Tie as tie
@@ -22,7 +22,7 @@ returns c =
     let w = c.before.before.write-line in
     let k = c.before.before.before.before.checked in
     let line = c.before.before.before.before.before.before.before.args.line.now in
-    let text : take w.result w.new.1.0 ≡ line_of k.result = ap (take w.result) w.ensures.0 ∙ part-sets (line_of k.result) line 0 w.result (sym w.ensures.1.0) (omega (arith, w.ensures.1.1)) in
+    let text : take w.result w.new.1.0 ≡ line_of k.result = ap (take w.result) w.ensures.0 ∙ part_sets (line_of k.result) line 0 w.result (sym w.ensures.1.0) (omega (arith, w.ensures.1.1)) in
     ((omega (arith, w.ensures.1.1, w.auto.1.0), w.ensures.1.0 ∙ ap length (sym text)), text ∙ ap line_of k.ensures)
 
 pub answer-spec : {M : Type 1} → statement M

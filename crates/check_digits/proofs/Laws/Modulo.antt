@@ -42,8 +42,8 @@ module _ (k : ℕ) where
     divided a b h = sym (back a) ∙ multiplied (a * w) (b * w) i h ∙ back b
 
     -- a sum in which a digit with this weight becomes another: the sum leaves the same exactly when the two digits do
-    pub same-exactly : (before after old new : ℕ) → after + old * w ≡ before + new * w → (before % m ≡ after % m) ↔ (old % m ≡ new % m)
-    same-exactly before after old new e = (
+    pub same_exactly : (before after old new : ℕ) → after + old * w ≡ before + new * w → (before % m ≡ after % m) ↔ (old % m ≡ new % m)
+    same_exactly before after old new e = (
       λ h. divided old new (summands after before (old * w) (new * w) e (sym h)),
       λ h. sym (summands (old * w) (new * w) after before (omega arith) (multiplied old new w h)),
     )

@@ -25,15 +25,15 @@ pub passes : (n : ℕ) (test : Bool) (rest : ℕ) → test ≡ false → (n when
 unfolding ◌when◌
 passes n test rest e = rw e (goes_on 0 rest refl)
 
-pub none-test : (n : ℕ) (test : Bool) → 0 < n → (n when test) ≡ 0 → test ≡ false
+pub none_test : (n : ℕ) (test : Bool) → 0 < n → (n when test) ≡ 0 → test ≡ false
 unfolding ◌when◌
-none-test n true h e = absurd (omega arith)
-none-test n false h e = refl
+none_test n true h e = absurd (omega arith)
+none_test n false h e = refl
 
-pub given-test : (n : ℕ) (test : Bool) → 0 < n → (n when test) ≡ n → test ≡ true
+pub given_test : (n : ℕ) (test : Bool) → 0 < n → (n when test) ≡ n → test ≡ true
 unfolding ◌when◌
-given-test n true h e = refl
-given-test n false h e = absurd (omega arith)
+given_test n true h e = refl
+given_test n false h e = absurd (omega arith)
 
 pub none_both : (a rest : ℕ) → (a orelse rest) ≡ 0 → (a ≡ 0) × (rest ≡ 0)
 unfolding ◌orelse◌
@@ -42,7 +42,7 @@ none_both (suc a) rest e = absurd (omega arith)
 
 -- so of one test and the rest: it does not hold, and the rest gives none
 pub passed : (n : ℕ) (test : Bool) (rest : ℕ) → 0 < n → (n when test orelse rest) ≡ 0 → (test ≡ false) × (rest ≡ 0)
-passed n test rest h e = let both = none_both (n when test) rest e in (none-test n test h both.0, both.1)
+passed n test rest h e = let both = none_both (n when test) rest e in (none_test n test h both.0, both.1)
 
 -- the same four of what a test denies, as most lines of an order are written
 pub fails : (n : ℕ) (test : Bool) (rest : ℕ) → 0 < n → test ≡ false → (n when not test orelse rest) ≡ n
@@ -51,8 +51,8 @@ fails n test rest h e = applies n (not test) rest h (ap not e)
 pub holds : (n : ℕ) (test : Bool) (rest : ℕ) → test ≡ true → (n when not test orelse rest) ≡ rest
 holds n test rest e = passes n (not test) rest (ap not e)
 
-pub none-held : (n : ℕ) (test : Bool) → 0 < n → (n when not test) ≡ 0 → test ≡ true
-none-held n test h e = not-false test (none-test n (not test) h e)
+pub none_held : (n : ℕ) (test : Bool) → 0 < n → (n when not test) ≡ 0 → test ≡ true
+none_held n test h e = not-false test (none_test n (not test) h e)
 
 pub held : (n : ℕ) (test : Bool) (rest : ℕ) → 0 < n → (n when not test orelse rest) ≡ 0 → (test ≡ true) × (rest ≡ 0)
 held n test rest h e = let both = passed n (not test) rest h e in (not-false test both.0, both.1)
@@ -62,7 +62,7 @@ pub all_held : (l m n : ℕ) (a b c : Bool) → 0 < l → 0 < m → 0 < n → (l
 all_held l m n a b c hl hm hn e =
     let first = held l a _ hl e in
     let second = held m b _ hm first.1 in
-    (first.0, second.0, none-held n c hn second.1)
+    (first.0, second.0, none_held n c hn second.1)
 
 pub joins : (a b c : ℕ) → ((a orelse b) orelse c) ≡ (a orelse b orelse c)
 unfolding ◌orelse◌
@@ -75,7 +75,7 @@ last zero = refl
 last (suc a) = refl
 
 -- what follows a part that applies is not asked
-pub rest-same : (a b c : ℕ) → (a ≡ 0 → b ≡ c) → (a orelse b) ≡ (a orelse c)
+pub rest_same : (a b c : ℕ) → (a ≡ 0 → b ≡ c) → (a orelse b) ≡ (a orelse c)
 unfolding ◌orelse◌
-rest-same zero b c h = h refl
-rest-same (suc a) b c h = refl
+rest_same zero b c h = h refl
+rest_same (suc a) b c h = refl

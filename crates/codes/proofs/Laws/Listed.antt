@@ -2,19 +2,19 @@
 use mathlib.Core.Path.{◌≡◌, ap, sym, ◌∙◌}
 use mathlib.Core.Bool.{Bool, true, false}
 use Prim.Native.Nat.{ℕ, zero, suc}
-use Rattle.packed.specs.Writing.{packedByte}
+use Rattle.packed.specs.Writing.{packed_byte}
 use Rattle.codes.specs.Chain.{◌when◌, ◌orelse◌}
 use Rattle.codes.specs.declared.code.Code.{Code}
-use Rattle.codes.specs.Code.{codeNumber, codeByte, isKnown, knownCode, codeNumbered}
-use Rattle.codes.proofs.Laws.Code.{written-then-read, number-told}
+use Rattle.codes.specs.Code.{code_number, code_byte, is_known, known_code, code_numbered}
+use Rattle.codes.proofs.Laws.Code.{written_then_read, number_told}
 
 abbrev pub Listed : ℕ → Type 0
-Listed n = codeNumber (codeNumbered n) ≡ n
+Listed n = code_number (code_numbered n) ≡ n
 
-pub listed : (c : Code) → Listed (codeNumber c)
-listed c = ap codeNumber (number-told c)
+pub listed : (c : Code) → Listed (code_number c)
+listed c = ap code_number (number_told c)
 
-pub one : (c : Code) (test : Bool) → Listed (codeNumber c when test)
+pub one : (c : Code) (test : Bool) → Listed (code_number c when test)
 unfolding ◌when◌
 one c true = listed c
 one c false = listed Code.Accepted
@@ -24,9 +24,9 @@ unfolding ◌orelse◌
 then zero b h g = g
 then (suc a) b h g = h
 
-pub row : (c : Code) (test : Bool) (rest : ℕ) → Listed rest → Listed (codeNumber c when test orelse rest)
-row c test rest g = then (codeNumber c when test) rest (one c test) g
+pub row : (c : Code) (test : Bool) (rest : ℕ) → Listed rest → Listed (code_number c when test orelse rest)
+row c test rest g = then (code_number c when test) rest (one c test) g
 
-pub known : (n : ℕ) → Listed n → knownCode (packedByte n) ≡ true
-unfolding knownCode codeByte
-known n h = ap (λ (m : ℕ). knownCode (packedByte m)) (sym h) ∙ ap isKnown (written-then-read (codeNumbered n))
+pub known : (n : ℕ) → Listed n → known_code (packed_byte n) ≡ true
+unfolding known_code code_byte
+known n h = ap (λ (m : ℕ). known_code (packed_byte m)) (sym h) ∙ ap is_known (written_then_read (code_numbered n))

@@ -5,7 +5,7 @@ use Prim.Native.Nat.{ℕ}
 use native.Mathlib.Omega.{arith}
 use Rattle.codes.specs.declared.refusal.Refusal.{Refusal}
 use Rattle.codes.specs.Numbered.{numbered}
-use Rattle.codes.specs.Refusal.{refusalNumber}
+use Rattle.codes.specs.Refusal.{refusal_number}
 
 refusals : List Refusal
 refusals =
@@ -24,11 +24,11 @@ refusals =
     ∷ Refusal.NoSerialLeft
     ∷ []
 
-refusalOf : ℕ → Refusal
-refusalOf n = numbered refusalNumber (λ r. r) Refusal.TimePastDay refusals n
+refusal_of : ℕ → Refusal
+refusal_of n = numbered refusal_number (λ r. r) Refusal.TimePastDay refusals n
 
-told : (r : Refusal) → refusalOf (refusalNumber r) ≡ r
-unfolding refusalOf numbered refusals
+told : (r : Refusal) → refusal_of (refusal_number r) ≡ r
+unfolding refusal_of numbered refusals
 told Refusal.TimePastDay = refl
 told Refusal.WrongEnvelope = refl
 told Refusal.UnknownReply = refl
@@ -43,9 +43,9 @@ told Refusal.ReplyAwaited = refl
 told Refusal.UnexpectedSerial = refl
 told Refusal.NoSerialLeft = refl
 
-pub same_number : (r s : Refusal) → refusalNumber r ≡ refusalNumber s → r ≡ s
-same_number r s e = sym (told r) ∙ ap refusalOf e ∙ told s
+pub same_number : (r s : Refusal) → refusal_number r ≡ refusal_number s → r ≡ s
+same_number r s e = sym (told r) ∙ ap refusal_of e ∙ told s
 
-pub never-none : (r : Refusal) → refusalNumber r ≡ 0 → ⊥
-unfolding refusalOf numbered refusals
-never-none r e = let first : refusalNumber r ≡ 20 = ap refusalNumber (sym (told r) ∙ ap refusalOf e) in omega (arith, e, first)
+pub never_none : (r : Refusal) → refusal_number r ≡ 0 → ⊥
+unfolding refusal_of numbered refusals
+never_none r e = let first : refusal_number r ≡ 20 = ap refusal_number (sym (told r) ∙ ap refusal_of e) in omega (arith, e, first)

@@ -13,8 +13,8 @@ pub record Put (buffer text now : List ℕ) (next : ℕ) : Type 0 where
   pub place : next ≡ length text
 
 -- one piece more
-pub put-behind : {buffer text now : List ℕ} {next : ℕ} → Put buffer text now next → (more : List ℕ) {after : List ℕ} {then : ℕ} → after ≡ sets now next more → then ≡ next + length more → Put buffer (text ++ more) after then
-put-behind {buffer} {text} {now} {next} p more w n =
+pub put_behind : {buffer text now : List ℕ} {next : ℕ} → Put buffer text now next → (more : List ℕ) {after : List ℕ} {then : ℕ} → after ≡ sets now next more → then ≡ next + length more → Put buffer (text ++ more) after then
+put_behind {buffer} {text} {now} {next} p more w n =
     record {
       written = w ∙ sets_behind text more buffer now 0 next p.written (omega (arith, p.place));
       place = n ∙ ap (λ (k : ℕ). k + length more) p.place ∙ sym (length-append text more);

@@ -6,7 +6,7 @@ use borrow.Author.Rules.{rules}
 use lib.ListN.{length, take}
 use lib.Seq.{sets}
 use Rattle.decimal.specs.Decimal.{decimal}
-use Rattle.decimal.proofs.Laws.Decimal.{decimal-fewest, at-most-20}
+use Rattle.decimal.proofs.Laws.Decimal.{decimal_fewest, at_most_20}
 use Rattle.decimal.proofs.put_decimal.Statement.{statement}
 use Rattle.decimal.proofs.put_decimal.Tie as tie
 
@@ -23,13 +23,13 @@ copy-requires : tie.Need-copy-requires
 copy-requires c κs =
     let d = c.before.before.decimal in
     let a = c.before.before.before.before.before.args in
-    omega (arith, d.ensures.0, at-most-20 d.result a.value (omega arith) d.ensures.1.0)
+    omega (arith, d.ensures.0, at_most_20 d.result a.value (omega arith) d.ensures.1.0)
 
 add-result : tie.Need-overflow-add-result
 add-result c =
     let d = c.before.before.before.before.before.decimal in
     let a = c.before.before.before.before.before.before.before.before.args in
-    omega (arith, at-most-20 d.result a.value (omega arith) d.ensures.1.0)
+    omega (arith, at_most_20 d.result a.value (omega arith) d.ensures.1.0)
 
 same_length : tie.Need-same-length
 same_length c = search rules
@@ -38,8 +38,8 @@ returns : tie.Need-returns
 returns c =
     let d = c.before.before.before.before.before.decimal in
     let a = c.before.before.before.before.before.before.before.before.args in
-    let text : take d.result d.new.1.0 ≡ decimal a.value = d.ensures.1.1 ∙ decimal-fewest d.result a.value d.ensures.1.0 in
-    let few = at-most-20 d.result a.value (omega arith) d.ensures.1.0 in
+    let text : take d.result d.new.1.0 ≡ decimal a.value = d.ensures.1.1 ∙ decimal_fewest d.result a.value d.ensures.1.0 in
+    let few = at_most_20 d.result a.value (omega arith) d.ensures.1.0 in
     (c.before.before.copy.ensures ∙ ap (sets a.line.now a.at) text, (ap (λ (n : ℕ). a.at + n) (d.ensures.0.1 ∙ ap length text), omega (arith, few)))
 
 pub put-decimal-spec : {M : Type 1} → statement M

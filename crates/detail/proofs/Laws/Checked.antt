@@ -9,18 +9,18 @@ use lib.ListN.{length}
 use Rattle.packed.specs.Every.{every}
 use Rattle.amounts.specs.Totals.{zeros}
 use Rattle.codes.proofs.Laws.Chain.{fails}
-use Rattle.document.specs.Limits.{largestEntity, mostRepresented}
-use Rattle.document.specs.Entities.{isEntity, entitiesGood}
+use Rattle.document.specs.Limits.{largest_entity, most_represented}
+use Rattle.document.specs.Entities.{is_entity, entities_good}
 use Rattle.detail.specs.Groups.{documents}
-use Rattle.detail.specs.Codes.{receiverCode, acceptedTotals}
-use Rattle.detail.specs.Checked.{fourNumbers, checked, checkedCode}
+use Rattle.detail.specs.Codes.{receiver_code, accepted_totals}
+use Rattle.detail.specs.Checked.{four_numbers, checked, checked_code}
 
-pub start-refused : (own : ℕ) (represented body : List ℕ) → entitiesGood own represented ≡ false → fourNumbers 24 zeros ≡ checked own represented body
-unfolding checked checkedCode
-start-refused own represented body bad =
-    ap (λ (n : ℕ). fourNumbers n (acceptedTotals n (documents body)))
-    (sym (fails 24 (entitiesGood own represented) (receiverCode own represented body) (lit< tt) bad))
+pub start_refused : (own : ℕ) (represented body : List ℕ) → entities_good own represented ≡ false → four_numbers 24 zeros ≡ checked own represented body
+unfolding checked checked_code
+start_refused own represented body bad =
+    ap (λ (n : ℕ). four_numbers n (accepted_totals n (documents body)))
+    (sym (fails 24 (entities_good own represented) (receiver_code own represented body) (lit< tt) bad))
 
-pub own-too-large : (own : ℕ) (represented : List ℕ) → largestEntity < own → entitiesGood own represented ≡ false
-own-too-large own represented h =
-    ap (λ (t : Bool). t && leb (length represented) mostRepresented && every isEntity represented) (lt-leb own largestEntity h)
+pub own_too_large : (own : ℕ) (represented : List ℕ) → largest_entity < own → entities_good own represented ≡ false
+own_too_large own represented h =
+    ap (λ (t : Bool). t && leb (length represented) most_represented && every is_entity represented) (lt-leb own largest_entity h)

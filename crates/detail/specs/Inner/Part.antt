@@ -1,7 +1,7 @@
 -- The longest part that one detail takes.
 use Rattle.std.specs.Prelude.{ℕ, ◌*◌}
-use Rattle.document.specs.Limits.{documentBytes, mostDetailDocuments}
+use Rattle.document.specs.Limits.{document_bytes, most_detail_documents}
 
 -- the bytes of the most documents of a detail
-abbrev pub longestPart : ℕ
-longestPart = mostDetailDocuments * documentBytes
+abbrev pub longest_part : ℕ
+longest_part = most_detail_documents * document_bytes

@@ -5,8 +5,8 @@ use Rattle.amounts.specs.declared.Totals.{Totals}
 use Rattle.amounts.specs.Totals.{zeros}
 
 -- the totals where a code accepts, else none
-abbrev pub ifAccepted : (code : ℕ) → Totals → Totals
-ifAccepted code t = cond (eqb code 0) t zeros
+abbrev pub if_accepted : (code : ℕ) → Totals → Totals
+if_accepted code t = cond (eqb code 0) t zeros
 
 -- by whether all fields, all amounts and all drawees are good, and every document is for something
 abbrev pub judged : (fields amounts served something : Bool) → ℕ

@@ -3,30 +3,30 @@ use Rattle.std.specs.Prelude.{ℕ, true, ◌&&◌, List}
 use Rattle.packed.specs.Every.{every}
 use Rattle.amounts.specs.Totals.{zeros, plus}
 use Rattle.document.specs.declared.found.Found.{Found}
-use Rattle.document.specs.Fields.{fieldsGood, amountsGood}
-use Rattle.document.specs.Drawee.{draweeServed}
-use Rattle.document.specs.Amounts.{forSomething, documentTotals, totalsOf}
+use Rattle.document.specs.Fields.{fields_good, amounts_good}
+use Rattle.document.specs.Drawee.{drawee_served}
+use Rattle.document.specs.Amounts.{for_something, document_totals, totals_of}
 
 -- what is found in one document
 abbrev pub found : (operation receiving : ℕ) (represented : List ℕ) → List ℕ → Found
 found operation receiving represented d =
     record {
-      fields = fieldsGood operation receiving d;
-      amounts = amountsGood operation receiving d;
-      served = draweeServed operation receiving represented d;
-      something = forSomething d;
-      totals = documentTotals d;
+      fields = fields_good operation receiving d;
+      amounts = amounts_good operation receiving d;
+      served = drawee_served operation receiving represented d;
+      something = for_something d;
+      totals = document_totals d;
     }
 
 -- what is found in some, each test over all of them
-abbrev pub foundIn : (operation receiving : ℕ) (represented : List ℕ) → List (List ℕ) → Found
-foundIn operation receiving represented ds =
+abbrev pub found_in : (operation receiving : ℕ) (represented : List ℕ) → List (List ℕ) → Found
+found_in operation receiving represented ds =
     record {
-      fields = every (fieldsGood operation receiving) ds;
-      amounts = every (amountsGood operation receiving) ds;
-      served = every (draweeServed operation receiving represented) ds;
-      something = every forSomething ds;
-      totals = totalsOf ds;
+      fields = every (fields_good operation receiving) ds;
+      amounts = every (amounts_good operation receiving) ds;
+      served = every (drawee_served operation receiving represented) ds;
+      something = every for_something ds;
+      totals = totals_of ds;
     }
 
 -- what is found where there is none

@@ -13,88 +13,88 @@ use Rattle.packed.proofs.Laws.Told.{both}
 use Rattle.packed.proofs.Laws.Member.{neither}
 use Rattle.codes.specs.Chain.{◌when◌, ◌orelse◌}
 use Rattle.codes.specs.Numbered.{numbered}
-use Rattle.document.specs.Limits.{documentBytes}
+use Rattle.document.specs.Limits.{document_bytes}
 use Rattle.lot_file.specs.declared.row.Row.{Row}
 use Rattle.lot_file.specs.declared.contents.Contents.{Contents}
 use Rattle.lot_file.specs.declared.answers.FindShown.{FindShown}
-use Rattle.lot_file.specs.Layout.{Stored, tableBytes, fileOf, over}
-use Rattle.lot_file.specs.Good.{rowsIn, usedRows, numbersOf, bodyBytes, orderNumber, inOrder, end_of, good}
-use Rattle.lot_file.specs.Reading.{lotAt, lotsIn, bodyIn, present, no_row, rowFor, checkRefusal, absentRefusal, foundRow, found, bodyFound}
-use Rattle.lot_file.specs.Adding.{trayGood, noRoom, addRefusal, withLot, added}
-use Rattle.lot_file.specs.TakingOut.{without, takenOut}
+use Rattle.lot_file.specs.Layout.{Stored, table_bytes, file_of, over}
+use Rattle.lot_file.specs.Good.{rows_in, used_rows, numbers_of, body_bytes, order_number, in_order, end_of, good}
+use Rattle.lot_file.specs.Reading.{lot_at, lots_in, body_in, present, no_row, row_for, check_refusal, absent_refusal, found_row, found, body_found}
+use Rattle.lot_file.specs.Adding.{tray_good, no_room, add_refusal, with_lot, added}
+use Rattle.lot_file.specs.TakingOut.{without, taken_out}
 use Rattle.lot_file.specs.Inner.Search.{place_of}
-use Rattle.lot_file.specs.Inner.Contents.{mostRows, ToldOf}
+use Rattle.lot_file.specs.Inner.Contents.{most_rows, ToldOf}
 use Rattle.lot_file.specs.Inner.Moving.{appended, row_at, Closable, closed}
 use Rattle.lot_file.proofs.Laws.Binary.{Bytes}
-use Rattle.lot_file.proofs.Laws.Lots.{lotNumbers, end-behind}
-use Rattle.lot_file.proofs.Laws.Held.{Sound, sound, used-rows, used-are}
-use Rattle.lot_file.proofs.Laws.Search.{place-member}
-use Rattle.lot_file.proofs.Laws.Found.{numbered-place, without-place, row_inside, row-there, added-there, closed-there}
+use Rattle.lot_file.proofs.Laws.Lots.{lot_numbers, end_behind}
+use Rattle.lot_file.proofs.Laws.Held.{Sound, sound, used_rows_lem, used_are}
+use Rattle.lot_file.proofs.Laws.Search.{place_member}
+use Rattle.lot_file.proofs.Laws.Found.{numbered_place, without_place, row_inside, row_there, added_there, closed_there}
 
 -- what `contents_of` has told of a slice
 abbrev pub Judged : (rows most : ℕ) (s : List ℕ) → Contents → Type 0
 Judged rows most s c = (c.well-formed ≡ good rows most s) × (c.well-formed ≡ true → ToldOf rows s c)
 
-pub checked-wrong : (rows most : ℕ) (s : List ℕ) → good rows most s ≡ false → checkRefusal rows most s ≡ 25
-unfolding checkRefusal ◌when◌
-checked-wrong rows most s e = rw e
+pub checked_wrong : (rows most : ℕ) (s : List ℕ) → good rows most s ≡ false → check_refusal rows most s ≡ 25
+unfolding check_refusal ◌when◌
+checked_wrong rows most s e = rw e
 
-pub checked-good : (rows most : ℕ) (s : List ℕ) → good rows most s ≡ true → checkRefusal rows most s ≡ 0
-unfolding checkRefusal ◌when◌
-checked-good rows most s e = rw e
+pub checked_good : (rows most : ℕ) (s : List ℕ) → good rows most s ≡ true → check_refusal rows most s ≡ 0
+unfolding check_refusal ◌when◌
+checked_good rows most s e = rw e
 
 -- the chain that finding and taking out share
 module _ (rows most : ℕ) (s : List ℕ) (n : ℕ) where
-  pub refused-25 : good rows most s && orderNumber n ≡ false → absentRefusal rows most s n ≡ 25
-  unfolding absentRefusal ◌when◌ ◌orelse◌
-  refused-25 e = rw e
+  pub refused_25 : good rows most s && order_number n ≡ false → absent_refusal rows most s n ≡ 25
+  unfolding absent_refusal ◌when◌ ◌orelse◌
+  refused_25 e = rw e
 
-  pub refused-46 : good rows most s && orderNumber n ≡ true → present rows s n ≡ false → absentRefusal rows most s n ≡ 46
-  unfolding absentRefusal ◌when◌ ◌orelse◌
-  refused-46 e f = rw (e, f)
+  pub refused_46 : good rows most s && order_number n ≡ true → present rows s n ≡ false → absent_refusal rows most s n ≡ 46
+  unfolding absent_refusal ◌when◌ ◌orelse◌
+  refused_46 e f = rw (e, f)
 
-  pub unrefused : good rows most s && orderNumber n ≡ true → present rows s n ≡ true → absentRefusal rows most s n ≡ 0
-  unfolding absentRefusal ◌when◌ ◌orelse◌
+  pub unrefused : good rows most s && order_number n ≡ true → present rows s n ≡ true → absent_refusal rows most s n ≡ 0
+  unfolding absent_refusal ◌when◌ ◌orelse◌
   unrefused e f = rw (e, f)
 
   -- what is found, and what is left in the slice
-  abbrev shownBy : (code : ℕ) (ok : Bool) → FindShown
-  shownBy code ok = record { code = code; start = (cond ok (rowFor (usedRows rows s) n) no_row).start; documents = (cond ok (rowFor (usedRows rows s) n) no_row).documents }
+  abbrev shown_by : (code : ℕ) (ok : Bool) → FindShown
+  shown_by code ok = record { code = code; start = (cond ok (row_for (used_rows rows s) n) no_row).start; documents = (cond ok (row_for (used_rows rows s) n) no_row).documents }
 
-  pub found-refused : (k : ℕ) → eqb k 0 ≡ false → absentRefusal rows most s n ≡ k → record { code = k; start = 0; documents = 0 } ≡ found rows most s n
+  pub found_refused : (k : ℕ) → eqb k 0 ≡ false → absent_refusal rows most s n ≡ k → record { code = k; start = 0; documents = 0 } ≡ found rows most s n
   unfolding found
-  found-refused k f e = ap (shownBy k) (sym f) ∙ ap (λ (j : ℕ). shownBy j (eqb j 0)) (sym e)
+  found_refused k f e = ap (shown_by k) (sym f) ∙ ap (λ (j : ℕ). shown_by j (eqb j 0)) (sym e)
 
-  pub found-row : (r : Row) → r ≡ rowFor (usedRows rows s) n → absentRefusal rows most s n ≡ 0 → record { code = 0; start = r.start; documents = r.documents } ≡ found rows most s n
+  pub found_row_lem : (r : Row) → r ≡ row_for (used_rows rows s) n → absent_refusal rows most s n ≡ 0 → record { code = 0; start = r.start; documents = r.documents } ≡ found rows most s n
   unfolding found
-  found-row r row e = ap (λ (x : Row). record { code = 0; start = x.start; documents = x.documents }) row ∙ ap (λ (j : ℕ). shownBy j (eqb j 0)) (sym e)
+  found_row_lem r row e = ap (λ (x : Row). record { code = 0; start = x.start; documents = x.documents }) row ∙ ap (λ (j : ℕ). shown_by j (eqb j 0)) (sym e)
 
-  abbrev leftBy : (ok : Bool) → List ℕ
-  leftBy ok = cond ok (over (fileOf rows (without n (lotsIn rows s))) s) s
+  abbrev left_by : (ok : Bool) → List ℕ
+  left_by ok = cond ok (over (file_of rows (without n (lots_in rows s))) s) s
 
-  pub nothing-taken : (k : ℕ) → eqb k 0 ≡ false → absentRefusal rows most s n ≡ k → s ≡ takenOut rows most s n
-  unfolding takenOut
-  nothing-taken k f e = ap leftBy (sym f) ∙ ap (λ (j : ℕ). leftBy (eqb j 0)) (sym e)
+  pub nothing_taken : (k : ℕ) → eqb k 0 ≡ false → absent_refusal rows most s n ≡ k → s ≡ taken_out rows most s n
+  unfolding taken_out
+  nothing_taken k f e = ap left_by (sym f) ∙ ap (λ (j : ℕ). left_by (eqb j 0)) (sym e)
 
-  pub one-taken : absentRefusal rows most s n ≡ 0 → over (fileOf rows (without n (lotsIn rows s))) s ≡ takenOut rows most s n
-  unfolding takenOut
-  one-taken e = ap (λ (j : ℕ). leftBy (eqb j 0)) (sym e)
+  pub one_taken : absent_refusal rows most s n ≡ 0 → over (file_of rows (without n (lots_in rows s))) s ≡ taken_out rows most s n
+  unfolding taken_out
+  one_taken e = ap (λ (j : ℕ). left_by (eqb j 0)) (sym e)
 
 -- what is known once a slice and a number have passed
 pub record Asked (rows most : ℕ) (s : List ℕ) (c : Contents) (n : ℕ) : Type 0 where
-  pub passed : good rows most s && orderNumber n ≡ true
+  pub passed : good rows most s && order_number n ≡ true
   pub clauses : Sound rows most s
-  pub counted : c.used ≡ length (usedRows rows s)
-  pub ended : c.end ≡ end_of (tableBytes rows) (usedRows rows s)
+  pub counted : c.used ≡ length (used_rows rows s)
+  pub ended : c.end ≡ end_of (table_bytes rows) (used_rows rows s)
   pub few : c.used ≤ rows
-  pub table : tableBytes c.used ≤ length s
+  pub table : table_bytes c.used ≤ length s
 
-pub asked : (rows most : ℕ) (s : List ℕ) (c : Contents) (n : ℕ) (o : Bool) → Judged rows most s c → o ≡ orderNumber n → c.well-formed && o ≡ true → Asked rows most s c n
+pub asked : (rows most : ℕ) (s : List ℕ) (c : Contents) (n : ℕ) (o : Bool) → Judged rows most s c → o ≡ order_number n → c.well-formed && o ≡ true → Asked rows most s c n
 asked rows most s c n o j e taken =
     let first = both c.well-formed o taken in
     let clauses = sound rows most s (sym j.0 ∙ first.0) in
     let told = j.1 first.0 in
-    let few = used-rows rows s clauses.table in
+    let few = used_rows_lem rows s clauses.table in
     record {
       passed = (λ i. sym j.0 i && sym e i) ∙ taken;
       clauses = clauses;
@@ -104,48 +104,48 @@ asked rows most s c n o j e taken =
       table = omega (arith, told.used, clauses.table);
     }
 
-pub unasked : (rows most : ℕ) (s : List ℕ) (c : Contents) (n : ℕ) (o : Bool) → Judged rows most s c → o ≡ orderNumber n → c.well-formed && o ≡ false → good rows most s && orderNumber n ≡ false
+pub unasked : (rows most : ℕ) (s : List ℕ) (c : Contents) (n : ℕ) (o : Bool) → Judged rows most s c → o ≡ order_number n → c.well-formed && o ≡ false → good rows most s && order_number n ≡ false
 unasked rows most s c n o j e left = (λ i. sym j.0 i && sym e i) ∙ left
 
-pub lots-numbers : (s : List ℕ) (rs : List Row) → lotNumbers (map (lotAt s) rs) ≡ numbersOf rs
-lots-numbers s [] = refl
-lots-numbers s (r ∷ rs) = ap (λ (l : List ℕ). r.number ∷ l) (lots-numbers s rs)
+pub lots_numbers : (s : List ℕ) (rs : List Row) → lot_numbers (map (lot_at s) rs) ≡ numbers_of rs
+lots_numbers s [] = refl
+lots_numbers s (r ∷ rs) = ap (λ (l : List ℕ). r.number ∷ l) (lots_numbers s rs)
 
-module _ (rows most : ℕ) (s : List ℕ) (c : Contents) (n place : ℕ) (a : Asked rows most s c n) (e : place ≡ place_of n (numbersOf (rowsIn c.used s))) where
+module _ (rows most : ℕ) (s : List ℕ) (c : Contents) (n place : ℕ) (a : Asked rows most s c n) (e : place ≡ place_of n (numbers_of (rows_in c.used s))) where
   abbrev rs : List Row
-  rs = usedRows rows s
+  rs = used_rows rows s
 
-  rows_are : rowsIn c.used s ≡ rs
-  rows_are = ap (λ (k : ℕ). rowsIn k s) a.counted ∙ sym (used-are rows s a.clauses.table)
+  rows_are : rows_in c.used s ≡ rs
+  rows_are = ap (λ (k : ℕ). rows_in k s) a.counted ∙ sym (used_are rows s a.clauses.table)
 
-  place_is : place ≡ place_of n (numbersOf rs)
-  place_is = e ∙ ap (λ (l : List Row). place_of n (numbersOf l)) rows_are
+  place_is : place ≡ place_of n (numbers_of rs)
+  place_is = e ∙ ap (λ (l : List Row). place_of n (numbers_of l)) rows_are
 
-  pub is-there : ltb place c.used ≡ present rows s n
-  is-there = (λ i. ltb (place_is i) ((a.counted ∙ sym (length-map rs (λ (r : Row). r.number))) i)) ∙ place-member n (numbersOf rs)
+  pub is_there : ltb place c.used ≡ present rows s n
+  is_there = (λ i. ltb (place_is i) ((a.counted ∙ sym (length-map rs (λ (r : Row). r.number))) i)) ∙ place_member n (numbers_of rs)
 
-  pub answer-46 : c.used ≤ place → absentRefusal rows most s n ≡ 46
-  answer-46 h = refused-46 rows most s n a.passed (sym is-there ∙ le-ltb place c.used h)
+  pub answer_46 : c.used ≤ place → absent_refusal rows most s n ≡ 46
+  answer_46 h = refused_46 rows most s n a.passed (sym is_there ∙ le-ltb place c.used h)
 
   module _ (h : place < c.used) where
-    pub answer-0 : absentRefusal rows most s n ≡ 0
-    answer-0 = unrefused rows most s n a.passed (sym is-there ∙ lt-ltb place c.used h)
+    pub answer_0 : absent_refusal rows most s n ≡ 0
+    answer_0 = unrefused rows most s n a.passed (sym is_there ∙ lt-ltb place c.used h)
 
     inside : place < length rs
     inside = omega (arith, a.counted)
 
     there : get_or rs place no_row ≡ row_at place s
-    there = row-there rows most s a.clauses place inside
+    there = row_there rows most s a.clauses place inside
 
-    pub row-found : row_at place s ≡ rowFor rs n
-    unfolding rowFor
-    row-found = sym there ∙ ap (λ (k : ℕ). get_or rs k no_row) place_is ∙ sym (numbered-place (λ (r : Row). r.number) (λ (r : Row). r) no_row rs n)
+    pub row_found : row_at place s ≡ row_for rs n
+    unfolding row_for
+    row_found = sym there ∙ ap (λ (k : ℕ). get_or rs k no_row) place_is ∙ sym (numbered_place (λ (r : Row). r.number) (λ (r : Row). r) no_row rs n)
 
-    pub closable : rows ≤ mostRows → Closable place c.used c.end s
+    pub closable : rows ≤ most_rows → Closable place c.used c.end s
     closable small =
-        let lies = row_inside (tableBytes rows) rs place a.clauses.ordered inside in
+        let lies = row_inside (table_bytes rows) rs place a.clauses.ordered inside in
         let start = ap (λ (r : Row). r.start) there in
-        let body = ap (λ (r : Row). r.start + bodyBytes r) there in
+        let body = ap (λ (r : Row). r.start + body_bytes r) there in
         record {
           inside = h;
           few = omega (arith, a.few);
@@ -154,117 +154,117 @@ module _ (rows most : ℕ) (s : List ℕ) (c : Contents) (n place : ℕ) (a : As
           room = omega (arith, a.ended, a.clauses.room);
         }
 
-    pub closed-taken : Bytes s → closed place c.used c.end s ≡ takenOut rows most s n
-    unfolding lotsIn
-    closed-taken bytes =
-        let lots = lotsIn rows s in
-        let same = place_is ∙ ap (place_of n) (sym (lots-numbers s rs)) in
+    pub closed_taken : Bytes s → closed place c.used c.end s ≡ taken_out rows most s n
+    unfolding lots_in
+    closed_taken bytes =
+        let lots = lots_in rows s in
+        let same = place_is ∙ ap (place_of n) (sym (lots_numbers s rs)) in
         (λ i. closed place (a.counted i) (a.ended i) s)
-        ∙ closed-there rows most s a.clauses place bytes inside
-        ∙ ap (λ (k : ℕ). over (fileOf rows (take k lots ++ drop (suc k) lots)) s) same
-        ∙ ap (λ (l : List Stored). over (fileOf rows l) s) (sym (without-place n lots))
-        ∙ one-taken rows most s n answer-0
+        ∙ closed_there rows most s a.clauses place bytes inside
+        ∙ ap (λ (k : ℕ). over (file_of rows (take k lots ++ drop (suc k) lots)) s) same
+        ∙ ap (λ (l : List Stored). over (file_of rows l) s) (sym (without_place n lots))
+        ∙ one_taken rows most s n answer_0
 
 -- the body that is handed out: as long as it says, and inside the slice
-body-row : (s : List ℕ) (rs : List Row) (n : ℕ) → bodyIn (map (lotAt s) rs) n ≡ part (rowFor rs n).start (bodyBytes (rowFor rs n)) s
-unfolding bodyIn rowFor numbered
-body-row s [] n = refl
-body-row s (r ∷ rs) n = go (eqb n r.number) (body-row s rs n)
+body_row : (s : List ℕ) (rs : List Row) (n : ℕ) → body_in (map (lot_at s) rs) n ≡ part (row_for rs n).start (body_bytes (row_for rs n)) s
+unfolding body_in row_for numbered
+body_row s [] n = refl
+body_row s (r ∷ rs) n = go (eqb n r.number) (body_row s rs n)
   where
-    go : (t : Bool) → bodyIn (map (lotAt s) rs) n ≡ part (rowFor rs n).start (bodyBytes (rowFor rs n)) s → cond t (part r.start (bodyBytes r) s) (bodyIn (map (lotAt s) rs) n) ≡ part (cond t r (rowFor rs n)).start (bodyBytes (cond t r (rowFor rs n))) s
+    go : (t : Bool) → body_in (map (lot_at s) rs) n ≡ part (row_for rs n).start (body_bytes (row_for rs n)) s → cond t (part r.start (body_bytes r) s) (body_in (map (lot_at s) rs) n) ≡ part (cond t r (row_for rs n)).start (body_bytes (cond t r (row_for rs n))) s
     go true e = refl
     go false e = e
 
 -- a row that is found among rows in order lies inside
-row-for-inside : (start : ℕ) (rs : List Row) (n : ℕ) → inOrder start rs ≡ true → (rowFor rs n).start + bodyBytes (rowFor rs n) ≤ end_of start rs
-unfolding rowFor numbered inOrder end_of
-row-for-inside start [] n e = omega arith
-row-for-inside start (r ∷ rs) n e =
-    let first = both (eqb r.start start) (inOrder (start + bodyBytes r) rs) e in
-    go (eqb n r.number) (eqb-true r.start start first.0) (row-for-inside (start + bodyBytes r) rs n first.1)
+row_for_inside : (start : ℕ) (rs : List Row) (n : ℕ) → in_order start rs ≡ true → (row_for rs n).start + body_bytes (row_for rs n) ≤ end_of start rs
+unfolding row_for numbered in_order end_of
+row_for_inside start [] n e = omega arith
+row_for_inside start (r ∷ rs) n e =
+    let first = both (eqb r.start start) (in_order (start + body_bytes r) rs) e in
+    go (eqb n r.number) (eqb-true r.start start first.0) (row_for_inside (start + body_bytes r) rs n first.1)
   where
-    go : (t : Bool) → r.start ≡ start → (rowFor rs n).start + bodyBytes (rowFor rs n) ≤ end_of (start + bodyBytes r) rs → (cond t r (rowFor rs n)).start + bodyBytes (cond t r (rowFor rs n)) ≤ end_of (start + bodyBytes r) rs
-    go true here later = omega (arith, end-behind (start + bodyBytes r) rs)
+    go : (t : Bool) → r.start ≡ start → (row_for rs n).start + body_bytes (row_for rs n) ≤ end_of (start + body_bytes r) rs → (cond t r (row_for rs n)).start + body_bytes (cond t r (row_for rs n)) ≤ end_of (start + body_bytes r) rs
+    go true here later = omega (arith, end_behind (start + body_bytes r) rs)
     go false here later = later
 
-pub good-unrefused : (rows most : ℕ) (s : List ℕ) (n : ℕ) → absentRefusal rows most s n ≡ 0 → good rows most s && orderNumber n ≡ true
-good-unrefused rows most s n zero = go (good rows most s && orderNumber n) refl
+pub good_unrefused : (rows most : ℕ) (s : List ℕ) (n : ℕ) → absent_refusal rows most s n ≡ 0 → good rows most s && order_number n ≡ true
+good_unrefused rows most s n zero = go (good rows most s && order_number n) refl
   where
-    go : (t : Bool) → good rows most s && orderNumber n ≡ t → t ≡ true
+    go : (t : Bool) → good rows most s && order_number n ≡ t → t ≡ true
     go true e = refl
-    go false e = absurd (omega (arith, refused-25 rows most s n e))
+    go false e = absurd (omega (arith, refused_25 rows most s n e))
 
-found_inside : (rows most : ℕ) (s : List ℕ) (n : ℕ) → absentRefusal rows most s n ≡ 0 → (rowFor (usedRows rows s) n).start + bodyBytes (rowFor (usedRows rows s) n) ≤ length s
+found_inside : (rows most : ℕ) (s : List ℕ) (n : ℕ) → absent_refusal rows most s n ≡ 0 → (row_for (used_rows rows s) n).start + body_bytes (row_for (used_rows rows s) n) ≤ length s
 found_inside rows most s n e =
-    let clauses = sound rows most s (both (good rows most s) (orderNumber n) (good-unrefused rows most s n e)).0 in
-    omega (arith, row-for-inside (tableBytes rows) (usedRows rows s) n clauses.ordered, clauses.room)
+    let clauses = sound rows most s (both (good rows most s) (order_number n) (good_unrefused rows most s n e)).0 in
+    omega (arith, row_for_inside (table_bytes rows) (used_rows rows s) n clauses.ordered, clauses.room)
 
 module _ (rows most : ℕ) (s : List ℕ) (n : ℕ) where
-  pub body-handed : part (found rows most s n).start ((found rows most s n).documents * documentBytes) s ≡ bodyFound rows most s n
-  unfolding found bodyFound lotsIn
-  body-handed = go (eqb (absentRefusal rows most s n) 0)
+  pub body_handed : part (found rows most s n).start ((found rows most s n).documents * document_bytes) s ≡ body_found rows most s n
+  unfolding found body_found lots_in
+  body_handed = go (eqb (absent_refusal rows most s n) 0)
     where
-      go : (t : Bool) → part (cond t (rowFor (usedRows rows s) n) no_row).start (bodyBytes (cond t (rowFor (usedRows rows s) n) no_row)) s ≡ cond t (bodyIn (map (lotAt s) (usedRows rows s)) n) []
-      go true = sym (body-row s (usedRows rows s) n)
+      go : (t : Bool) → part (cond t (row_for (used_rows rows s) n) no_row).start (body_bytes (cond t (row_for (used_rows rows s) n) no_row)) s ≡ cond t (body_in (map (lot_at s) (used_rows rows s)) n) []
+      go true = sym (body_row s (used_rows rows s) n)
       go false = refl
 
   -- a refused call hands out nothing; a row that is found lies inside
-  pub body-inside : (found rows most s n).start + (found rows most s n).documents * documentBytes ≤ length s
+  pub body_inside : (found rows most s n).start + (found rows most s n).documents * document_bytes ≤ length s
   unfolding found
-  body-inside = go (eqb (absentRefusal rows most s n) 0) refl
+  body_inside = go (eqb (absent_refusal rows most s n) 0) refl
     where
-      unrefused-row : eqb (absentRefusal rows most s n) 0 ≡ true → (rowFor (usedRows rows s) n).start + bodyBytes (rowFor (usedRows rows s) n) ≤ length s
-      unrefused-row e = found_inside rows most s n (eqb-true (absentRefusal rows most s n) 0 e)
+      unrefused_row : eqb (absent_refusal rows most s n) 0 ≡ true → (row_for (used_rows rows s) n).start + body_bytes (row_for (used_rows rows s) n) ≤ length s
+      unrefused_row e = found_inside rows most s n (eqb-true (absent_refusal rows most s n) 0 e)
 
-      go : (t : Bool) → eqb (absentRefusal rows most s n) 0 ≡ t → (cond t (rowFor (usedRows rows s) n) no_row).start + bodyBytes (cond t (rowFor (usedRows rows s) n) no_row) ≤ length s
-      go true e = unrefused-row e
+      go : (t : Bool) → eqb (absent_refusal rows most s n) 0 ≡ t → (cond t (row_for (used_rows rows s) n) no_row).start + body_bytes (cond t (row_for (used_rows rows s) n) no_row) ≤ length s
+      go true e = unrefused_row e
       go false e = omega arith
 
 -- the chain of adding
 module _ (rows most : ℕ) (s : List ℕ) (n : ℕ) (tray : List ℕ) where
-  pub adding-25 : good rows most s && orderNumber n && trayGood most tray ≡ false → addRefusal rows most s n tray ≡ 25
-  unfolding addRefusal ◌when◌ ◌orelse◌
-  adding-25 e = rw e
+  pub adding_25 : good rows most s && order_number n && tray_good most tray ≡ false → add_refusal rows most s n tray ≡ 25
+  unfolding add_refusal ◌when◌ ◌orelse◌
+  adding_25 e = rw e
 
-  module _ (e : good rows most s && orderNumber n && trayGood most tray ≡ true) where
-    pub adding-4 : present rows s n ≡ true → addRefusal rows most s n tray ≡ 4
-    unfolding addRefusal ◌when◌ ◌orelse◌
-    adding-4 f = rw (e, f)
+  module _ (e : good rows most s && order_number n && tray_good most tray ≡ true) where
+    pub adding_4 : present rows s n ≡ true → add_refusal rows most s n tray ≡ 4
+    unfolding add_refusal ◌when◌ ◌orelse◌
+    adding_4 f = rw (e, f)
 
-    pub adding-45 : present rows s n ≡ false → noRoom rows s tray ≡ true → addRefusal rows most s n tray ≡ 45
-    unfolding addRefusal ◌when◌ ◌orelse◌
-    adding-45 f g = rw (e, f, g)
+    pub adding_45 : present rows s n ≡ false → no_room rows s tray ≡ true → add_refusal rows most s n tray ≡ 45
+    unfolding add_refusal ◌when◌ ◌orelse◌
+    adding_45 f g = rw (e, f, g)
 
-    pub adding-0 : present rows s n ≡ false → noRoom rows s tray ≡ false → addRefusal rows most s n tray ≡ 0
-    unfolding addRefusal ◌when◌ ◌orelse◌
-    adding-0 f g = rw (e, f, g)
+    pub adding_0 : present rows s n ≡ false → no_room rows s tray ≡ false → add_refusal rows most s n tray ≡ 0
+    unfolding add_refusal ◌when◌ ◌orelse◌
+    adding_0 f g = rw (e, f, g)
 
-  abbrev afterAdding : (ok : Bool) → List ℕ
-  afterAdding ok = cond ok (over (fileOf rows (withLot (lotsIn rows s) n tray)) s) s
+  abbrev after_adding : (ok : Bool) → List ℕ
+  after_adding ok = cond ok (over (file_of rows (with_lot (lots_in rows s) n tray)) s) s
 
-  pub nothing-added : (k : ℕ) → eqb k 0 ≡ false → addRefusal rows most s n tray ≡ k → s ≡ added rows most s n tray
+  pub nothing_added : (k : ℕ) → eqb k 0 ≡ false → add_refusal rows most s n tray ≡ k → s ≡ added rows most s n tray
   unfolding added
-  nothing-added k f e = ap afterAdding (sym f) ∙ ap (λ (j : ℕ). afterAdding (eqb j 0)) (sym e)
+  nothing_added k f e = ap after_adding (sym f) ∙ ap (λ (j : ℕ). after_adding (eqb j 0)) (sym e)
 
-  pub one-added : addRefusal rows most s n tray ≡ 0 → over (fileOf rows (withLot (lotsIn rows s) n tray)) s ≡ added rows most s n tray
+  pub one_added : add_refusal rows most s n tray ≡ 0 → over (file_of rows (with_lot (lots_in rows s) n tray)) s ≡ added rows most s n tray
   unfolding added
-  one-added e = ap (λ (j : ℕ). afterAdding (eqb j 0)) (sym e)
+  one_added e = ap (λ (j : ℕ). after_adding (eqb j 0)) (sym e)
 
 -- what the code of adding has found, in the words of the chain
-module _ (rows most : ℕ) (s tray : List ℕ) (c : Contents) (n place : ℕ) (a : Asked rows most s c n) (e : place ≡ place_of n (numbersOf (rowsIn c.used s))) where
-  pub room-is : leb rows c.used || ltb (length s - c.end) (length tray) ≡ noRoom rows s tray
-  room-is = λ i. leb rows (a.counted i) || ltb (length s - a.ended i) (length tray)
+module _ (rows most : ℕ) (s tray : List ℕ) (c : Contents) (n place : ℕ) (a : Asked rows most s c n) (e : place ≡ place_of n (numbers_of (rows_in c.used s))) where
+  pub room_is : leb rows c.used || ltb (length s - c.end) (length tray) ≡ no_room rows s tray
+  room_is = λ i. leb rows (a.counted i) || ltb (length s - a.ended i) (length tray)
 
   -- where there is room, a row is free and the body fits
-  pub room-told : leb rows c.used || ltb (length s - c.end) (length tray) ≡ false → (c.used < rows) × (tableBytes (suc c.used) ≤ c.end) × (c.end + length tray ≤ length s)
-  room-told f =
+  pub room_told : leb rows c.used || ltb (length s - c.end) (length tray) ≡ false → (c.used < rows) × (table_bytes (suc c.used) ≤ c.end) × (c.end + length tray ≤ length s)
+  room_told f =
       let each = neither (leb rows c.used) (ltb (length s - c.end) (length tray)) f in
       let free = leb-false rows c.used each.0 in
       let fits = ltb-false (length s - c.end) (length tray) each.1 in
-      (free, omega (arith, a.ended, end-behind (tableBytes rows) (usedRows rows s)), omega (arith, a.ended, a.clauses.room))
+      (free, omega (arith, a.ended, end_behind (table_bytes rows) (used_rows rows s)), omega (arith, a.ended, a.clauses.room))
 
-  pub appended-added : Bytes s → addRefusal rows most s n tray ≡ 0 → c.used < rows → c.end + length tray ≤ length s → appended c.used c.end n tray s ≡ added rows most s n tray
-  appended-added bytes zero free room =
+  pub appended_added : Bytes s → add_refusal rows most s n tray ≡ 0 → c.used < rows → c.end + length tray ≤ length s → appended c.used c.end n tray s ≡ added rows most s n tray
+  appended_added bytes zero free room =
       (λ i. appended (a.counted i) (a.ended i) n tray s)
-      ∙ added-there rows most s a.clauses n tray bytes (omega (arith, a.counted)) (omega (arith, a.ended))
-      ∙ one-added rows most s n tray zero
+      ∙ added_there rows most s a.clauses n tray bytes (omega (arith, a.counted)) (omega (arith, a.ended))
+      ∙ one_added rows most s n tray zero

@@ -12,190 +12,190 @@ use borrow.Author.Tests.{eqb-true, lt-ltb}
 use Rattle.packed.specs.Part.{part}
 use Rattle.packed.specs.Every.{every, member}
 use Rattle.packed.proofs.Laws.Told.{both}
-use Rattle.packed.proofs.Laws.Every.{every_append, every-cons}
+use Rattle.packed.proofs.Laws.Every.{every_append, every_cons}
 use Rattle.codes.specs.Numbered.{numbered}
-use Rattle.document.specs.Limits.{documentBytes}
+use Rattle.document.specs.Limits.{document_bytes}
 use Rattle.lot_file.specs.declared.row.Row.{Row}
 use Rattle.lot_file.specs.declared.contents.Contents.{Contents}
-use Rattle.lot_file.specs.Layout.{Stored, rowBytes, tableBytes, bytes_of, row_of, rows_of, table_of, bodiesOf, fileOf, over}
-use Rattle.lot_file.specs.Good.{rowsIn, usedRows, numbersOf, bodyBytes, inOrder, end_of}
-use Rattle.lot_file.specs.Reading.{lotAt, lotsIn, bodyIn, present, no_row, rowFor}
-use Rattle.lot_file.specs.Adding.{withLot, lotGood}
+use Rattle.lot_file.specs.Layout.{Stored, row_bytes, table_bytes, bytes_of, row_of, rows_of, table_of, bodies_of, file_of, over}
+use Rattle.lot_file.specs.Good.{rows_in, used_rows, numbers_of, body_bytes, in_order, end_of}
+use Rattle.lot_file.specs.Reading.{lot_at, lots_in, body_in, present, no_row, row_for}
+use Rattle.lot_file.specs.Adding.{with_lot, lot_good}
 use Rattle.lot_file.specs.TakingOut.{without}
 use Rattle.lot_file.specs.Inner.Search.{place_of}
 use Rattle.lot_file.specs.Inner.Contents.{ToldOf}
-use Rattle.lot_file.specs.Inner.Moving.{appended, row_at, restarted, tableClosed, closed}
+use Rattle.lot_file.specs.Inner.Moving.{appended, row_at, restarted, table_closed, closed}
 use Rattle.lot_file.proofs.Laws.Binary.{Bytes}
-use Rattle.lot_file.proofs.Laws.Rows.{rows_next, rows_split, rows-length}
-use Rattle.lot_file.proofs.Laws.Lots.{told, rows_append, rows-count, rows_end, rows-numbers, lotNumbers, end-behind, read-bodies}
-use Rattle.lot_file.proofs.Laws.Held.{Sound, used-rows, used-are, lots-count, held_rows, held-good, held}
-use Rattle.lot_file.proofs.Laws.Search.{place-member}
-use Rattle.lot_file.proofs.Laws.Rewritten.{startAfter, added-file, taken-file}
-use Rattle.lot_file.proofs.Laws.Contents.{order-append, end-append}
+use Rattle.lot_file.proofs.Laws.Rows.{rows_next, rows_split, rows_length}
+use Rattle.lot_file.proofs.Laws.Lots.{told, rows_append, rows_count, rows_end, rows_numbers, lot_numbers, end_behind, read_bodies}
+use Rattle.lot_file.proofs.Laws.Held.{Sound, used_rows_lem, used_are, lots_count, held_rows, held_good, held}
+use Rattle.lot_file.proofs.Laws.Search.{place_member}
+use Rattle.lot_file.proofs.Laws.Rewritten.{start_after, added_file, taken_file}
+use Rattle.lot_file.proofs.Laws.Contents.{order_append, end_append}
 
 -- a thing found by its number is the one at the number's place
-pub numbered-place : {A B : Type 0} (number : A → ℕ) (found : A → B) (none : A) (xs : List A) (n : ℕ) → numbered number found (found none) xs n ≡ found (get_or xs (place_of n (map number xs)) none)
+pub numbered_place : {A B : Type 0} (number : A → ℕ) (found : A → B) (none : A) (xs : List A) (n : ℕ) → numbered number found (found none) xs n ≡ found (get_or xs (place_of n (map number xs)) none)
 unfolding numbered place_of
-numbered-place number found none [] n = refl
-numbered-place {A = A} {B = B} number found none (x ∷ xs) n = go (eqb n (number x)) (numbered-place number found none xs n)
+numbered_place number found none [] n = refl
+numbered_place {A = A} {B = B} number found none (x ∷ xs) n = go (eqb n (number x)) (numbered_place number found none xs n)
   where
     go : (t : Bool) → numbered number found (found none) xs n ≡ found (get_or xs (place_of n (map number xs)) none) → cond t (found x) (numbered number found (found none) xs n) ≡ found (get_or (x ∷ xs) (cond t 0 (suc (place_of n (map number xs)))) none)
     go true e = refl
     go false e = e
 
 -- the lots without the one of a number are those before its place and those behind
-pub without-place : (number : ℕ) (lots : List Stored) → without number lots ≡ take (place_of number (lotNumbers lots)) lots ++ drop (suc (place_of number (lotNumbers lots))) lots
+pub without_place : (number : ℕ) (lots : List Stored) → without number lots ≡ take (place_of number (lot_numbers lots)) lots ++ drop (suc (place_of number (lot_numbers lots))) lots
 unfolding without place_of
-without-place number [] = refl
-without-place number (lot ∷ lots) = go (eqb number lot.number) (without-place number lots)
+without_place number [] = refl
+without_place number (lot ∷ lots) = go (eqb number lot.number) (without_place number lots)
   where
-    go : (t : Bool) → without number lots ≡ take (place_of number (lotNumbers lots)) lots ++ drop (suc (place_of number (lotNumbers lots))) lots → cond t lots (lot ∷ without number lots) ≡ take (cond t 0 (suc (place_of number (lotNumbers lots)))) (lot ∷ lots) ++ drop (suc (cond t 0 (suc (place_of number (lotNumbers lots))))) (lot ∷ lots)
+    go : (t : Bool) → without number lots ≡ take (place_of number (lot_numbers lots)) lots ++ drop (suc (place_of number (lot_numbers lots))) lots → cond t lots (lot ∷ without number lots) ≡ take (cond t 0 (suc (place_of number (lot_numbers lots)))) (lot ∷ lots) ++ drop (suc (cond t 0 (suc (place_of number (lot_numbers lots))))) (lot ∷ lots)
     go true e = refl
     go false e = ap (λ (l : List Stored). lot ∷ l) e
 
 -- the body of a row of some in order lies between their start and their end
-pub row_inside : (start : ℕ) (rs : List Row) (p : ℕ) → inOrder start rs ≡ true → p < length rs → (start ≤ (get_or rs p no_row).start) × ((get_or rs p no_row).start + bodyBytes (get_or rs p no_row) ≤ end_of start rs)
-unfolding inOrder end_of
+pub row_inside : (start : ℕ) (rs : List Row) (p : ℕ) → in_order start rs ≡ true → p < length rs → (start ≤ (get_or rs p no_row).start) × ((get_or rs p no_row).start + body_bytes (get_or rs p no_row) ≤ end_of start rs)
+unfolding in_order end_of
 row_inside start [] p e h = absurd (omega arith)
 row_inside start (r ∷ rs) zero e h =
-    let here = eqb-true r.start start (both (eqb r.start start) (inOrder (start + bodyBytes r) rs) e).0 in
-    (omega arith, omega (arith, end-behind (start + bodyBytes r) rs))
+    let here = eqb-true r.start start (both (eqb r.start start) (in_order (start + body_bytes r) rs) e).0 in
+    (omega arith, omega (arith, end_behind (start + body_bytes r) rs))
 row_inside start (r ∷ rs) (suc p) e h =
-    let later = row_inside (start + bodyBytes r) rs p (both (eqb r.start start) (inOrder (start + bodyBytes r) rs) e).1 (omega arith) in
+    let later = row_inside (start + body_bytes r) rs p (both (eqb r.start start) (in_order (start + body_bytes r) rs) e).1 (omega arith) in
     (omega (arith, later.0), later.1)
 
 -- rows of lots that start anew
-restarted-rows : (most start other : ℕ) (lots : List Stored) → every (lotGood most) lots ≡ true → restarted start (rows_of other lots) ≡ rows_of start lots
+restarted_rows : (most start other : ℕ) (lots : List Stored) → every (lot_good most) lots ≡ true → restarted start (rows_of other lots) ≡ rows_of start lots
 unfolding restarted rows_of
-restarted-rows most start other [] e = refl
-restarted-rows most start other (lot ∷ lots) e =
-    let first = every-cons (lotGood most) lot lots e in
+restarted_rows most start other [] e = refl
+restarted_rows most start other (lot ∷ lots) e =
+    let first = every_cons (lot_good most) lot lots e in
     let size = (told most lot first.0).whole in
-    λ i. row_of start lot ∷ (ap (λ (n : ℕ). restarted (start + n) (rows_of (other + length lot.body) lots)) size ∙ restarted-rows most (start + length lot.body) (other + length lot.body) lots first.1) i
+    λ i. row_of start lot ∷ (ap (λ (n : ℕ). restarted (start + n) (rows_of (other + length lot.body) lots)) size ∙ restarted_rows most (start + length lot.body) (other + length lot.body) lots first.1) i
 
 -- a place among the used rows of a good slice
 module _ (rows most : ℕ) (s : List ℕ) (sound : Sound rows most s) where
   abbrev rs : List Row
-  rs = usedRows rows s
+  rs = used_rows rows s
 
   -- the rows before it, its own, and those behind
-  pub rows-there : (p : ℕ) → p < length rs → rs ≡ rowsIn p s ++ row_at p s ∷ rowsIn (length rs - (p + 1)) (drop (tableBytes (p + 1)) s)
-  rows-there p h =
-      let few = used-rows rows s sound.table in
+  pub rows_there : (p : ℕ) → p < length rs → rs ≡ rows_in p s ++ row_at p s ∷ rows_in (length rs - (p + 1)) (drop (table_bytes (p + 1)) s)
+  rows_there p h =
+      let few = used_rows_lem rows s sound.table in
       let u = length rs in
-      let room : tableBytes u ≤ length s = omega (arith, sound.table) in
+      let room : table_bytes u ≤ length s = omega (arith, sound.table) in
       let all : p + (u - p) ≡ u = omega arith in
-      let long : tableBytes (p + (u - p)) ≤ length s = omega arith in
-      used-are rows s sound.table
-      ∙ ap (λ (n : ℕ). rowsIn n s) (sym all)
+      let long : table_bytes (p + (u - p)) ≤ length s = omega arith in
+      used_are rows s sound.table
+      ∙ ap (λ (n : ℕ). rows_in n s) (sym all)
       ∙ rows_split p (u - p) s long
-      ∙ ap (λ (l : List Row). rowsIn p s ++ l) (rows_next p u s h room)
+      ∙ ap (λ (l : List Row). rows_in p s ++ l) (rows_next p u s h room)
 
-  pub row-there : (p : ℕ) → p < length rs → get_or rs p no_row ≡ row_at p s
-  row-there p h =
-      let few = used-rows rows s sound.table in
-      let inside : tableBytes p ≤ length s = omega (arith, sound.table) in
-      ap (λ (l : List Row). get_or l p no_row) (rows-there p h)
-      ∙ get_or_at (rowsIn p s) (row_at p s) (rowsIn (length rs - (p + 1)) (drop (tableBytes (p + 1)) s)) no_row p (rows-length p s inside)
+  pub row_there : (p : ℕ) → p < length rs → get_or rs p no_row ≡ row_at p s
+  row_there p h =
+      let few = used_rows_lem rows s sound.table in
+      let inside : table_bytes p ≤ length s = omega (arith, sound.table) in
+      ap (λ (l : List Row). get_or l p no_row) (rows_there p h)
+      ∙ get_or_at (rows_in p s) (row_at p s) (rows_in (length rs - (p + 1)) (drop (table_bytes (p + 1)) s)) no_row p (rows_length p s inside)
 
   -- the end of the last body, by the lots
-  lots-end : end_of (tableBytes rows) rs ≡ tableBytes rows + length (bodiesOf (lotsIn rows s))
-  lots-end = ap (end_of (tableBytes rows)) (sym (held_rows rows most s sound)) ∙ rows_end most (tableBytes rows) (lotsIn rows s) (held-good rows most s sound)
+  lots_end : end_of (table_bytes rows) rs ≡ table_bytes rows + length (bodies_of (lots_in rows s))
+  lots_end = ap (end_of (table_bytes rows)) (sym (held_rows rows most s sound)) ∙ rows_end most (table_bytes rows) (lots_in rows s) (held_good rows most s sound)
 
   -- a lot written behind all others
-  pub added-there : (number : ℕ) (tray : List ℕ) → Bytes s → length rs < rows → end_of (tableBytes rows) rs + length tray ≤ length s → appended (length rs) (end_of (tableBytes rows) rs) number tray s ≡ over (fileOf rows (withLot (lotsIn rows s) number tray)) s
+  pub added_there : (number : ℕ) (tray : List ℕ) → Bytes s → length rs < rows → end_of (table_bytes rows) rs + length tray ≤ length s → appended (length rs) (end_of (table_bytes rows) rs) number tray s ≡ over (file_of rows (with_lot (lots_in rows s) number tray)) s
   unfolding appended
-  added-there number tray bytes free room =
-      let lots = lotsIn rows s in
-      let rest = drop (end_of (tableBytes rows) rs) s in
+  added_there number tray bytes free room =
+      let lots = lots_in rows s in
+      let rest = drop (end_of (table_bytes rows) rs) s in
       let whole = held rows most s sound bytes in
-      let count = lots-count rows most s sound in
-      let left : length tray ≤ length rest = omega (arith, length-drop (end_of (tableBytes rows) rs) s) in
+      let count = lots_count rows most s sound in
+      let left : length tray ≤ length rest = omega (arith, length-drop (end_of (table_bytes rows) rs) s) in
       let few : length lots < rows = omega arith in
-      (λ i. sets (sets (whole i) (tableBytes (sym count i)) (bytes_of (row_of (lots-end i) (record { number = number; body = tray })))) (lots-end i) tray)
-      ∙ added-file rows lots number tray rest few left
-      ∙ ap (over (fileOf rows (withLot lots number tray))) (sym whole)
+      (λ i. sets (sets (whole i) (table_bytes (sym count i)) (bytes_of (row_of (lots_end i) (record { number = number; body = tray })))) (lots_end i) tray)
+      ∙ added_file rows lots number tray rest few left
+      ∙ ap (over (file_of rows (with_lot lots number tray))) (sym whole)
 
   -- a lot whose place is closed
   module _ (p : ℕ) (bytes : Bytes s) (h : p < length rs) where
     abbrev fore : List Row
-    fore = rowsIn p s
+    fore = rows_in p s
 
     abbrev aft : List Row
-    aft = rowsIn (length rs - (p + 1)) (drop (tableBytes (p + 1)) s)
+    aft = rows_in (length rs - (p + 1)) (drop (table_bytes (p + 1)) s)
 
     abbrev here : Row
     here = row_at p s
 
-    cut-there : rs ≡ fore ++ here ∷ aft
-    cut-there = rows-there p h
+    cut_there : rs ≡ fore ++ here ∷ aft
+    cut_there = rows_there p h
 
-    fore-count : length fore ≡ p
-    fore-count = rows-length p s (omega (arith, sound.table, used-rows rows s sound.table))
+    fore_count : length fore ≡ p
+    fore_count = rows_length p s (omega (arith, sound.table, used_rows_lem rows s sound.table))
 
     abbrev xs : List Stored
-    xs = map (lotAt s) fore
+    xs = map (lot_at s) fore
 
     abbrev ys : List Stored
-    ys = map (lotAt s) aft
+    ys = map (lot_at s) aft
 
-    map-append : (ps qs : List Row) → map (lotAt s) (ps ++ qs) ≡ map (lotAt s) ps ++ map (lotAt s) qs
-    map-append [] qs = refl
-    map-append (r ∷ ps) qs = ap (λ (l : List Stored). lotAt s r ∷ l) (map-append ps qs)
+    map_append : (ps qs : List Row) → map (lot_at s) (ps ++ qs) ≡ map (lot_at s) ps ++ map (lot_at s) qs
+    map_append [] qs = refl
+    map_append (r ∷ ps) qs = ap (λ (l : List Stored). lot_at s r ∷ l) (map_append ps qs)
 
-    lots-there : lotsIn rows s ≡ xs ++ lotAt s here ∷ ys
-    unfolding lotsIn
-    lots-there = ap (map (lotAt s)) cut-there ∙ map-append fore (here ∷ aft)
+    lots_there : lots_in rows s ≡ xs ++ lot_at s here ∷ ys
+    unfolding lots_in
+    lots_there = ap (map (lot_at s)) cut_there ∙ map_append fore (here ∷ aft)
 
-    xs-count : length xs ≡ p
-    xs-count = length-map fore (lotAt s) ∙ fore-count
+    xs_count : length xs ≡ p
+    xs_count = length-map fore (lot_at s) ∙ fore_count
 
-    others : take p (lotsIn rows s) ++ drop (suc p) (lotsIn rows s) ≡ xs ++ ys
+    others : take p (lots_in rows s) ++ drop (suc p) (lots_in rows s) ≡ xs ++ ys
     others =
-        let first : length (xs ++ lotAt s here ∷ []) ≡ suc p = length-append xs (lotAt s here ∷ []) ∙ omega (arith, xs-count) in
-        (λ i. take p (lots-there i) ++ drop (suc p) ((lots-there ∙ sym (append_assoc xs (lotAt s here ∷ []) ys)) i))
-        ∙ (λ i. take_at xs (lotAt s here ∷ ys) p xs-count i ++ drop_at (xs ++ lotAt s here ∷ []) ys (suc p) first i)
+        let first : length (xs ++ lot_at s here ∷ []) ≡ suc p = length-append xs (lot_at s here ∷ []) ∙ omega (arith, xs_count) in
+        (λ i. take p (lots_there i) ++ drop (suc p) ((lots_there ∙ sym (append_assoc xs (lot_at s here ∷ []) ys)) i))
+        ∙ (λ i. take_at xs (lot_at s here ∷ ys) p xs_count i ++ drop_at (xs ++ lot_at s here ∷ []) ys (suc p) first i)
 
     abbrev start : ℕ
-    start = startAfter rows xs
+    start = start_after rows xs
 
-    made : here ∷ aft ≡ row_of start (lotAt s here) ∷ rows_of (start + length (lotAt s here).body) ys
+    made : here ∷ aft ≡ row_of start (lot_at s here) ∷ rows_of (start + length (lot_at s here).body) ys
     unfolding rows_of
     made =
-        sym (drop_at fore (here ∷ aft) p fore-count)
-        ∙ ap (drop p) (sym cut-there ∙ sym (held_rows rows most s sound) ∙ ap (rows_of (tableBytes rows)) lots-there ∙ rows_append (tableBytes rows) xs (lotAt s here ∷ ys))
-        ∙ drop_at (rows_of (tableBytes rows) xs) (rows_of start (lotAt s here ∷ ys)) p (rows-count (tableBytes rows) xs ∙ xs-count)
+        sym (drop_at fore (here ∷ aft) p fore_count)
+        ∙ ap (drop p) (sym cut_there ∙ sym (held_rows rows most s sound) ∙ ap (rows_of (table_bytes rows)) lots_there ∙ rows_append (table_bytes rows) xs (lot_at s here ∷ ys))
+        ∙ drop_at (rows_of (table_bytes rows) xs) (rows_of start (lot_at s here ∷ ys)) p (rows_count (table_bytes rows) xs ∙ xs_count)
 
     -- its own row, and those behind it
-    mine : here ≡ row_of start (lotAt s here)
+    mine : here ≡ row_of start (lot_at s here)
     mine = ap (λ (l : List Row). get_or l 0 no_row) made
 
-    theirs : aft ≡ rows_of (start + length (lotAt s here).body) ys
+    theirs : aft ≡ rows_of (start + length (lot_at s here).body) ys
     theirs = ap (drop 1) made
 
     -- the bodies behind its own
-    moved-bodies : part (here.start + bodyBytes here) (end_of (tableBytes rows) rs - (here.start + bodyBytes here)) s ≡ bodiesOf ys
-    unfolding inOrder end_of
-    moved-bodies =
-        let ordered = (both (inOrder (tableBytes rows) fore) (inOrder (end_of (tableBytes rows) fore) (here ∷ aft)) (sym (order-append (tableBytes rows) fore (here ∷ aft)) ∙ ap (inOrder (tableBytes rows)) (sym cut-there) ∙ sound.ordered)).1 in
-        let split = both (eqb here.start (end_of (tableBytes rows) fore)) (inOrder (end_of (tableBytes rows) fore + bodyBytes here) aft) ordered in
-        let begins = eqb-true here.start (end_of (tableBytes rows) fore) split.0 in
-        let follow = ap (λ (n : ℕ). inOrder (n + bodyBytes here) aft) begins ∙ split.1 in
-        let ends = ap (end_of (tableBytes rows)) cut-there ∙ end-append (tableBytes rows) fore (here ∷ aft) ∙ ap (λ (n : ℕ). end_of (n + bodyBytes here) aft) (sym begins) in
-        ap (λ (n : ℕ). part (here.start + bodyBytes here) (n - (here.start + bodyBytes here)) s) ends
-        ∙ sym (read-bodies s (here.start + bodyBytes here) aft follow (omega (arith, sound.room, ends)))
+    moved_bodies : part (here.start + body_bytes here) (end_of (table_bytes rows) rs - (here.start + body_bytes here)) s ≡ bodies_of ys
+    unfolding in_order end_of
+    moved_bodies =
+        let ordered = (both (in_order (table_bytes rows) fore) (in_order (end_of (table_bytes rows) fore) (here ∷ aft)) (sym (order_append (table_bytes rows) fore (here ∷ aft)) ∙ ap (in_order (table_bytes rows)) (sym cut_there) ∙ sound.ordered)).1 in
+        let split = both (eqb here.start (end_of (table_bytes rows) fore)) (in_order (end_of (table_bytes rows) fore + body_bytes here) aft) ordered in
+        let begins = eqb-true here.start (end_of (table_bytes rows) fore) split.0 in
+        let follow = ap (λ (n : ℕ). in_order (n + body_bytes here) aft) begins ∙ split.1 in
+        let ends = ap (end_of (table_bytes rows)) cut_there ∙ end_append (table_bytes rows) fore (here ∷ aft) ∙ ap (λ (n : ℕ). end_of (n + body_bytes here) aft) (sym begins) in
+        ap (λ (n : ℕ). part (here.start + body_bytes here) (n - (here.start + body_bytes here)) s) ends
+        ∙ sym (read_bodies s (here.start + body_bytes here) aft follow (omega (arith, sound.room, ends)))
 
-    pub closed-there : closed p (length rs) (end_of (tableBytes rows) rs) s ≡ over (fileOf rows (take p (lotsIn rows s) ++ drop (suc p) (lotsIn rows s))) s
-    unfolding closed tableClosed
-    closed-there =
-        let x = lotAt s here in
-        let rest = drop (end_of (tableBytes rows) rs) s in
-        let whole = held rows most s sound bytes ∙ ap (λ (l : List Stored). fileOf rows l ++ rest) lots-there in
-        let all-good = sym (every_append (lotGood most) xs (x ∷ ys)) ∙ ap (every (lotGood most)) (sym lots-there) ∙ held-good rows most s sound in
-        let good = (every-cons (lotGood most) x ys (both (every (lotGood most) xs) (every (lotGood most) (x ∷ ys)) all-good).1).1 in
+    pub closed_there : closed p (length rs) (end_of (table_bytes rows) rs) s ≡ over (file_of rows (take p (lots_in rows s) ++ drop (suc p) (lots_in rows s))) s
+    unfolding closed table_closed
+    closed_there =
+        let x = lot_at s here in
+        let rest = drop (end_of (table_bytes rows) rs) s in
+        let whole = held rows most s sound bytes ∙ ap (λ (l : List Stored). file_of rows l ++ rest) lots_there in
+        let all_good_lem = sym (every_append (lot_good most) xs (x ∷ ys)) ∙ ap (every (lot_good most)) (sym lots_there) ∙ held_good rows most s sound in
+        let good = (every_cons (lot_good most) x ys (both (every (lot_good most) xs) (every (lot_good most) (x ∷ ys)) all_good_lem).1).1 in
         let begins = ap (λ (r : Row). r.start) mine in
-        let few : length (xs ++ x ∷ ys) ≤ rows = omega (arith, ap length lots-there, lots-count rows most s sound, used-rows rows s sound.table) in
-        let moved = (λ i. restarted (begins i) (theirs i)) ∙ restarted-rows most start (start + length x.body) ys good in
-        (λ i. sets (sets (whole i) (tableBytes (sym xs-count i)) (flat_map bytes_of (moved i) ++ replicate rowBytes 0)) (begins i) (moved-bodies i))
-        ∙ taken-file rows xs x ys rest few
-        ∙ (λ i. over (fileOf rows (sym others i)) (sym whole i))
+        let few : length (xs ++ x ∷ ys) ≤ rows = omega (arith, ap length lots_there, lots_count rows most s sound, used_rows_lem rows s sound.table) in
+        let moved = (λ i. restarted (begins i) (theirs i)) ∙ restarted_rows most start (start + length x.body) ys good in
+        (λ i. sets (sets (whole i) (table_bytes (sym xs_count i)) (flat_map bytes_of (moved i) ++ replicate row_bytes 0)) (begins i) (moved_bodies i))
+        ∙ taken_file rows xs x ys rest few
+        ∙ (λ i. over (file_of rows (sym others i)) (sym whole i))

@@ -8,169 +8,169 @@ use native.Mathlib.Omega.{arith}
 use lib.Dec.{eqb}
 use lib.ListN.{length, length-append}
 use borrow.Author.Tests.{eq-eqb, ne_eqb, eqb-true, not-true}
-use Rattle.packed.specs.Every.{every, member, noneTwice}
+use Rattle.packed.specs.Every.{every, member, none_twice}
 use Rattle.packed.proofs.Laws.Told.{both}
-use Rattle.packed.proofs.Laws.Every.{every-cons}
-use Rattle.packed.proofs.Laws.Member.{neither, member-append}
+use Rattle.packed.proofs.Laws.Every.{every_cons}
+use Rattle.packed.proofs.Laws.Member.{neither, member_append}
 use Rattle.codes.specs.Numbered.{numbered}
-use Rattle.document.specs.Limits.{documentBytes}
-use Rattle.lot_file.specs.Layout.{Stored, bodiesOf}
-use Rattle.lot_file.specs.Good.{orderNumber}
-use Rattle.lot_file.specs.Reading.{bodyIn}
-use Rattle.lot_file.specs.Adding.{withLot, trayGood, lotGood}
+use Rattle.document.specs.Limits.{document_bytes}
+use Rattle.lot_file.specs.Layout.{Stored, bodies_of}
+use Rattle.lot_file.specs.Good.{order_number}
+use Rattle.lot_file.specs.Reading.{body_in}
+use Rattle.lot_file.specs.Adding.{with_lot, tray_good, lot_good}
 use Rattle.lot_file.specs.TakingOut.{without}
-use Rattle.lot_file.proofs.Laws.Lots.{lotNumbers, told}
+use Rattle.lot_file.proofs.Laws.Lots.{lot_numbers, told}
 
 -- a number that no lot has
-pub body-absent : (lots : List Stored) (n : ℕ) → member n (lotNumbers lots) ≡ false → bodyIn lots n ≡ []
-unfolding bodyIn numbered member
-body-absent [] n e = refl
-body-absent (lot ∷ lots) n e = go (eqb n lot.number) e (body-absent lots n)
+pub body_absent : (lots : List Stored) (n : ℕ) → member n (lot_numbers lots) ≡ false → body_in lots n ≡ []
+unfolding body_in numbered member
+body_absent [] n e = refl
+body_absent (lot ∷ lots) n e = go (eqb n lot.number) e (body_absent lots n)
   where
-    go : (t : Bool) → t || member n (lotNumbers lots) ≡ false → (member n (lotNumbers lots) ≡ false → bodyIn lots n ≡ []) → cond t lot.body (bodyIn lots n) ≡ []
+    go : (t : Bool) → t || member n (lot_numbers lots) ≡ false → (member n (lot_numbers lots) ≡ false → body_in lots n ≡ []) → cond t lot.body (body_in lots n) ≡ []
     go true f later = absurd (false≢true (sym f))
     go false f later = later f
 
 -- a lot more
-body-last : (lots : List Stored) (x : Stored) (n : ℕ) → bodyIn (lots ++ x ∷ []) n ≡ cond (member n (lotNumbers lots)) (bodyIn lots n) (cond (eqb n x.number) x.body [])
-unfolding bodyIn numbered member
-body-last [] x n = refl
-body-last (lot ∷ lots) x n = go (eqb n lot.number) (body-last lots x n)
+body_last : (lots : List Stored) (x : Stored) (n : ℕ) → body_in (lots ++ x ∷ []) n ≡ cond (member n (lot_numbers lots)) (body_in lots n) (cond (eqb n x.number) x.body [])
+unfolding body_in numbered member
+body_last [] x n = refl
+body_last (lot ∷ lots) x n = go (eqb n lot.number) (body_last lots x n)
   where
-    go : (t : Bool) → bodyIn (lots ++ x ∷ []) n ≡ cond (member n (lotNumbers lots)) (bodyIn lots n) (cond (eqb n x.number) x.body []) → cond t lot.body (bodyIn (lots ++ x ∷ []) n) ≡ cond (t || member n (lotNumbers lots)) (cond t lot.body (bodyIn lots n)) (cond (eqb n x.number) x.body [])
+    go : (t : Bool) → body_in (lots ++ x ∷ []) n ≡ cond (member n (lot_numbers lots)) (body_in lots n) (cond (eqb n x.number) x.body []) → cond t lot.body (body_in (lots ++ x ∷ []) n) ≡ cond (t || member n (lot_numbers lots)) (cond t lot.body (body_in lots n)) (cond (eqb n x.number) x.body [])
     go true e = refl
     go false e = e
 
-pub numbers-last : (lots : List Stored) (x : Stored) → lotNumbers (lots ++ x ∷ []) ≡ lotNumbers lots ++ x.number ∷ []
-numbers-last [] x = refl
-numbers-last (lot ∷ lots) x = ap (λ (l : List ℕ). lot.number ∷ l) (numbers-last lots x)
+pub numbers_last : (lots : List Stored) (x : Stored) → lot_numbers (lots ++ x ∷ []) ≡ lot_numbers lots ++ x.number ∷ []
+numbers_last [] x = refl
+numbers_last (lot ∷ lots) x = ap (λ (l : List ℕ). lot.number ∷ l) (numbers_last lots x)
 
-or-false : (t : Bool) → t || (false || false) ≡ t
-or-false true = refl
-or-false false = refl
+or_false : (t : Bool) → t || (false || false) ≡ t
+or_false true = refl
+or_false false = refl
 
 module _ (lots : List Stored) (number : ℕ) (tray : List ℕ) where
-  pub new-body : member number (lotNumbers lots) ≡ false → bodyIn (withLot lots number tray) number ≡ tray
-  new-body e = body-last lots (record { number = number; body = tray }) number ∙ rw (e, eq-eqb number number refl)
+  pub new_body : member number (lot_numbers lots) ≡ false → body_in (with_lot lots number tray) number ≡ tray
+  new_body e = body_last lots (record { number = number; body = tray }) number ∙ rw (e, eq-eqb number number refl)
 
-  pub old-body : (n : ℕ) → (n ≡ number → ⊥) → bodyIn (withLot lots number tray) n ≡ bodyIn lots n
-  old-body n other = body-last lots (record { number = number; body = tray }) n ∙ ap (λ (t : Bool). cond (member n (lotNumbers lots)) (bodyIn lots n) (cond t tray [])) (ne_eqb n number other) ∙ go (member n (lotNumbers lots)) refl
+  pub old_body : (n : ℕ) → (n ≡ number → ⊥) → body_in (with_lot lots number tray) n ≡ body_in lots n
+  old_body n other = body_last lots (record { number = number; body = tray }) n ∙ ap (λ (t : Bool). cond (member n (lot_numbers lots)) (body_in lots n) (cond t tray [])) (ne_eqb n number other) ∙ go (member n (lot_numbers lots)) refl
     where
-      go : (t : Bool) → member n (lotNumbers lots) ≡ t → cond t (bodyIn lots n) [] ≡ bodyIn lots n
+      go : (t : Bool) → member n (lot_numbers lots) ≡ t → cond t (body_in lots n) [] ≡ body_in lots n
       go true e = refl
-      go false e = sym (body-absent lots n e)
+      go false e = sym (body_absent lots n e)
 
-  pub new-there : (n : ℕ) → member n (lotNumbers (withLot lots number tray)) ≡ member n (lotNumbers lots) || (eqb n number || false)
+  pub new_there : (n : ℕ) → member n (lot_numbers (with_lot lots number tray)) ≡ member n (lot_numbers lots) || (eqb n number || false)
   unfolding member
-  new-there n = ap (member n) (numbers-last lots (record { number = number; body = tray })) ∙ member-append n (lotNumbers lots) (number ∷ [])
+  new_there n = ap (member n) (numbers_last lots (record { number = number; body = tray })) ∙ member_append n (lot_numbers lots) (number ∷ [])
 
-  pub old-there : (n : ℕ) → (n ≡ number → ⊥) → member n (lotNumbers (withLot lots number tray)) ≡ member n (lotNumbers lots)
-  old-there n other = new-there n ∙ ap (λ (t : Bool). member n (lotNumbers lots) || (t || false)) (ne_eqb n number other) ∙ or-false (member n (lotNumbers lots))
+  pub old_there : (n : ℕ) → (n ≡ number → ⊥) → member n (lot_numbers (with_lot lots number tray)) ≡ member n (lot_numbers lots)
+  old_there n other = new_there n ∙ ap (λ (t : Bool). member n (lot_numbers lots) || (t || false)) (ne_eqb n number other) ∙ or_false (member n (lot_numbers lots))
 
 -- a lot less
-pub rest-body : (number : ℕ) (lots : List Stored) (n : ℕ) → (n ≡ number → ⊥) → bodyIn (without number lots) n ≡ bodyIn lots n
-unfolding bodyIn numbered without
-rest-body number [] n other = refl
-rest-body number (lot ∷ lots) n other = go (eqb number lot.number) refl (rest-body number lots n other)
+pub rest_body : (number : ℕ) (lots : List Stored) (n : ℕ) → (n ≡ number → ⊥) → body_in (without number lots) n ≡ body_in lots n
+unfolding body_in numbered without
+rest_body number [] n other = refl
+rest_body number (lot ∷ lots) n other = go (eqb number lot.number) refl (rest_body number lots n other)
   where
-    go : (t : Bool) → eqb number lot.number ≡ t → bodyIn (without number lots) n ≡ bodyIn lots n → bodyIn (cond t lots (lot ∷ without number lots)) n ≡ cond (eqb n lot.number) lot.body (bodyIn lots n)
+    go : (t : Bool) → eqb number lot.number ≡ t → body_in (without number lots) n ≡ body_in lots n → body_in (cond t lots (lot ∷ without number lots)) n ≡ cond (eqb n lot.number) lot.body (body_in lots n)
     go true e later = let apart : n ≡ lot.number → ⊥ = λ (h : n ≡ lot.number). other (h ∙ sym (eqb-true number lot.number e)) in rw (ne_eqb n lot.number apart)
     go false e later = ap (λ (l : List ℕ). cond (eqb n lot.number) lot.body l) later
 
-pub rest-there : (number : ℕ) (lots : List Stored) (n : ℕ) → (n ≡ number → ⊥) → member n (lotNumbers (without number lots)) ≡ member n (lotNumbers lots)
+pub rest_there : (number : ℕ) (lots : List Stored) (n : ℕ) → (n ≡ number → ⊥) → member n (lot_numbers (without number lots)) ≡ member n (lot_numbers lots)
 unfolding member without
-rest-there number [] n other = refl
-rest-there number (lot ∷ lots) n other = go (eqb number lot.number) refl (rest-there number lots n other)
+rest_there number [] n other = refl
+rest_there number (lot ∷ lots) n other = go (eqb number lot.number) refl (rest_there number lots n other)
   where
-    go : (t : Bool) → eqb number lot.number ≡ t → member n (lotNumbers (without number lots)) ≡ member n (lotNumbers lots) → member n (lotNumbers (cond t lots (lot ∷ without number lots))) ≡ eqb n lot.number || member n (lotNumbers lots)
+    go : (t : Bool) → eqb number lot.number ≡ t → member n (lot_numbers (without number lots)) ≡ member n (lot_numbers lots) → member n (lot_numbers (cond t lots (lot ∷ without number lots))) ≡ eqb n lot.number || member n (lot_numbers lots)
     go true e later = let apart : n ≡ lot.number → ⊥ = λ (h : n ≡ lot.number). other (h ∙ sym (eqb-true number lot.number e)) in rw (ne_eqb n lot.number apart)
     go false e later = ap (λ (t : Bool). eqb n lot.number || t) later
 
 module _ (number : ℕ) where
-  pub rest-few : (lots : List Stored) → length (without number lots) ≤ length lots
+  pub rest_few : (lots : List Stored) → length (without number lots) ≤ length lots
   unfolding without
-  rest-few [] = omega arith
-  rest-few (lot ∷ lots) = go (eqb number lot.number) (rest-few lots)
+  rest_few [] = omega arith
+  rest_few (lot ∷ lots) = go (eqb number lot.number) (rest_few lots)
     where
       go : (t : Bool) → length (without number lots) ≤ length lots → length (cond t lots (lot ∷ without number lots)) ≤ suc (length lots)
       go true h = omega arith
       go false h = omega arith
 
-  pub rest-fewer : (lots : List Stored) → member number (lotNumbers lots) ≡ true → length (without number lots) < length lots
+  pub rest_fewer : (lots : List Stored) → member number (lot_numbers lots) ≡ true → length (without number lots) < length lots
   unfolding without member
-  rest-fewer [] e = absurd (false≢true e)
-  rest-fewer (lot ∷ lots) e = go (eqb number lot.number) e (rest-fewer lots)
+  rest_fewer [] e = absurd (false≢true e)
+  rest_fewer (lot ∷ lots) e = go (eqb number lot.number) e (rest_fewer lots)
     where
-      go : (t : Bool) → t || member number (lotNumbers lots) ≡ true → (member number (lotNumbers lots) ≡ true → length (without number lots) < length lots) → length (cond t lots (lot ∷ without number lots)) < suc (length lots)
+      go : (t : Bool) → t || member number (lot_numbers lots) ≡ true → (member number (lot_numbers lots) ≡ true → length (without number lots) < length lots) → length (cond t lots (lot ∷ without number lots)) < suc (length lots)
       go true f later = omega arith
       go false f later = omega (arith, later f)
 
-  pub rest-each : (p : Stored → Bool) (lots : List Stored) → every p lots ≡ true → every p (without number lots) ≡ true
+  pub rest_each : (p : Stored → Bool) (lots : List Stored) → every p lots ≡ true → every p (without number lots) ≡ true
   unfolding without every
-  rest-each p [] e = refl
-  rest-each p (lot ∷ lots) e = let first = every-cons p lot lots e in go (eqb number lot.number) first.0 first.1 (rest-each p lots first.1)
+  rest_each p [] e = refl
+  rest_each p (lot ∷ lots) e = let first = every_cons p lot lots e in go (eqb number lot.number) first.0 first.1 (rest_each p lots first.1)
     where
       go : (t : Bool) → p lot ≡ true → every p lots ≡ true → every p (without number lots) ≡ true → every p (cond t lots (lot ∷ without number lots)) ≡ true
       go true here all later = all
       go false here all later = λ i. here i && later i
 
   -- a number that was not there is not there
-  rest-absent : (n : ℕ) (lots : List Stored) → member n (lotNumbers lots) ≡ false → member n (lotNumbers (without number lots)) ≡ false
+  rest_absent : (n : ℕ) (lots : List Stored) → member n (lot_numbers lots) ≡ false → member n (lot_numbers (without number lots)) ≡ false
   unfolding without member
-  rest-absent n [] e = refl
-  rest-absent n (lot ∷ lots) e = let each = neither (eqb n lot.number) (member n (lotNumbers lots)) e in go (eqb number lot.number) each.0 each.1 (rest-absent n lots each.1)
+  rest_absent n [] e = refl
+  rest_absent n (lot ∷ lots) e = let each = neither (eqb n lot.number) (member n (lot_numbers lots)) e in go (eqb number lot.number) each.0 each.1 (rest_absent n lots each.1)
     where
-      go : (t : Bool) → eqb n lot.number ≡ false → member n (lotNumbers lots) ≡ false → member n (lotNumbers (without number lots)) ≡ false → member n (lotNumbers (cond t lots (lot ∷ without number lots))) ≡ false
+      go : (t : Bool) → eqb n lot.number ≡ false → member n (lot_numbers lots) ≡ false → member n (lot_numbers (without number lots)) ≡ false → member n (lot_numbers (cond t lots (lot ∷ without number lots))) ≡ false
       go true here all later = all
       go false here all later = λ i. here i || later i
 
-  pub rest-alike : (lots : List Stored) → noneTwice (lotNumbers lots) ≡ true → (noneTwice (lotNumbers (without number lots)) ≡ true) × (member number (lotNumbers (without number lots)) ≡ false)
-  unfolding without noneTwice member
-  rest-alike [] e = (refl, refl)
-  rest-alike (lot ∷ lots) e =
-      let each = both (not (member lot.number (lotNumbers lots))) (noneTwice (lotNumbers lots)) e in
-      go (eqb number lot.number) refl (not-true (member lot.number (lotNumbers lots)) each.0) each.1 (rest-alike lots each.1) (rest-absent lot.number lots)
+  pub rest_alike : (lots : List Stored) → none_twice (lot_numbers lots) ≡ true → (none_twice (lot_numbers (without number lots)) ≡ true) × (member number (lot_numbers (without number lots)) ≡ false)
+  unfolding without none_twice member
+  rest_alike [] e = (refl, refl)
+  rest_alike (lot ∷ lots) e =
+      let each = both (not (member lot.number (lot_numbers lots))) (none_twice (lot_numbers lots)) e in
+      go (eqb number lot.number) refl (not-true (member lot.number (lot_numbers lots)) each.0) each.1 (rest_alike lots each.1) (rest_absent lot.number lots)
     where
-      go : (t : Bool) → eqb number lot.number ≡ t → member lot.number (lotNumbers lots) ≡ false → noneTwice (lotNumbers lots) ≡ true → (noneTwice (lotNumbers (without number lots)) ≡ true) × (member number (lotNumbers (without number lots)) ≡ false) → (member lot.number (lotNumbers lots) ≡ false → member lot.number (lotNumbers (without number lots)) ≡ false) → (noneTwice (lotNumbers (cond t lots (lot ∷ without number lots))) ≡ true) × (member number (lotNumbers (cond t lots (lot ∷ without number lots))) ≡ false)
-      go true f once all later absent = (all, ap (λ (n : ℕ). member n (lotNumbers lots)) (eqb-true number lot.number f) ∙ once)
+      go : (t : Bool) → eqb number lot.number ≡ t → member lot.number (lot_numbers lots) ≡ false → none_twice (lot_numbers lots) ≡ true → (none_twice (lot_numbers (without number lots)) ≡ true) × (member number (lot_numbers (without number lots)) ≡ false) → (member lot.number (lot_numbers lots) ≡ false → member lot.number (lot_numbers (without number lots)) ≡ false) → (none_twice (lot_numbers (cond t lots (lot ∷ without number lots))) ≡ true) × (member number (lot_numbers (cond t lots (lot ∷ without number lots))) ≡ false)
+      go true f once all later absent = (all, ap (λ (n : ℕ). member n (lot_numbers lots)) (eqb-true number lot.number f) ∙ once)
       go false f once all later absent = ((λ i. not (absent once i) && later.0 i), (λ i. f i || later.1 i))
 
   -- the last lot, taken out again
-  pub rest-last : (lots : List Stored) (tray : List ℕ) → member number (lotNumbers lots) ≡ false → without number (withLot lots number tray) ≡ lots
+  pub rest_last : (lots : List Stored) (tray : List ℕ) → member number (lot_numbers lots) ≡ false → without number (with_lot lots number tray) ≡ lots
   unfolding without member
-  rest-last [] tray e = rw (eq-eqb number number refl)
-  rest-last (lot ∷ lots) tray e =
-      let each = neither (eqb number lot.number) (member number (lotNumbers lots)) e in
+  rest_last [] tray e = rw (eq-eqb number number refl)
+  rest_last (lot ∷ lots) tray e =
+      let each = neither (eqb number lot.number) (member number (lot_numbers lots)) e in
       ap (λ (t : Bool). cond t (lots ++ record { number = number; body = tray } ∷ []) (lot ∷ without number (lots ++ record { number = number; body = tray } ∷ []))) each.0
-      ∙ ap (λ (l : List Stored). lot ∷ l) (rest-last lots tray each.1)
+      ∙ ap (λ (l : List Stored). lot ∷ l) (rest_last lots tray each.1)
 
 -- so many lots of so many documents at most
-pub bodies-few : (most : ℕ) (lots : List Stored) → every (lotGood most) lots ≡ true → length (bodiesOf lots) ≤ length lots * (most * documentBytes)
-unfolding bodiesOf flat_map
-bodies-few most [] e = omega arith
-bodies-few most (lot ∷ lots) e =
-    let first = every-cons (lotGood most) lot lots e in
+pub bodies_few : (most : ℕ) (lots : List Stored) → every (lot_good most) lots ≡ true → length (bodies_of lots) ≤ length lots * (most * document_bytes)
+unfolding bodies_of flat_map
+bodies_few most [] e = omega arith
+bodies_few most (lot ∷ lots) e =
+    let first = every_cons (lot_good most) lot lots e in
     let t = told most lot first.0 in
-    omega (arith, length-append lot.body (bodiesOf lots), suc-mul (length lots) (most * documentBytes), bodies-few most lots first.1, t.whole, t.few)
+    omega (arith, length-append lot.body (bodies_of lots), suc-mul (length lots) (most * document_bytes), bodies_few most lots first.1, t.whole, t.few)
 
 -- the bytes of a lot and of the others are those of all
-pub bodies-rest : (number : ℕ) (lots : List Stored) → length (bodiesOf lots) ≡ length (bodiesOf (without number lots)) + length (bodyIn lots number)
-unfolding bodiesOf flat_map without bodyIn numbered
-bodies-rest number [] = refl
-bodies-rest number (lot ∷ lots) = length-append lot.body (bodiesOf lots) ∙ go (eqb number lot.number) (bodies-rest number lots)
+pub bodies_rest : (number : ℕ) (lots : List Stored) → length (bodies_of lots) ≡ length (bodies_of (without number lots)) + length (body_in lots number)
+unfolding bodies_of flat_map without body_in numbered
+bodies_rest number [] = refl
+bodies_rest number (lot ∷ lots) = length-append lot.body (bodies_of lots) ∙ go (eqb number lot.number) (bodies_rest number lots)
   where
-    go : (t : Bool) → length (bodiesOf lots) ≡ length (bodiesOf (without number lots)) + length (bodyIn lots number) → length lot.body + length (bodiesOf lots) ≡ length (bodiesOf (cond t lots (lot ∷ without number lots))) + length (cond t lot.body (bodyIn lots number))
+    go : (t : Bool) → length (bodies_of lots) ≡ length (bodies_of (without number lots)) + length (body_in lots number) → length lot.body + length (bodies_of lots) ≡ length (bodies_of (cond t lots (lot ∷ without number lots))) + length (cond t lot.body (body_in lots number))
     go true e = omega arith
-    go false e = omega (arith, length-append lot.body (bodiesOf (without number lots)))
+    go false e = omega (arith, length-append lot.body (bodies_of (without number lots)))
 
 -- the body of a lot that is there, among good ones
-pub body-good : (most number : ℕ) (lots : List Stored) → every (lotGood most) lots ≡ true → member number (lotNumbers lots) ≡ true → trayGood most (bodyIn lots number) ≡ true
-unfolding every member bodyIn numbered
-body-good most number [] e h = absurd (false≢true h)
-body-good most number (lot ∷ lots) e h =
-    let first = every-cons (lotGood most) lot lots e in
-    go (eqb number lot.number) h (both (orderNumber lot.number) (trayGood most lot.body) first.0).1 (body-good most number lots first.1)
+pub body_good : (most number : ℕ) (lots : List Stored) → every (lot_good most) lots ≡ true → member number (lot_numbers lots) ≡ true → tray_good most (body_in lots number) ≡ true
+unfolding every member body_in numbered
+body_good most number [] e h = absurd (false≢true h)
+body_good most number (lot ∷ lots) e h =
+    let first = every_cons (lot_good most) lot lots e in
+    go (eqb number lot.number) h (both (order_number lot.number) (tray_good most lot.body) first.0).1 (body_good most number lots first.1)
   where
-    go : (t : Bool) → t || member number (lotNumbers lots) ≡ true → trayGood most lot.body ≡ true → (member number (lotNumbers lots) ≡ true → trayGood most (bodyIn lots number) ≡ true) → trayGood most (cond t lot.body (bodyIn lots number)) ≡ true
+    go : (t : Bool) → t || member number (lot_numbers lots) ≡ true → tray_good most lot.body ≡ true → (member number (lot_numbers lots) ≡ true → tray_good most (body_in lots number) ≡ true) → tray_good most (cond t lot.body (body_in lots number)) ≡ true
     go true f here later = here
     go false f here later = later f

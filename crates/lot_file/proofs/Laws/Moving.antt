@@ -9,93 +9,93 @@ use lib.ListN.{length, get_or, set, take, drop, replicate, length-append, length
 use lib.Seq.{sets, get_or-set_other, drop-cons, drop-set-lt}
 use Rattle.packed.specs.Part.{part}
 use Rattle.packed.specs.Pieces.{cut}
-use Rattle.packed.proofs.Laws.Part.{part_length, part-split}
-use Rattle.packed.proofs.Laws.Writing.{sets-append}
+use Rattle.packed.proofs.Laws.Part.{part_length, part_split}
+use Rattle.packed.proofs.Laws.Writing.{sets_append}
 use Rattle.lot_file.specs.declared.row.Row.{Row}
-use Rattle.lot_file.specs.Layout.{binaryBytes, bytes_of, rowBytes, tableBytes}
-use Rattle.lot_file.specs.Good.{rowsIn, bodyBytes}
+use Rattle.lot_file.specs.Layout.{binary_bytes, bytes_of, row_bytes, table_bytes}
+use Rattle.lot_file.specs.Good.{rows_in, body_bytes}
 use Rattle.lot_file.specs.Reading.{no_row}
-use Rattle.lot_file.specs.Inner.Moving.{row_at, restarted, tableClosed, Closable, closed}
-use Rattle.lot_file.proofs.Laws.Rows.{row-length, bytes_count, rows_next, rows-length}
+use Rattle.lot_file.specs.Inner.Moving.{row_at, restarted, table_closed, Closable, closed}
+use Rattle.lot_file.proofs.Laws.Rows.{row_length, bytes_count, rows_next, rows_length}
 
 -- no byte behind what was written has changed
-get-behind : (vs d : List ℕ) (at k : ℕ) → at + length vs ≤ k → get_or (sets d at vs) k 0 ≡ get_or d k 0
-get-behind [] d at k h = refl
-get-behind (v ∷ vs) d at k h = get-behind vs (set d at v) (suc at) k (omega arith) ∙ get_or-set_other d at k v 0 (omega arith)
+get_behind : (vs d : List ℕ) (at k : ℕ) → at + length vs ≤ k → get_or (sets d at vs) k 0 ≡ get_or d k 0
+get_behind [] d at k h = refl
+get_behind (v ∷ vs) d at k h = get_behind vs (set d at v) (suc at) k (omega arith) ∙ get_or-set_other d at k v 0 (omega arith)
 
-part-last : (at n : ℕ) (s : List ℕ) → at + n < length s → part at (n + 1) s ≡ part at n s ++ get_or s (at + n) 0 ∷ []
-part-last at n s h = part-split at n 1 s ∙ ap (λ (l : List ℕ). part at n s ++ take 1 l) (drop-cons s (at + n) 0 h)
+part_last : (at n : ℕ) (s : List ℕ) → at + n < length s → part at (n + 1) s ≡ part at n s ++ get_or s (at + n) 0 ∷ []
+part_last at n s h = part_split at n 1 s ∙ ap (λ (l : List ℕ). part at n s ++ take 1 l) (drop-cons s (at + n) 0 h)
 
 pub down_step : (d e : List ℕ) (to from i : ℕ) → to ≤ from → from + i < length d → e ≡ sets d to (part from i d) → set e (to + i) (get_or e (from + i) 0) ≡ sets d to (part from (i + 1) d)
 down_step d e to from i h l w =
     let run = part from i d in
     let size : length run ≡ i = part_length from i d (omega arith) in
-    let same = ap (λ (x : List ℕ). get_or x (from + i) 0) w ∙ get-behind run d to (from + i) (omega arith) in
+    let same = ap (λ (x : List ℕ). get_or x (from + i) 0) w ∙ get_behind run d to (from + i) (omega arith) in
     (λ k. set (w k) (to + i) (same k))
     ∙ ap (λ (n : ℕ). set (sets d to run) (to + n) (get_or d (from + i) 0)) (sym size)
-    ∙ sets-append run (get_or d (from + i) 0 ∷ []) d to
-    ∙ ap (sets d to) (sym (part-last from i d l))
+    ∙ sets_append run (get_or d (from + i) 0 ∷ []) d to
+    ∙ ap (sets d to) (sym (part_last from i d l))
 
-pub down-all : (d : List ℕ) (to from i n : ℕ) → i ≡ n → sets d to (part from i d) ≡ sets d to (part from n d)
-down-all d to from i n e = ap (λ (k : ℕ). sets d to (part from k d)) e
+pub down_all : (d : List ℕ) (to from i n : ℕ) → i ≡ n → sets d to (part from i d) ≡ sets d to (part from n d)
+down_all d to from i n e = ap (λ (k : ℕ). sets d to (part from k d)) e
 
 -- all bytes behind what was written are as they were
-pub drop-behind : (vs d : List ℕ) (at k : ℕ) → at + length vs ≤ k → drop k (sets d at vs) ≡ drop k d
-drop-behind [] d at k h = refl
-drop-behind (v ∷ vs) d at k h = drop-behind vs (set d at v) (suc at) k (omega arith) ∙ drop-set-lt k d at v (omega arith)
+pub drop_behind : (vs d : List ℕ) (at k : ℕ) → at + length vs ≤ k → drop k (sets d at vs) ≡ drop k d
+drop_behind [] d at k h = refl
+drop_behind (v ∷ vs) d at k h = drop_behind vs (set d at v) (suc at) k (omega arith) ∙ drop-set-lt k d at v (omega arith)
 
 -- a row moved down, with the rows behind it still to come
 module _ (s : List ℕ) (i taken next : ℕ) where
-  abbrev pub toCome : List ℕ
-  toCome = flat_map bytes_of (restarted next (rowsIn (taken - (i + 1)) (drop (tableBytes (i + 1)) s))) ++ replicate rowBytes 0
+  abbrev pub to_come : List ℕ
+  to_come = flat_map bytes_of (restarted next (rows_in (taken - (i + 1)) (drop (table_bytes (i + 1)) s))) ++ replicate row_bytes 0
 
   abbrev pub moved_to : Row → Row
   moved_to r = record { number = r.number; start = next; documents = r.documents }
 
-pub rows-down : (s s' : List ℕ) (r : Row) (i taken next : ℕ) → i + 1 < taken → tableBytes taken ≤ length s → r ≡ row_at (i + 1) s → s' ≡ sets s (tableBytes i) (bytes_of (moved_to s i taken next r)) → sets s' (tableBytes (i + 1)) (toCome s' (i + 1) taken (next + bodyBytes r)) ≡ sets s (tableBytes i) (toCome s i taken next)
+pub rows_down : (s s' : List ℕ) (r : Row) (i taken next : ℕ) → i + 1 < taken → table_bytes taken ≤ length s → r ≡ row_at (i + 1) s → s' ≡ sets s (table_bytes i) (bytes_of (moved_to s i taken next r)) → sets s' (table_bytes (i + 1)) (to_come s' (i + 1) taken (next + body_bytes r)) ≡ sets s (table_bytes i) (to_come s i taken next)
 unfolding restarted flat_map
-rows-down s s' r i taken next h room e w =
+rows_down s s' r i taken next h room e w =
     let row = bytes_of (moved_to s i taken next r) in
-    let size = row-length (moved_to s i taken next r) in
-    let place : tableBytes (i + 1) ≡ tableBytes i + length row = omega arith in
-    let same = ap (drop (tableBytes (i + 1 + 1))) w ∙ drop-behind row s (tableBytes i) (tableBytes (i + 1 + 1)) (omega arith) in
-    let rest = rowsIn (taken - (i + 1 + 1)) (drop (tableBytes (i + 1 + 1)) s) in
-    let later = flat_map bytes_of (restarted (next + bodyBytes r) rest) in
-    (λ k. sets (w k) (place k) (flat_map bytes_of (restarted (next + bodyBytes r) (rowsIn (taken - (i + 1 + 1)) (same k))) ++ replicate rowBytes 0))
-    ∙ sets-append row (later ++ replicate rowBytes 0) s (tableBytes i)
-    ∙ ap (sets s (tableBytes i)) (sym (append_assoc row later (replicate rowBytes 0)))
-    ∙ ap (λ (rs : List Row). sets s (tableBytes i) (flat_map bytes_of (restarted next rs) ++ replicate rowBytes 0))
+    let size = row_length (moved_to s i taken next r) in
+    let place : table_bytes (i + 1) ≡ table_bytes i + length row = omega arith in
+    let same = ap (drop (table_bytes (i + 1 + 1))) w ∙ drop_behind row s (table_bytes i) (table_bytes (i + 1 + 1)) (omega arith) in
+    let rest = rows_in (taken - (i + 1 + 1)) (drop (table_bytes (i + 1 + 1)) s) in
+    let later = flat_map bytes_of (restarted (next + body_bytes r) rest) in
+    (λ k. sets (w k) (place k) (flat_map bytes_of (restarted (next + body_bytes r) (rows_in (taken - (i + 1 + 1)) (same k))) ++ replicate row_bytes 0))
+    ∙ sets_append row (later ++ replicate row_bytes 0) s (table_bytes i)
+    ∙ ap (sets s (table_bytes i)) (sym (append_assoc row later (replicate row_bytes 0)))
+    ∙ ap (λ (rs : List Row). sets s (table_bytes i) (flat_map bytes_of (restarted next rs) ++ replicate row_bytes 0))
     (ap (λ (x : Row). x ∷ rest) e ∙ sym (rows_next (i + 1) taken s h room))
 
 -- the last row cleared
-pub row-cleared : (s s' : List ℕ) (i taken next : ℕ) → taken ≤ i + 1 → s' ≡ sets s (tableBytes i) (bytes_of no_row) → s' ≡ sets s (tableBytes i) (toCome s i taken next)
-unfolding restarted flat_map rowsIn cut bytes_of binaryBytes
-row-cleared s s' i taken next h w =
+pub row_cleared : (s s' : List ℕ) (i taken next : ℕ) → taken ≤ i + 1 → s' ≡ sets s (table_bytes i) (bytes_of no_row) → s' ≡ sets s (table_bytes i) (to_come s i taken next)
+unfolding restarted flat_map rows_in cut bytes_of binary_bytes
+row_cleared s s' i taken next h w =
     let none : 0 ≡ taken - (i + 1) = omega arith in
-    w ∙ ap (λ (n : ℕ). sets s (tableBytes i) (flat_map bytes_of (restarted next (rowsIn n (drop (tableBytes (i + 1)) s))) ++ replicate rowBytes 0)) none
+    w ∙ ap (λ (n : ℕ). sets s (table_bytes i) (flat_map bytes_of (restarted next (rows_in n (drop (table_bytes (i + 1)) s))) ++ replicate row_bytes 0)) none
 
 -- the table closed changes nothing behind the used rows
-restarted-count : (start : ℕ) (rs : List Row) → length (restarted start rs) ≡ length rs
+restarted_count : (start : ℕ) (rs : List Row) → length (restarted start rs) ≡ length rs
 unfolding restarted
-restarted-count start [] = refl
-restarted-count start (r ∷ rs) = ap suc (restarted-count (start + bodyBytes r) rs)
+restarted_count start [] = refl
+restarted_count start (r ∷ rs) = ap suc (restarted_count (start + body_bytes r) rs)
 
-closed-behind : (s : List ℕ) (place taken start k : ℕ) → place < taken → tableBytes taken ≤ length s → tableBytes taken ≤ k → drop k (tableClosed place taken start s) ≡ drop k s
-unfolding tableClosed
-closed-behind s place taken start k h room far =
-    let rs = rowsIn (taken - (place + 1)) (drop (tableBytes (place + 1)) s) in
-    let count = rows-length (taken - (place + 1)) (drop (tableBytes (place + 1)) s) (simp length-drop (omega arith)) in
+closed_behind : (s : List ℕ) (place taken start k : ℕ) → place < taken → table_bytes taken ≤ length s → table_bytes taken ≤ k → drop k (table_closed place taken start s) ≡ drop k s
+unfolding table_closed
+closed_behind s place taken start k h room far =
+    let rs = rows_in (taken - (place + 1)) (drop (table_bytes (place + 1)) s) in
+    let count = rows_length (taken - (place + 1)) (drop (table_bytes (place + 1)) s) (simp length-drop (omega arith)) in
     let run = flat_map bytes_of (restarted start rs) in
-    let size : length (run ++ replicate rowBytes 0) ≡ tableBytes (taken - place) = omega (arith, length-append run (replicate rowBytes 0), bytes_count (restarted start rs), restarted-count start rs) in
-    drop-behind (run ++ replicate rowBytes 0) s (tableBytes place) k (omega arith)
+    let size : length (run ++ replicate row_bytes 0) ≡ table_bytes (taken - place) = omega (arith, length-append run (replicate row_bytes 0), bytes_count (restarted start rs), restarted_count start rs) in
+    drop_behind (run ++ replicate row_bytes 0) s (table_bytes place) k (omega arith)
 
-pub closing : (s e : List ℕ) (r : Row) (place taken end : ℕ) → Closable place taken end s → r ≡ row_at place s → e ≡ tableClosed place taken r.start s → sets e r.start (part (r.start + bodyBytes r) (end - (r.start + bodyBytes r)) e) ≡ closed place taken end s
+pub closing : (s e : List ℕ) (r : Row) (place taken end : ℕ) → Closable place taken end s → r ≡ row_at place s → e ≡ table_closed place taken r.start s → sets e r.start (part (r.start + body_bytes r) (end - (r.start + body_bytes r)) e) ≡ closed place taken end s
 unfolding closed
 closing s e r place taken end c row w =
     let start = ap (λ (x : Row). x.start) row in
-    let room : tableBytes taken ≤ length s = omega (arith, c.table, c.body, c.room) in
-    let far : tableBytes taken ≤ r.start + bodyBytes r = omega (arith, c.table) in
-    let size = end - (r.start + bodyBytes r) in
-    let bodies = ap (λ (l : List ℕ). take size (drop (r.start + bodyBytes r) l)) w ∙ ap (take size) (closed-behind s place taken r.start (r.start + bodyBytes r) c.inside room far) in
+    let room : table_bytes taken ≤ length s = omega (arith, c.table, c.body, c.room) in
+    let far : table_bytes taken ≤ r.start + body_bytes r = omega (arith, c.table) in
+    let size = end - (r.start + body_bytes r) in
+    let bodies = ap (λ (l : List ℕ). take size (drop (r.start + body_bytes r) l)) w ∙ ap (take size) (closed_behind s place taken r.start (r.start + body_bytes r) c.inside room far) in
     (λ i. sets (w i) r.start (bodies i))
-    ∙ ap (λ (x : Row). sets (tableClosed place taken x.start s) x.start (part (x.start + bodyBytes x) (end - (x.start + bodyBytes x)) s)) row
+    ∙ ap (λ (x : Row). sets (table_closed place taken x.start s) x.start (part (x.start + body_bytes x) (end - (x.start + body_bytes x)) s)) row

@@ -6,15 +6,15 @@ use native.Mathlib.Omega.{arith}
 use borrow.Author.Tests.{ne_eqb}
 use Rattle.message.specs.Reading.{Reading, reading}
 
-pub said-values : (n : ℕ) (values read : List ℕ) → n ≡ 0 → read ≡ values → reading 0 read ≡ reading n values
-said-values n values read e h = rw (e, h)
+pub said_values : (n : ℕ) (values read : List ℕ) → n ≡ 0 → read ≡ values → reading 0 read ≡ reading n values
+said_values n values read e h = rw (e, h)
 
-pub said-number : (n m : ℕ) (values : List ℕ) → 0 < m → n ≡ m → reading m [] ≡ reading n values
-said-number n m values h e = rw (e, ne_eqb m 0 (λ (z : m ≡ 0). omega arith))
+pub said_number : (n m : ℕ) (values : List ℕ) → 0 < m → n ≡ m → reading m [] ≡ reading n values
+said_number n m values h e = rw (e, ne_eqb m 0 (λ (z : m ≡ 0). omega arith))
 
 -- and what an answer tells of the reading
-pub number-told : (n m : ℕ) (values : List ℕ) → reading m [] ≡ reading n values → n ≡ m
-number-told n m values e = sym (ap (λ (r : Reading). r.number) e)
+pub number_told : (n m : ℕ) (values : List ℕ) → reading m [] ≡ reading n values → n ≡ m
+number_told n m values e = sym (ap (λ (r : Reading). r.number) e)
 
 pub told : (n : ℕ) (values read : List ℕ) → reading 0 read ≡ reading n values → (n ≡ 0) × (values ≡ read)
 told n values read e =

@@ -4,11 +4,11 @@ use mathlib.Core.List.{List}
 use Prim.Native.Nat.{ℕ}
 use borrow.Author.Rules.{rules}
 use lib.ListN.{replicate}
-use Rattle.calendar.specs.Rule.{yearDays}
-use Rattle.calendar.specs.Generator.{placesAfter}
+use Rattle.calendar.specs.Rule.{year_days}
+use Rattle.calendar.specs.Generator.{places_after}
 use Rattle.calendar.specs.Year.{unworked2028}
-use Rattle.calendar.proofs.Laws.Generator.{whole-table}
-use Rattle.calendar.proofs.Laws.Year.{good-2028}
+use Rattle.calendar.proofs.Laws.Generator.{whole_table}
+use Rattle.calendar.proofs.Laws.Year.{good_2028}
 use Rattle.next_days.proofs.made.Statement.{statement}
 use Rattle.next_days.proofs.made.Tie as tie
 
@@ -28,7 +28,7 @@ returns : tie.Need-returns
 returns c =
     let n = c.before.next-days in
     let u = c.before.before.before.before.unworked-days in
-    n.ensures.1 ∙ ap (λ (list : List ℕ). placesAfter list (replicate yearDays 0)) u.ensures ∙ whole-table unworked2028 (replicate yearDays 0) good-2028 refl
+    n.ensures.1 ∙ ap (λ (list : List ℕ). places_after list (replicate year_days 0)) u.ensures ∙ whole_table unworked2028 (replicate year_days 0) good_2028 refl
 
 pub made-spec : {M : Type 1} → statement M
 made-spec =

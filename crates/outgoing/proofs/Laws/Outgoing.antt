@@ -7,24 +7,24 @@ use native.Mathlib.Omega.{arith}
 use lib.Dec.{eqb, leb}
 use lib.ListN.{length}
 use borrow.Author.Tests.{leb-true, lt-ltb, le-ltb}
-use Rattle.document.specs.Limits.{documentBytes}
-use Rattle.outgoing.specs.Outgoing.{readyGood, bothGood, next_of, next}
-use Rattle.document.specs.Part.{countIn}
+use Rattle.document.specs.Limits.{document_bytes}
+use Rattle.outgoing.specs.Outgoing.{ready_good, both_good, next_of, next}
+use Rattle.document.specs.Part.{count_in}
 
 -- a good cursor lies within its tray, in bytes too
-pub cursor-within : (ready : List ℕ) (cursor : ℕ) → readyGood ready cursor ≡ true → cursor * documentBytes ≤ length ready
-cursor-within ready cursor e =
-    omega (arith, leb-true cursor (countIn ready) ((and-eq-true_iff (eqb (length ready % documentBytes) 0) (leb cursor (countIn ready))).0 e).1)
+pub cursor_within : (ready : List ℕ) (cursor : ℕ) → ready_good ready cursor ≡ true → cursor * document_bytes ≤ length ready
+cursor_within ready cursor e =
+    omega (arith, leb-true cursor (count_in ready) ((and-eq-true_iff (eqb (length ready % document_bytes) 0) (leb cursor (count_in ready))).0 e).1)
 
-module _ (presentations returns : List ℕ) (presentationsSent returnsSent : ℕ) where
-  pub each-good : bothGood presentations returns presentationsSent returnsSent ≡ true → (readyGood presentations presentationsSent ≡ true) × (readyGood returns returnsSent ≡ true)
-  each-good e = (and-eq-true_iff (readyGood presentations presentationsSent) (readyGood returns returnsSent)).0 e
+module _ (presentations returns : List ℕ) (presentations_sent returns_sent : ℕ) where
+  pub each_good : both_good presentations returns presentations_sent returns_sent ≡ true → (ready_good presentations presentations_sent ≡ true) × (ready_good returns returns_sent ≡ true)
+  each_good e = (and-eq-true_iff (ready_good presentations presentations_sent) (ready_good returns returns_sent)).0 e
 
-  pub nothing-next : bothGood presentations returns presentationsSent returnsSent ≡ false → next presentations returns presentationsSent returnsSent ≡ []
-  nothing-next e = rw e
+  pub nothing_next : both_good presentations returns presentations_sent returns_sent ≡ false → next presentations returns presentations_sent returns_sent ≡ []
+  nothing_next e = rw e
 
-  pub next-presented : bothGood presentations returns presentationsSent returnsSent ≡ true → presentationsSent < countIn presentations → next presentations returns presentationsSent returnsSent ≡ next_of presentations presentationsSent
-  next-presented e h = rw (e, lt-ltb presentationsSent (countIn presentations) h)
+  pub next_presented : both_good presentations returns presentations_sent returns_sent ≡ true → presentations_sent < count_in presentations → next presentations returns presentations_sent returns_sent ≡ next_of presentations presentations_sent
+  next_presented e h = rw (e, lt-ltb presentations_sent (count_in presentations) h)
 
-  pub next-returned : bothGood presentations returns presentationsSent returnsSent ≡ true → countIn presentations ≤ presentationsSent → next presentations returns presentationsSent returnsSent ≡ next_of returns returnsSent
-  next-returned e h = rw (e, le-ltb presentationsSent (countIn presentations) h)
+  pub next_returned : both_good presentations returns presentations_sent returns_sent ≡ true → count_in presentations ≤ presentations_sent → next presentations returns presentations_sent returns_sent ≡ next_of returns returns_sent
+  next_returned e h = rw (e, le-ltb presentations_sent (count_in presentations) h)

@@ -8,34 +8,34 @@ use lib.Dec.{ltb}
 use lib.ListN.{length, get_or}
 use borrow.Author.Tests.{ltb-true}
 use Rattle.packed.specs.Part.{part}
-use Rattle.packed.specs.Digits.{isDigits, areDigits}
-use Rattle.packed.proofs.Laws.Part.{part-split, part_step}
-use Rattle.packed.proofs.Laws.Every.{every_append, every-none, every-step}
+use Rattle.packed.specs.Digits.{is_digits, are_digits}
+use Rattle.packed.proofs.Laws.Part.{part_split, part_step}
+use Rattle.packed.proofs.Laws.Every.{every_append, every_none, every_step}
 
-pub halves : (b : ℕ) → isDigits b ≡ true → (b / 16 < 10) × (b % 16 < 10)
-unfolding isDigits
+pub halves : (b : ℕ) → is_digits b ≡ true → (b / 16 < 10) × (b % 16 < 10)
+unfolding is_digits
 halves b e =
     let both = (and-eq-true_iff (ltb (b / 16) 10) (ltb (b % 16) 10)).0 e in
     (ltb-true (b / 16) 10 both.0, ltb-true (b % 16) 10 both.1)
 
-pub digits-split : (at m n : ℕ) (s : List ℕ) → areDigits (part at (m + n) s) ≡ areDigits (part at m s) && areDigits (part (at + m) n s)
-digits-split at m n s = ap areDigits (part-split at m n s) ∙ every_append isDigits (part at m s) (part (at + m) n s)
+pub digits_split : (at m n : ℕ) (s : List ℕ) → are_digits (part at (m + n) s) ≡ are_digits (part at m s) && are_digits (part (at + m) n s)
+digits_split at m n s = ap are_digits (part_split at m n s) ∙ every_append is_digits (part at m s) (part (at + m) n s)
 
 -- a field within a run of digits is digits
-pub digits-inside : (at n i m : ℕ) (s : List ℕ) → i + m ≤ n → areDigits (part at n s) ≡ true → areDigits (part (at + i) m s) ≡ true
-digits-inside at n i m s h e =
+pub digits_inside : (at n i m : ℕ) (s : List ℕ) → i + m ≤ n → are_digits (part at n s) ≡ true → are_digits (part (at + i) m s) ≡ true
+digits_inside at n i m s h e =
     let cut : n ≡ i + (m + (n - (i + m))) = omega arith in
-    let tail = ((and-eq-true_iff (areDigits (part at i s)) (areDigits (part (at + i) (m + (n - (i + m))) s))).0 (sym (digits-split at i (m + (n - (i + m))) s) ∙ ap (λ (k : ℕ). areDigits (part at k s)) (sym cut) ∙ e)).1 in
-    ((and-eq-true_iff (areDigits (part (at + i) m s)) (areDigits (part (at + i + m) (n - (i + m)) s))).0 (sym (digits-split (at + i) m (n - (i + m)) s) ∙ tail)).0
+    let tail = ((and-eq-true_iff (are_digits (part at i s)) (are_digits (part (at + i) (m + (n - (i + m))) s))).0 (sym (digits_split at i (m + (n - (i + m))) s) ∙ ap (λ (k : ℕ). are_digits (part at k s)) (sym cut) ∙ e)).1 in
+    ((and-eq-true_iff (are_digits (part (at + i) m s)) (are_digits (part (at + i + m) (n - (i + m)) s))).0 (sym (digits_split (at + i) m (n - (i + m)) s) ∙ tail)).0
 
 -- a reading of n bytes from a place on that has found ok so far: one byte more, and none left
-pub digits_step : (from n i : ℕ) (ok : Bool) (s : List ℕ) → i < n → from + n ≤ length s → ok && isDigits (get_or s (from + i) 0) && areDigits (part (from + (i + 1)) (n - (i + 1)) s) ≡ ok && areDigits (part (from + i) (n - i) s)
+pub digits_step : (from n i : ℕ) (ok : Bool) (s : List ℕ) → i < n → from + n ≤ length s → ok && is_digits (get_or s (from + i) 0) && are_digits (part (from + (i + 1)) (n - (i + 1)) s) ≡ ok && are_digits (part (from + i) (n - i) s)
 digits_step from n i ok s h l =
     let left : n - i ≡ from + n - (from + i) = omega arith in
     let less : n - (i + 1) ≡ from + n - (from + i + 1) = omega arith in
     let next : from + (i + 1) ≡ from + i + 1 = omega arith in
     rw (left, less, next)
-    (every-step isDigits ok (get_or s (from + i) 0) _ ∙ ap (λ (bs : List ℕ). ok && areDigits bs) (sym (part_step (from + i) (from + n) s (omega arith) l)))
+    (every_step is_digits ok (get_or s (from + i) 0) _ ∙ ap (λ (bs : List ℕ). ok && are_digits bs) (sym (part_step (from + i) (from + n) s (omega arith) l)))
 
-pub digits-none : (from n : ℕ) (ok : Bool) (s : List ℕ) → ok && areDigits (part from (n - n) s) ≡ ok
-digits-none from n ok s = let none : n - n ≡ 0 = omega arith in rw none (every-none isDigits ok)
+pub digits_none : (from n : ℕ) (ok : Bool) (s : List ℕ) → ok && are_digits (part from (n - n) s) ≡ ok
+digits_none from n ok s = let none : n - n ≡ 0 = omega arith in rw none (every_none is_digits ok)

@@ -10,18 +10,18 @@ module _ {ℓ} {A : Type ℓ} (p : A → Bool) where
   every_append [] ys = refl
   every_append (x ∷ xs) ys = ap (λ (t : Bool). p x && t) (every_append xs ys) ∙ sym (and_assoc (p x) (every p xs) (every p ys))
 
-  pub every-cons : (x : A) (xs : List A) → every p (x ∷ xs) ≡ true → (p x ≡ true) × (every p xs ≡ true)
+  pub every_cons : (x : A) (xs : List A) → every p (x ∷ xs) ≡ true → (p x ≡ true) × (every p xs ≡ true)
   unfolding every
-  every-cons x xs e = (and-eq-true_iff (p x) (every p xs)).0 e
+  every_cons x xs e = (and-eq-true_iff (p x) (every p xs)).0 e
 
   -- a reading that has found ok so far: nothing left, and one element more
-  pub every-none : (ok : Bool) → ok && every p [] ≡ ok
+  pub every_none : (ok : Bool) → ok && every p [] ≡ ok
   unfolding every
-  every-none ok = and-true ok
+  every_none ok = and-true ok
 
-  pub every-step : (ok : Bool) (x : A) (xs : List A) → ok && p x && every p xs ≡ ok && every p (x ∷ xs)
+  pub every_step : (ok : Bool) (x : A) (xs : List A) → ok && p x && every p xs ≡ ok && every p (x ∷ xs)
   unfolding every
-  every-step ok x xs = and_assoc ok (p x) (every p xs)
+  every_step ok x xs = and_assoc ok (p x) (every p xs)
 
 -- two tests at every element are the one at every element and the other
 regroup : (a b c d : Bool) → a && b && (c && d) ≡ a && c && (b && d)
@@ -30,10 +30,10 @@ regroup true false true d = refl
 regroup true false false d = refl
 regroup false b c d = refl
 
-pub every-both : {A : Type 0} (p q : A → Bool) (xs : List A) → every (λ (x : A). p x && q x) xs ≡ every p xs && every q xs
+pub every_both : {A : Type 0} (p q : A → Bool) (xs : List A) → every (λ (x : A). p x && q x) xs ≡ every p xs && every q xs
 unfolding every
-every-both p q [] = refl
-every-both p q (x ∷ xs) = ap (λ (t : Bool). p x && q x && t) (every-both p q xs) ∙ regroup (p x) (q x) (every p xs) (every q xs)
+every_both p q [] = refl
+every_both p q (x ∷ xs) = ap (λ (t : Bool). p x && q x && t) (every_both p q xs) ∙ regroup (p x) (q x) (every p xs) (every q xs)
 
 -- a test of what is made of each element
 pub every_map : {A B : Type 0} (p : B → Bool) (f : A → B) (xs : List A) → every p (map f xs) ≡ every (λ (x : A). p (f x)) xs
@@ -42,15 +42,15 @@ every_map p f [] = refl
 every_map p f (x ∷ xs) = ap (λ (t : Bool). p (f x) && t) (every_map p f xs)
 
 -- a test that follows from another
-pub every-then : {A : Type 0} (p q : A → Bool) → ((x : A) → p x ≡ true → q x ≡ true) → (xs : List A) → every p xs ≡ true → every q xs ≡ true
+pub every_then : {A : Type 0} (p q : A → Bool) → ((x : A) → p x ≡ true → q x ≡ true) → (xs : List A) → every p xs ≡ true → every q xs ≡ true
 unfolding every
-every-then p q h [] e = refl
-every-then p q h (x ∷ xs) e =
+every_then p q h [] e = refl
+every_then p q h (x ∷ xs) e =
     let both = (and-eq-true_iff (p x) (every p xs)).0 e in
-    rw (h x both.0, every-then p q h xs both.1)
+    rw (h x both.0, every_then p q h xs both.1)
 
 -- a test that always holds
-pub every-always : {A : Type 0} (p : A → Bool) → ((x : A) → p x ≡ true) → (xs : List A) → every p xs ≡ true
+pub every_always : {A : Type 0} (p : A → Bool) → ((x : A) → p x ≡ true) → (xs : List A) → every p xs ≡ true
 unfolding every
-every-always p h [] = refl
-every-always p h (x ∷ xs) = rw (h x, every-always p h xs)
+every_always p h [] = refl
+every_always p h (x ∷ xs) = rw (h x, every_always p h xs)

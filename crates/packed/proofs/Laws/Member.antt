@@ -6,11 +6,11 @@ use Prim.Native.Nat.{ℕ, ◌≤◌, ◌<◌}
 use native.Mathlib.Omega.{arith}
 use lib.Dec.{eqb, leb}
 use borrow.Author.Tests.{leb-true, le-leb, ne_eqb, eq-eqb, eqb-true, eqb-false}
-use Rattle.packed.specs.Every.{every, member, noneTwice, noneAbove}
-use Rattle.packed.proofs.Laws.Every.{every-cons, every-then}
+use Rattle.packed.specs.Every.{every, member, none_twice, none_above}
+use Rattle.packed.proofs.Laws.Every.{every_cons, every_then}
 
-pub eqb-sym : (a b : ℕ) → eqb a b ≡ eqb b a
-eqb-sym a b = go (eqb b a) refl
+pub eqb_sym : (a b : ℕ) → eqb a b ≡ eqb b a
+eqb_sym a b = go (eqb b a) refl
   where
     go : (t : Bool) → eqb b a ≡ t → eqb a b ≡ t
     go true e = eq-eqb a b (sym (eqb-true b a e))
@@ -24,25 +24,25 @@ or_assoc : (a b c : Bool) → a || (b || c) ≡ a || b || c
 or_assoc true b c = refl
 or_assoc false b c = refl
 
-pub member-append : (n : ℕ) (xs ys : List ℕ) → member n (xs ++ ys) ≡ member n xs || member n ys
+pub member_append : (n : ℕ) (xs ys : List ℕ) → member n (xs ++ ys) ≡ member n xs || member n ys
 unfolding member
-member-append n [] ys = refl
-member-append n (x ∷ xs) ys = ap (λ (t : Bool). eqb n x || t) (member-append n xs ys) ∙ or_assoc (eqb n x) (member n xs) (member n ys)
+member_append n [] ys = refl
+member_append n (x ∷ xs) ys = ap (λ (t : Bool). eqb n x || t) (member_append n xs ys) ∙ or_assoc (eqb n x) (member n xs) (member n ys)
 
 -- a number above all of some is none of them
-pub member-above : (largest k : ℕ) (ns : List ℕ) → noneAbove largest ns ≡ true → largest < k → member k ns ≡ false
+pub member_above : (largest k : ℕ) (ns : List ℕ) → none_above largest ns ≡ true → largest < k → member k ns ≡ false
 unfolding every member
-member-above largest k [] e h = refl
-member-above largest k (n ∷ ns) e h =
-    let first = every-cons (λ (x : ℕ). leb x largest) n ns e in
+member_above largest k [] e h = refl
+member_above largest k (n ∷ ns) e h =
+    let first = every_cons (λ (x : ℕ). leb x largest) n ns e in
     let least = leb-true n largest first.0 in
     let other : k ≡ n → ⊥ = λ (same : k ≡ n). absurd (omega arith) in
-    rw (ne_eqb k n other, member-above largest k ns first.1 h)
+    rw (ne_eqb k n other, member_above largest k ns first.1 h)
 
 -- and what is above them too
-pub above_more : (a b : ℕ) (ns : List ℕ) → a ≤ b → noneAbove a ns ≡ true → noneAbove b ns ≡ true
+pub above_more : (a b : ℕ) (ns : List ℕ) → a ≤ b → none_above a ns ≡ true → none_above b ns ≡ true
 above_more a b ns h e =
-    every-then (λ (n : ℕ). leb n a) (λ (n : ℕ). leb n b) (λ (n : ℕ) (l : leb n a ≡ true). le-leb n b (omega (arith, leb-true n a l))) ns e
+    every_then (λ (n : ℕ). leb n a) (λ (n : ℕ). leb n b) (λ (n : ℕ) (l : leb n a ≡ true). le-leb n b (omega (arith, leb-true n a l))) ns e
 
 -- a number more, last
 regroup : (m e t l : Bool) → not (m || (e || false)) && (t && not l) ≡ not m && t && not (e || l)
@@ -51,10 +51,10 @@ regroup false true true l = refl
 regroup false true false l = refl
 regroup false false t l = refl
 
-pub none-twice-last : (ns : List ℕ) (k : ℕ) → noneTwice (ns ++ k ∷ []) ≡ noneTwice ns && not (member k ns)
-unfolding noneTwice member
-none-twice-last [] k = refl
-none-twice-last (n ∷ ns) k =
-    (λ i. not (member-append n ns (k ∷ []) i) && none-twice-last ns k i)
-    ∙ regroup (member n ns) (eqb n k) (noneTwice ns) (member k ns)
-    ∙ ap (λ (t : Bool). not (member n ns) && noneTwice ns && not (t || member k ns)) (eqb-sym n k)
+pub none_twice_last : (ns : List ℕ) (k : ℕ) → none_twice (ns ++ k ∷ []) ≡ none_twice ns && not (member k ns)
+unfolding none_twice member
+none_twice_last [] k = refl
+none_twice_last (n ∷ ns) k =
+    (λ i. not (member_append n ns (k ∷ []) i) && none_twice_last ns k i)
+    ∙ regroup (member n ns) (eqb n k) (none_twice ns) (member k ns)
+    ∙ ap (λ (t : Bool). not (member n ns) && none_twice ns && not (t || member k ns)) (eqb_sym n k)

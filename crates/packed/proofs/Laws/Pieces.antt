@@ -12,33 +12,33 @@ use borrow.Author.Tests.{leb-true, leb-false, le-leb, lt-leb}
 use Rattle.packed.specs.Part.{part}
 use Rattle.packed.specs.Every.{every}
 use Rattle.packed.specs.Pieces.{cut, pieces}
-use Rattle.packed.proofs.Laws.Every.{every-cons}
+use Rattle.packed.proofs.Laws.Every.{every_cons}
 
 module _ (k : ℕ) (wide : 0 < k) where
   -- what is left of a list once a piece is taken is shorter
   pub shorter : (x : ℕ) (s : List ℕ) → length (drop k (x ∷ s)) ≤ length s
   shorter x s = simp length-drop (omega arith)
 
-  cut-enough : (n m : ℕ) (s : List ℕ) → length s ≤ n → length s ≤ m → cut k n s ≡ cut k m s
+  cut_enough : (n m : ℕ) (s : List ℕ) → length s ≤ n → length s ≤ m → cut k n s ≡ cut k m s
   unfolding cut
-  cut-enough zero zero s hn hm = refl
-  cut-enough zero (suc m) [] hn hm = refl
-  cut-enough zero (suc m) (x ∷ s) hn hm = absurd (omega arith)
-  cut-enough (suc n) zero [] hn hm = refl
-  cut-enough (suc n) zero (x ∷ s) hn hm = absurd (omega arith)
-  cut-enough (suc n) (suc m) [] hn hm = refl
-  cut-enough (suc n) (suc m) (x ∷ s) hn hm =
-      ap (λ (l : List (List ℕ)). take k (x ∷ s) ∷ l) (cut-enough n m (drop k (x ∷ s)) (omega (arith, shorter x s)) (omega (arith, shorter x s)))
+  cut_enough zero zero s hn hm = refl
+  cut_enough zero (suc m) [] hn hm = refl
+  cut_enough zero (suc m) (x ∷ s) hn hm = absurd (omega arith)
+  cut_enough (suc n) zero [] hn hm = refl
+  cut_enough (suc n) zero (x ∷ s) hn hm = absurd (omega arith)
+  cut_enough (suc n) (suc m) [] hn hm = refl
+  cut_enough (suc n) (suc m) (x ∷ s) hn hm =
+      ap (λ (l : List (List ℕ)). take k (x ∷ s) ∷ l) (cut_enough n m (drop k (x ∷ s)) (omega (arith, shorter x s)) (omega (arith, shorter x s)))
 
   pub pieces_step : (s : List ℕ) → 0 < length s → pieces k s ≡ take k s ∷ pieces k (drop k s)
   unfolding cut
   pieces_step [] h = absurd (omega arith)
   pieces_step (x ∷ s) h =
-      ap (λ (l : List (List ℕ)). take k (x ∷ s) ∷ l) (cut-enough (length s) (length (drop k (x ∷ s))) (drop k (x ∷ s)) (shorter x s) (omega arith))
+      ap (λ (l : List (List ℕ)). take k (x ∷ s) ∷ l) (cut_enough (length s) (length (drop k (x ∷ s))) (drop k (x ∷ s)) (shorter x s) (omega arith))
 
   -- what a reading has left from at on: a piece and the rest, and at last nothing
-  pub pieces-at : (at : ℕ) (s : List ℕ) → at < length s → pieces k (drop at s) ≡ part at k s ∷ pieces k (drop (at + k) s)
-  pieces-at at s h =
+  pub pieces_at : (at : ℕ) (s : List ℕ) → at < length s → pieces k (drop at s) ≡ part at k s ∷ pieces k (drop (at + k) s)
+  pieces_at at s h =
       pieces_step (drop at s) (simp length-drop (omega arith)) ∙ ap (λ (l : List ℕ). part at k s ∷ pieces k l) (drop-drop k at s)
 
   pub pieces_end : (at : ℕ) (s : List ℕ) → length s ≤ at → pieces k (drop at s) ≡ []
@@ -46,25 +46,25 @@ module _ (k : ℕ) (wide : 0 < k) where
   pieces_end at s h = ap (pieces k) (drop_of_length-le s {i = at} h)
 
   -- a list that is at most one piece
-  pub pieces-one : (s : List ℕ) → 0 < length s → length s ≤ k → pieces k s ≡ s ∷ []
+  pub pieces_one : (s : List ℕ) → 0 < length s → length s ≤ k → pieces k s ≡ s ∷ []
   unfolding cut
-  pieces-one s h l = pieces_step s h ∙ rw (take_all k s l, drop_of_length-le s {i = k} l)
+  pieces_one s h l = pieces_step s h ∙ rw (take_all k s l, drop_of_length-le s {i = k} l)
 
   -- a first piece, and more behind it
-  pub pieces-first : (p s : List ℕ) → length p ≡ k → pieces k (p ++ s) ≡ p ∷ pieces k s
-  pieces-first p s e =
+  pub pieces_first : (p s : List ℕ) → length p ≡ k → pieces k (p ++ s) ≡ p ∷ pieces k s
+  pieces_first p s e =
       pieces_step (p ++ s) (simp length-append (omega arith)) ∙ rw (take_at p s k e, drop_at p s k e)
 
   -- n whole pieces, and more behind them
-  pub pieces-append : (n : ℕ) (xs ys : List ℕ) → length xs ≡ n * k → pieces k (xs ++ ys) ≡ pieces k xs ++ pieces k ys
+  pub pieces_append : (n : ℕ) (xs ys : List ℕ) → length xs ≡ n * k → pieces k (xs ++ ys) ≡ pieces k xs ++ pieces k ys
   unfolding cut
-  pieces-append zero [] ys e = refl
-  pieces-append zero (x ∷ xs) ys e = absurd (omega (arith, zero-mul k))
-  pieces-append (suc n) xs ys e =
+  pieces_append zero [] ys e = refl
+  pieces_append zero (x ∷ xs) ys e = absurd (omega (arith, zero-mul k))
+  pieces_append (suc n) xs ys e =
       let long : k ≤ length xs = omega (arith, suc-mul n k) in
       let rest : length (drop k xs) ≡ n * k = simp length-drop (omega (arith, suc-mul n k)) in
       pieces_step (xs ++ ys) (simp length-append (omega arith))
-      ∙ rw (take-append-le k xs ys long, drop-append-le k xs ys long, pieces-append n (drop k xs) ys rest)
+      ∙ rw (take-append-le k xs ys long, drop-append-le k xs ys long, pieces_append n (drop k xs) ys rest)
       (ap (λ (l : List (List ℕ)). l ++ pieces k ys) (sym (pieces_step xs (omega arith))))
 
   -- the pieces of a list make it up again
@@ -78,34 +78,34 @@ module _ (k : ℕ) (wide : 0 < k) where
       ∙ ap (λ (l : List ℕ). take k (x ∷ s) ++ l) (flat n (drop k (x ∷ s)) (omega (arith, shorter x s)))
       ∙ take-append-drop k (x ∷ s)
 
-  pub pieces-flat : (s : List ℕ) → flat_map (λ (p : List ℕ). p) (pieces k s) ≡ s
-  pieces-flat s = flat (length s) s (omega arith)
+  pub pieces_flat : (s : List ℕ) → flat_map (λ (p : List ℕ). p) (pieces k s) ≡ s
+  pieces_flat s = flat (length s) s (omega arith)
 
   -- at most n pieces are at most n times their width
-  pub few-pieces : (n : ℕ) (s : List ℕ) → length s ≤ n * k → length (pieces k s) ≤ n
+  pub few_pieces : (n : ℕ) (s : List ℕ) → length s ≤ n * k → length (pieces k s) ≤ n
   unfolding cut
-  few-pieces zero [] h = omega arith
-  few-pieces (suc n) [] h = omega arith
-  few-pieces zero (x ∷ s) h = absurd (omega (arith, zero-mul k))
-  few-pieces (suc n) (x ∷ s) h =
+  few_pieces zero [] h = omega arith
+  few_pieces (suc n) [] h = omega arith
+  few_pieces zero (x ∷ s) h = absurd (omega (arith, zero-mul k))
+  few_pieces (suc n) (x ∷ s) h =
       let rest : length (drop k (x ∷ s)) ≤ n * k = simp length-drop (omega (arith, suc-mul n k)) in
-      omega (arith, ap length (pieces_step (x ∷ s) (omega arith)), few-pieces n (drop k (x ∷ s)) rest)
+      omega (arith, ap length (pieces_step (x ∷ s) (omega arith)), few_pieces n (drop k (x ∷ s)) rest)
 
-  pub many-pieces : (n : ℕ) (s : List ℕ) → n * k < length s → n < length (pieces k s)
+  pub many_pieces : (n : ℕ) (s : List ℕ) → n * k < length s → n < length (pieces k s)
   unfolding cut
-  many-pieces zero [] h = absurd (omega arith)
-  many-pieces (suc n) [] h = absurd (omega arith)
-  many-pieces zero (x ∷ s) h = omega (arith, ap length (pieces_step (x ∷ s) (omega arith)))
-  many-pieces (suc n) (x ∷ s) h =
+  many_pieces zero [] h = absurd (omega arith)
+  many_pieces (suc n) [] h = absurd (omega arith)
+  many_pieces zero (x ∷ s) h = omega (arith, ap length (pieces_step (x ∷ s) (omega arith)))
+  many_pieces (suc n) (x ∷ s) h =
       let rest : n * k < length (drop k (x ∷ s)) = simp length-drop (omega (arith, suc-mul n k)) in
-      omega (arith, ap length (pieces_step (x ∷ s) (omega arith)), many-pieces n (drop k (x ∷ s)) rest)
+      omega (arith, ap length (pieces_step (x ∷ s) (omega arith)), many_pieces n (drop k (x ∷ s)) rest)
 
-  pub pieces-count : (n : ℕ) (s : List ℕ) → leb (length (pieces k s)) n ≡ leb (length s) (n * k)
-  pieces-count n s = count (leb (length s) (n * k)) refl
+  pub pieces_count : (n : ℕ) (s : List ℕ) → leb (length (pieces k s)) n ≡ leb (length s) (n * k)
+  pieces_count n s = count (leb (length s) (n * k)) refl
     where
       count : (t : Bool) → leb (length s) (n * k) ≡ t → leb (length (pieces k s)) n ≡ t
-      count true e = le-leb (length (pieces k s)) n (few-pieces n s (leb-true (length s) (n * k) e))
-      count false e = lt-leb (length (pieces k s)) n (many-pieces n s (leb-false (length s) (n * k) e))
+      count true e = le-leb (length (pieces k s)) n (few_pieces n s (leb-true (length s) (n * k) e))
+      count false e = lt-leb (length (pieces k s)) n (many_pieces n s (leb-false (length s) (n * k) e))
 
 -- pieces of pieces that are j times as wide are the pieces
 module _ (k j : ℕ) (wide : 0 < k) (many : 0 < j * k) where
@@ -122,14 +122,14 @@ module _ (k j : ℕ) (wide : 0 < k) (many : 0 < j * k) where
       go true e rest =
           let fits = leb-true (j * k) (length (x ∷ s)) e in
           ap (λ (l : List (List ℕ)). pieces k (take (j * k) (x ∷ s)) ++ l) rest
-          ∙ sym (pieces-append k wide j (take (j * k) (x ∷ s)) (drop (j * k) (x ∷ s)) (length-take-le (j * k) (x ∷ s) fits))
+          ∙ sym (pieces_append k wide j (take (j * k) (x ∷ s)) (drop (j * k) (x ∷ s)) (length-take-le (j * k) (x ∷ s) fits))
           ∙ ap (pieces k) (take-append-drop (j * k) (x ∷ s))
       go false e rest =
           let short = leb-false (j * k) (length (x ∷ s)) e in
           rw (take_all (j * k) (x ∷ s) (omega arith), drop_of_length-le (x ∷ s) {i = j * k} (omega arith)) (append-nil (pieces k (x ∷ s)))
 
-  pub pieces-within : (s : List ℕ) → flat_map (pieces k) (pieces (j * k) s) ≡ pieces k s
-  pieces-within s = within (length s) s (omega arith)
+  pub pieces_within : (s : List ℕ) → flat_map (pieces k) (pieces (j * k) s) ≡ pieces k s
+  pieces_within s = within (length s) s (omega arith)
 
 -- what is made of each piece, laid end to end, is cut into what was made: where a full piece becomes a full one of the other width, and the
 -- last becomes no more than that and not nothing
@@ -141,7 +141,7 @@ module _ (k m : ℕ) (wide : 0 < k) (wide' : 0 < m) (f : List ℕ → List ℕ) 
   made (suc n) [] h e = refl
   made (suc n) (x ∷ s) h e =
       let step = pieces_step k wide (x ∷ s) (omega arith) in
-      let both = every-cons q (take k (x ∷ s)) (pieces k (drop k (x ∷ s))) (sym (ap (every q) step) ∙ e) in
+      let both = every_cons q (take k (x ∷ s)) (pieces k (drop k (x ∷ s))) (sym (ap (every q) step) ∙ e) in
       ap (λ (l : List (List ℕ)). pieces m (flat_map f l)) step
       ∙ go (leb k (length (x ∷ s))) refl both.0 (made n (drop k (x ∷ s)) (omega (arith, shorter k wide x s)) both.1)
       ∙ ap (map f) (sym step)
@@ -149,7 +149,7 @@ module _ (k m : ℕ) (wide : 0 < k) (wide' : 0 < m) (f : List ℕ → List ℕ) 
       go : (t : Bool) → leb k (length (x ∷ s)) ≡ t → q (take k (x ∷ s)) ≡ true → pieces m (flat_map f (pieces k (drop k (x ∷ s)))) ≡ map f (pieces k (drop k (x ∷ s))) → pieces m (f (take k (x ∷ s)) ++ flat_map f (pieces k (drop k (x ∷ s)))) ≡ f (take k (x ∷ s)) ∷ map f (pieces k (drop k (x ∷ s)))
       go true e good rest =
           let first = take k (x ∷ s) in
-          pieces-first m wide' (f first) (flat_map f (pieces k (drop k (x ∷ s)))) (full first good (length-take-le k (x ∷ s) (leb-true k (length (x ∷ s)) e)))
+          pieces_first m wide' (f first) (flat_map f (pieces k (drop k (x ∷ s)))) (full first good (length-take-le k (x ∷ s) (leb-true k (length (x ∷ s)) e)))
           ∙ ap (λ (l : List (List ℕ)). f first ∷ l) rest
       go false e good rest =
           let short = leb-false k (length (x ∷ s)) e in
@@ -158,8 +158,8 @@ module _ (k m : ℕ) (wide : 0 < k) (wide' : 0 < m) (f : List ℕ → List ℕ) 
           let size = last first good (simp length-take (omega arith)) in
           (λ i. pieces m (f first ++ flat_map f (pieces k (none i))))
           ∙ ap (pieces m) (append-nil (f first))
-          ∙ pieces-one m wide' (f first) size.0 size.1
+          ∙ pieces_one m wide' (f first) size.0 size.1
           ∙ sym (λ i. f first ∷ map f (pieces k (none i)))
 
-  pub pieces-made : (s : List ℕ) → every q (pieces k s) ≡ true → pieces m (flat_map f (pieces k s)) ≡ map f (pieces k s)
-  pieces-made s e = made (length s) s (omega arith) e
+  pub pieces_made : (s : List ℕ) → every q (pieces k s) ≡ true → pieces m (flat_map f (pieces k s)) ≡ map f (pieces k s)
+  pieces_made s e = made (length s) s (omega arith) e

@@ -4,11 +4,11 @@ use mathlib.Core.Bool.{Bool, false, not}
 use Prim.Native.Nat.{ℕ}
 use Rattle.codes.specs.Chain.{◌when◌, ◌orelse◌}
 use Rattle.codes.specs.declared.refusal.Refusal.{Refusal}
-use Rattle.codes.specs.Refusal.{refusalNumber}
+use Rattle.codes.specs.Refusal.{refusal_number}
 use Rattle.session.specs.declared.session.Answer.{Answer}
 use Rattle.calls.specs.Inner.Arrival.{Told}
-use Rattle.calls.proofs.Laws.Arrival.{told-refused}
+use Rattle.calls.proofs.Laws.Arrival.{told_refused}
 use Rattle.presenting.specs.declared.reply.Arrival.{Arrival}
 
-pub refused-so : (r : Refusal) (test : Bool) (rest : ℕ) (meant : Bool) (a : Arrival) → a ≡ record { answer = Answer.Refused r; accepted = false } → test ≡ false → Told (refusalNumber r when not test orelse rest) meant a.answer a.accepted
-refused-so r test rest meant a e h = subst (λ (x : Arrival). Told (refusalNumber r when not test orelse rest) meant x.answer x.accepted) (sym e) (told-refused r test rest meant false h)
+pub refused_so : (r : Refusal) (test : Bool) (rest : ℕ) (meant : Bool) (a : Arrival) → a ≡ record { answer = Answer.Refused r; accepted = false } → test ≡ false → Told (refusal_number r when not test orelse rest) meant a.answer a.accepted
+refused_so r test rest meant a e h = subst (λ (x : Arrival). Told (refusal_number r when not test orelse rest) meant x.answer x.accepted) (sym e) (told_refused r test rest meant false h)

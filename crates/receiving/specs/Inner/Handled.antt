@@ -3,12 +3,12 @@ use Rattle.std.specs.Prelude.{ℕ, List}
 use Rattle.session.specs.declared.parties.Parties.{Parties}
 use Rattle.session.specs.declared.running.Running.{Running}
 use Rattle.session.specs.declared.session.Receiving.{Receiving}
-use Rattle.session.specs.Receiving.{earnedCode, receivingCourse, receivingAfter}
+use Rattle.session.specs.Receiving.{earned_code, receiving_course, receiving_after}
 
 -- its direction, by the code that it earns
-abbrev pub newReceiving : (time : ℕ) (body : List ℕ) → Parties → Running → Receiving → Receiving
-newReceiving time body p running r = receivingAfter (earnedCode time body p running r) body running r
+abbrev pub new_receiving : (time : ℕ) (body : List ℕ) → Parties → Running → Receiving → Receiving
+new_receiving time body p running r = receiving_after (earned_code time body p running r) body running r
 
 -- and the running totals
-abbrev pub newRunning : (time : ℕ) (body : List ℕ) → Parties → Running → Receiving → Running
-newRunning time body p running r = (receivingCourse (earnedCode time body p running r) body running r).running
+abbrev pub new_running : (time : ℕ) (body : List ℕ) → Parties → Running → Receiving → Running
+new_running time body p running r = (receiving_course (earned_code time body p running r) body running r).running

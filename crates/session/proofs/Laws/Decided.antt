@@ -19,15 +19,15 @@ unfolding decided
 unrefused before done = refl
 
 -- A refused call changes nothing: the session, the running totals and the line buffer are those from before, and nothing is written.
-pub refused-keeps : (n : ℕ) (before : Held) (done : Outcome) → (n ≡ 0 → ⊥) → decided n before done ≡ refused n before
+pub refused_keeps : (n : ℕ) (before : Held) (done : Outcome) → (n ≡ 0 → ⊥) → decided n before done ≡ refused n before
 unfolding decided
-refused-keeps zero before done h = absurd (h refl)
-refused-keeps (suc k) before done h = refl
+refused_keeps zero before done h = absurd (h refl)
+refused_keeps (suc k) before done h = refl
 
 -- what an outcome says
-abbrev pub saidIn : Outcome → Said
-saidIn o = record { number = o.number; bytes = take o.written o.left.line }
+abbrev pub said_in : Outcome → Said
+said_in o = record { number = o.number; bytes = take o.written o.left.line }
 
 -- the bytes that were written are the first of the line buffer
-pub first-bytes : (bytes line : List ℕ) → length bytes ≤ length line → take (length bytes) (sets line 0 bytes) ≡ bytes
-first-bytes bytes line h = ap (take (length bytes)) (sets-eq bytes line 0 (omega arith)) ∙ take-append_seam bytes (drop (0 + length bytes) line)
+pub first_bytes : (bytes line : List ℕ) → length bytes ≤ length line → take (length bytes) (sets line 0 bytes) ≡ bytes
+first_bytes bytes line h = ap (take (length bytes)) (sets-eq bytes line 0 (omega arith)) ∙ take-append_seam bytes (drop (0 + length bytes) line)

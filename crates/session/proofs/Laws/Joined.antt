@@ -13,14 +13,14 @@ use Rattle.packed.specs.Every.{member}
 use Rattle.message.specs.declared.route.Route.{Route}
 use Rattle.message.specs.declared.envelope.Kind.{Kind}
 use Rattle.message.specs.declared.reply.ReplyOperation.{ReplyOperation}
-use Rattle.message.specs.Envelope.{serialOf, envelopeGood, envelopeOf, body_of}
+use Rattle.message.specs.Envelope.{serial_of, envelope_good, envelope_of, body_of}
 use Rattle.session.specs.declared.counters.Course.{Course}
 use Rattle.session.specs.declared.effect.Effect.{Effect}
 use Rattle.session.specs.declared.session.Presenting.{Presenting}
 use Rattle.session.specs.declared.session.Receiving.{Receiving}
 use Rattle.session.specs.declared.running.Running.{Running}
-use Rattle.session.specs.Receiving.{acceptedLots}
-use Rattle.session.specs.Ledger.{LedgerLot, Ledger, Entry, enter, bodyEntry, lotSum, numbers, Distinct}
+use Rattle.session.specs.Receiving.{accepted_lots}
+use Rattle.session.specs.Ledger.{LedgerLot, Ledger, Entry, enter, body_entry, lot_sum, numbers, Distinct}
 use Rattle.session.specs.Engine.{Call}
 use Rattle.session.specs.Ends.{End, Event, WrittenBefore}
 use Rattle.session.specs.Entering.{Waiting, PresenterLedger, ReceiverLedger}
@@ -30,28 +30,28 @@ use Rattle.session.proofs.Laws.Line.{accepts, MessageFact, ReplyFact}
 use Rattle.session.proofs.Laws.Lists.{up_to}
 
 -- what waits, as the presenter's state has it
-abbrev pub waitingEffect : Option Waiting → Ledger → Effect
-waitingEffect none b = Effect.Nothing
-waitingEffect (some m) b = effect_of m.entry b
+abbrev pub waiting_effect : Option Waiting → Ledger → Effect
+waiting_effect none b = Effect.Nothing
+waiting_effect (some m) b = effect_of m.entry b
 
 -- the operation of the reply to what waits
-abbrev pub replyFor : Entry → ReplyOperation
-replyFor (Entry.header number) = ReplyOperation.Other
-replyFor (Entry.detail ds) = ReplyOperation.Other
-replyFor Entry.lotTotal = ReplyOperation.LotTotal
-replyFor Entry.sessionTotal = ReplyOperation.SessionTotal
+abbrev pub reply_for : Entry → ReplyOperation
+reply_for (Entry.header number) = ReplyOperation.Other
+reply_for (Entry.detail ds) = ReplyOperation.Other
+reply_for Entry.lot_total = ReplyOperation.LotTotal
+reply_for Entry.session_total = ReplyOperation.SessionTotal
 
 -- the message that waits is on the line, and reads as its entry
 pub record OnLine (route : Route) (serial : ℕ) (m : Waiting) (trace : List Event) : Type 0 where
   pub written : WrittenBefore m.message trace
-  pub good : envelopeGood Kind.Message m.message ≡ true
-  pub way : (envelopeOf m.message).route ≡ route
-  pub numbered : serialOf m.message ≡ serial
-  pub reads : bodyEntry (body_of m.message) ≡ some m.entry
+  pub good : envelope_good Kind.Message m.message ≡ true
+  pub way : (envelope_of m.message).route ≡ route
+  pub numbered : serial_of m.message ≡ serial
+  pub reads : body_entry (body_of m.message) ≡ some m.entry
 
 pub record PresenterSide (p : Presenting) (t : Running) (b : PresenterLedger) : Type 0 where
   pub course : ◌≡◌ {A = Course} (record { counters = p.counters; running = t }) (summary b.ledger)
-  pub pending : p.pending ≡ waitingEffect b.waiting b.ledger
+  pub pending : p.pending ≡ waiting_effect b.waiting b.ledger
   pub once : Distinct (numbers b.ledger.lots)
 
 -- the open lot's number is no accepted lot's
@@ -62,20 +62,20 @@ NewNumber (some l) ls = member l.number (numbers ls) ≡ false
 -- what the receiver's own book says of its state
 pub record Mirrored (r : Receiving) (t : Running) (b : Ledger) : Type 0 where
   pub course : ◌≡◌ {A = Course} (record { counters = r.counters; running = t }) (summary b)
-  pub kept : acceptedLots r ≡ map lotSum b.lots
+  pub kept : accepted_lots r ≡ map lot_sum b.lots
   pub once : Distinct (numbers b.lots)
   pub new : NewNumber b.current b.lots
 
 -- the serials that were received end with the last
 pub record Seen (last : ℕ) (serials : List ℕ) : Type 0 where
   pub earlier : up_to last serials ≡ true
-  pub last-seen : (last ≡ 0) ⊎ (member last serials ≡ true)
+  pub last_seen : (last ≡ 0) ⊎ (member last serials ≡ true)
 
 -- nothing waits and the books are equal; or a message waits that was not received; or one that was, with the code that is kept
 pub data Link (p : Presenting) (r : Receiving) (waiting : Option Waiting) (confirming counting : Ledger) : Type 0 where
   idle : waiting ≡ none → p.serial ≡ r.serial → confirming ≡ counting → Link p r waiting confirming counting
   sent : (m : Waiting) → waiting ≡ some m → p.serial ≡ suc r.serial → confirming ≡ counting → Link p r waiting confirming counting
-  taken : (m : Waiting) → waiting ≡ some m → p.serial ≡ r.serial → counting ≡ enter m.entry (accepts r.reply.code) confirming → r.reply.operation ≡ replyFor m.entry → Link p r waiting confirming counting
+  taken : (m : Waiting) → waiting ≡ some m → p.serial ≡ r.serial → counting ≡ enter m.entry (accepts r.reply.code) confirming → r.reply.operation ≡ reply_for m.entry → Link p r waiting confirming counting
 
 -- the two ends of a direction: the record in the session, the running totals, and what was entered
 pub record PresentingEnd : Type 0 where
@@ -88,15 +88,15 @@ pub record ReceivingEnd : Type 0 where
   pub running : Running
   pub entered : ReceiverLedger
 
-abbrev pub presentingEnd : Presenting → Running → PresenterLedger → PresentingEnd
-presentingEnd p t b = record { state = p; running = t; entered = b }
+abbrev pub presenting_end : Presenting → Running → PresenterLedger → PresentingEnd
+presenting_end p t b = record { state = p; running = t; entered = b }
 
-abbrev pub receivingEnd : Receiving → Running → ReceiverLedger → ReceivingEnd
-receivingEnd r t b = record { state = r; running = t; entered = b }
+abbrev pub receiving_end : Receiving → Running → ReceiverLedger → ReceivingEnd
+receiving_end r t b = record { state = r; running = t; entered = b }
 
 -- a call at an end, with what it said
-abbrev pub eventOf : End → Call → (number : ℕ) (bytes : List ℕ) → Event
-eventOf x call number bytes = record { at = x; call = call; said = record { number = number; bytes = bytes } }
+abbrev pub event_of : End → Call → (number : ℕ) (bytes : List ℕ) → Event
+event_of x call number bytes = record { at = x; call = call; said = record { number = number; bytes = bytes } }
 
 pub record Joined (route : Route) (p : PresentingEnd) (r : ReceivingEnd) (trace : List Event) : Type 0 where
   pub presenter : PresenterSide p.state p.running p.entered
@@ -113,21 +113,21 @@ module _ (route : Route) (p : PresentingEnd) (r : ReceivingEnd) (trace : List Ev
   still x m w = let o = j.waits m w in record { written = inr o.written; good = o.good; way = o.way; numbered = o.numbered; reads = o.reads }
 
   -- a call that writes nothing of this direction
-  pub passed-by : (e : Event) → (e.said.number ≡ 0 → Foreign route e.said.bytes) → Joined route p r (e ∷ trace)
-  passed-by e foreign =
-      record { presenter = j.presenter; receiver = j.receiver; seen = j.seen; link = j.link; waits = still e; messages = all-messages; replies = all-replies }
+  pub passed_by : (e : Event) → (e.said.number ≡ 0 → Foreign route e.said.bytes) → Joined route p r (e ∷ trace)
+  passed_by e foreign =
+      record { presenter = j.presenter; receiver = j.receiver; seen = j.seen; link = j.link; waits = still e; messages = all_messages; replies = all_replies }
     where
-      all-messages : (bytes : List ℕ) → WrittenBefore bytes (e ∷ trace) → MessageFact route p.state.serial p.entered.waiting bytes
-      all-messages bytes (inl w) = subst (MessageFact route p.state.serial p.entered.waiting) w.1 (λ g way. absurd ((foreign w.0).no-message g way))
-      all-messages bytes (inr w) = j.messages bytes w
+      all_messages : (bytes : List ℕ) → WrittenBefore bytes (e ∷ trace) → MessageFact route p.state.serial p.entered.waiting bytes
+      all_messages bytes (inl w) = subst (MessageFact route p.state.serial p.entered.waiting) w.1 (λ g way. absurd ((foreign w.0).no_message g way))
+      all_messages bytes (inr w) = j.messages bytes w
 
-      all-replies : (bytes : List ℕ) → WrittenBefore bytes (e ∷ trace) → ReplyFact route r.state.serial r.state.reply.code bytes
-      all-replies bytes (inl w) = subst (ReplyFact route r.state.serial r.state.reply.code) w.1 (λ g way. absurd ((foreign w.0).no-reply g way))
-      all-replies bytes (inr w) = j.replies bytes w
+      all_replies : (bytes : List ℕ) → WrittenBefore bytes (e ∷ trace) → ReplyFact route r.state.serial r.state.reply.code bytes
+      all_replies bytes (inl w) = subst (ReplyFact route r.state.serial r.state.reply.code) w.1 (λ g way. absurd ((foreign w.0).no_reply g way))
+      all_replies bytes (inr w) = j.replies bytes w
 
   -- a refused call
-  pub refused-by : (e : Event) (k : ℕ) → e.said.number ≡ suc k → Joined route p r (e ∷ trace)
-  refused-by e k n = passed-by e (λ (z : e.said.number ≡ 0). absurd (never n z))
+  pub refused_by : (e : Event) (k : ℕ) → e.said.number ≡ suc k → Joined route p r (e ∷ trace)
+  refused_by e k n = passed_by e (λ (z : e.said.number ≡ 0). absurd (never n z))
     where
       never : {m l : ℕ} → m ≡ suc l → m ≡ 0 → ⊥
       never a b = omega arith

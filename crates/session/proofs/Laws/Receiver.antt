@@ -14,55 +14,55 @@ use Rattle.packed.specs.Every.{member}
 use Rattle.message.specs.declared.route.Route.{Route}
 use Rattle.message.specs.declared.envelope.Kind.{Kind}
 use Rattle.message.specs.declared.reply.Reply.{Reply}
-use Rattle.message.specs.Envelope.{serialOf, envelopeGood, envelopeOf, body_of}
-use Rattle.message.specs.Content.{contentOf}
+use Rattle.message.specs.Envelope.{serial_of, envelope_good, envelope_of, body_of}
+use Rattle.message.specs.Content.{content_of}
 use Rattle.message.specs.declared.reply.ReplyOperation.{ReplyOperation}
-use Rattle.message.specs.Reply.{writtenReplyBody}
-use Rattle.message.specs.Line.{wholeMessage, wholeReply}
-use Rattle.message.proofs.Laws.Envelope.{serial-told, whole_length}
-use Rattle.session.specs.Parties.{Direction, receivingRoute}
+use Rattle.message.specs.Reply.{written_reply_body}
+use Rattle.message.specs.Line.{whole_message, whole_reply}
+use Rattle.message.proofs.Laws.Envelope.{serial_told, whole_length}
+use Rattle.session.specs.Parties.{Direction, receiving_route}
 use Rattle.session.specs.declared.counters.OpenLot.{OpenLot}
 use Rattle.session.specs.declared.session.Receiving.{Receiving}
-use Rattle.session.specs.Limits.{mostLots}
+use Rattle.session.specs.Limits.{most_lots}
 use Rattle.session.specs.declared.running.Running.{Running}
-use Rattle.session.specs.Sequence.{isOpen}
+use Rattle.session.specs.Sequence.{is_open}
 use Rattle.session.specs.Outcome.{Held, Outcome}
-use Rattle.session.specs.Time.{clockRefusal}
-use Rattle.session.specs.Sending.{nextEnvelope, sendRefusal, send, Send, sendStop, sentBody, sendMessage}
-use Rattle.session.specs.Receiving.{isNext, earnedCode, receivedEffect, receivingCourse, receivingAfter, receiveRefusal, receive, afterNew, afterRepeat, replying}
-use Rattle.session.specs.Reply.{isAccepted, replyRefusal, takeReply}
+use Rattle.session.specs.Time.{clock_refusal}
+use Rattle.session.specs.Sending.{next_envelope, send_refusal, send, Send, send_stop, sent_body, send_message}
+use Rattle.session.specs.Receiving.{is_next, earned_code, received_effect, receiving_course, receiving_after, receive_refusal, receive, after_new, after_repeat, replying}
+use Rattle.session.specs.Reply.{is_accepted, reply_refusal, take_reply}
 use Rattle.session.specs.Clock.{clock}
 use Rattle.session.specs.Premise.{OpenSound}
-use Rattle.session.specs.Ledger.{Entry, enterRead, bodyEntry, receivedEntry}
+use Rattle.session.specs.Ledger.{Entry, enter_read, body_entry, received_entry}
 use Rattle.message.specs.declared.content.Content.{Content}
-use Rattle.message.specs.Reply.{operationFor}
-use Rattle.session.specs.Engine.{Call, Engine, saidBy, meaning, lent, performed, Ready}
+use Rattle.message.specs.Reply.{operation_for}
+use Rattle.session.specs.Engine.{Call, Engine, said_by, meaning, lent, performed, Ready}
 use Rattle.session.specs.Ends.{End, Event, WrittenBefore, Brought}
-use Rattle.session.specs.Entering.{ReceiverLedger, firstReceived, receiverEnters}
-use Rattle.session.proofs.Laws.Decided.{either, saidIn, first-bytes}
-use Rattle.session.proofs.Laws.Refusals.{send-told, ReceiveTold, receive-told, last-told}
-use Rattle.session.proofs.Laws.Allowed.{Allowed, received-allowed}
-use Rattle.session.proofs.Laws.Line.{accepts, MessageFact, ReplyFact, reply-no-message, serial-read, code_read}
-use Rattle.session.proofs.Laws.Lists.{next-unseen, up-to-next}
-use Rattle.session.proofs.Laws.Joined.{replyFor, still, eventOf, Mirrored, Link, Joined, passed-by, refused-by, not_entered, PresentingEnd, ReceivingEnd, receivingEnd}
-use Rattle.session.proofs.Laws.Mirror.{course-mirrors, lots-mirror, numbers-mirror, free-header}
-use Rattle.session.proofs.Laws.Foreign.{Foreign, nothing-foreign, message-foreign, reply-fits}
+use Rattle.session.specs.Entering.{ReceiverLedger, first_received, receiver_enters}
+use Rattle.session.proofs.Laws.Decided.{either, said_in, first_bytes}
+use Rattle.session.proofs.Laws.Refusals.{send_told, ReceiveTold, receive_told, last_told}
+use Rattle.session.proofs.Laws.Allowed.{Allowed, received_allowed}
+use Rattle.session.proofs.Laws.Line.{accepts, MessageFact, ReplyFact, reply_no_message, serial_read, code_read}
+use Rattle.session.proofs.Laws.Lists.{next_unseen, up_to_next}
+use Rattle.session.proofs.Laws.Joined.{reply_for, still, event_of, Mirrored, Link, Joined, passed_by, refused_by, not_entered, PresentingEnd, ReceivingEnd, receiving_end}
+use Rattle.session.proofs.Laws.Mirror.{course_mirrors, lots_mirror, numbers_mirror, free_header}
+use Rattle.session.proofs.Laws.Foreign.{Foreign, nothing_foreign, message_foreign, reply_fits}
 
 -- an open lot has a place among the accepted ones
-has_room : (lot : OpenLot) (lots : ℕ) → OpenSound lot lots → isOpen lot ≡ true → lots < mostLots
+has_room : (lot : OpenLot) (lots : ℕ) → OpenSound lot lots → is_open lot ≡ true → lots < most_lots
 has_room OpenLot.None lots s e = absurd (false≢true e)
 has_room (OpenLot.Numbered n) lots s e = s.1
 
 -- the reply to a body has the operation of what it is read as
-abbrev pub replyForRead : Option Entry → ReplyOperation
-replyForRead none = ReplyOperation.Other
-replyForRead (some e) = replyFor e
+abbrev pub reply_for_read : Option Entry → ReplyOperation
+reply_for_read none = ReplyOperation.Other
+reply_for_read (some e) = reply_for e
 
-pub reply-entry : (body : List ℕ) → operationFor (contentOf body) ≡ replyForRead (bodyEntry body)
-unfolding receivedEntry
-reply-entry body = go (contentOf body)
+pub reply_entry : (body : List ℕ) → operation_for (content_of body) ≡ reply_for_read (body_entry body)
+unfolding received_entry
+reply_entry body = go (content_of body)
   where
-    go : (c : Content) → operationFor c ≡ replyForRead (receivedEntry c body)
+    go : (c : Content) → operation_for c ≡ reply_for_read (received_entry c body)
     go Content.Header = refl
     go Content.Detail = refl
     go Content.LotTotal = refl
@@ -71,7 +71,7 @@ reply-entry body = go (contentOf body)
 
 module _ (x : End) (e : Engine) (ready : Ready e) (different : e.session.parties.own ≡ e.session.parties.partner → ⊥) (p : PresentingEnd) (br : ReceiverLedger) (trace : List Event) where
   abbrev route : Route
-  route = receivingRoute e.session.parties
+  route = receiving_route e.session.parties
 
   abbrev r : Receiving
   r = e.session.receiving
@@ -80,40 +80,40 @@ module _ (x : End) (e : Engine) (ready : Ready e) (different : e.session.parties
   rt = e.receiving
 
   abbrev here : ReceivingEnd
-  here = receivingEnd r rt br
+  here = receiving_end r rt br
 
   module _ (j : Joined route p here trace) where
     abbrev After : Call → Running → Outcome → Type 0
-    After call t o = Joined route p (receivingEnd o.left.session.receiving t (cond (eqb o.number 0) (receiverEnters call (saidIn o).bytes br) br)) (record { at = x; call = call; said = saidIn o } ∷ trace)
+    After call t o = Joined route p (receiving_end o.left.session.receiving t (cond (eqb o.number 0) (receiver_enters call (said_in o).bytes br) br)) (record { at = x; call = call; said = said_in o } ∷ trace)
 
-    refused-after : (call : Call) (k : ℕ) → Joined route p (receivingEnd r rt (cond (eqb (suc k) 0) (receiverEnters call [] br) br)) (eventOf x call (suc k) [] ∷ trace)
-    refused-after call k = subst (λ (b : ReceiverLedger). Joined route p (receivingEnd r rt b) (eventOf x call (suc k) [] ∷ trace)) (sym (not_entered k (receiverEnters call [] br) br)) (refused-by route p here trace j (eventOf x call (suc k) []) k refl)
+    refused_after : (call : Call) (k : ℕ) → Joined route p (receiving_end r rt (cond (eqb (suc k) 0) (receiver_enters call [] br) br)) (event_of x call (suc k) [] ∷ trace)
+    refused_after call k = subst (λ (b : ReceiverLedger). Joined route p (receiving_end r rt b) (event_of x call (suc k) [] ∷ trace)) (sym (not_entered k (receiver_enters call [] br) br)) (refused_by route p here trace j (event_of x call (suc k) []) k refl)
 
     -- what is sent from here is of the other direction
-    send-after : (time : ℕ) (m : Send) (line : List ℕ) → After (Call.send time m) rt (sendMessage time m (lent Direction.presenting line e))
-    unfolding sendMessage send
-    send-after time m line =
+    send_after : (time : ℕ) (m : Send) (line : List ℕ) → After (Call.send time m) rt (send_message time m (lent Direction.presenting line e))
+    unfolding send_message send
+    send_after time m line =
         let h = lent Direction.presenting line e in
-        let bytes = wholeMessage (nextEnvelope e.session) (sentBody m h) in
-        either (After (Call.send time m) rt) (sendRefusal time (sendStop m time h) (length bytes) (length h.line) h.session) h _
-        (λ (k : ℕ). refused-after (Call.send time m) k)
-        (λ (z : sendRefusal time (sendStop m time h) (length bytes) (length h.line) h.session ≡ 0).
-        let told = send-told time (sendStop m time h) (length bytes) h z in
-        passed-by route p here trace j _ (λ (n : 0 ≡ 0). subst (Foreign route) (sym (first-bytes bytes line told.room)) (message-foreign e.session ready.sound different (sentBody m h) told.more)))
+        let bytes = whole_message (next_envelope e.session) (sent_body m h) in
+        either (After (Call.send time m) rt) (send_refusal time (send_stop m time h) (length bytes) (length h.line) h.session) h _
+        (λ (k : ℕ). refused_after (Call.send time m) k)
+        (λ (z : send_refusal time (send_stop m time h) (length bytes) (length h.line) h.session ≡ 0).
+        let told = send_told time (send_stop m time h) (length bytes) h z in
+        passed_by route p here trace j _ (λ (n : 0 ≡ 0). subst (Foreign route) (sym (first_bytes bytes line told.room)) (message_foreign e.session ready.sound different (sent_body m h) told.more)))
 
-    reply-after : (time : ℕ) (bytes line : List ℕ) → After (Call.reply time bytes) rt (takeReply time bytes (lent Direction.presenting line e))
-    unfolding takeReply
-    reply-after time bytes line =
-        either (After (Call.reply time bytes) rt) (replyRefusal time bytes e.session) (lent Direction.presenting line e) _
-        (λ (k : ℕ). refused-after (Call.reply time bytes) k)
-        (λ (z : replyRefusal time bytes e.session ≡ 0). passed-by route p here trace j _ (λ (n : 0 ≡ 0). nothing-foreign route))
+    reply_after : (time : ℕ) (bytes line : List ℕ) → After (Call.reply time bytes) rt (take_reply time bytes (lent Direction.presenting line e))
+    unfolding take_reply
+    reply_after time bytes line =
+        either (After (Call.reply time bytes) rt) (reply_refusal time bytes e.session) (lent Direction.presenting line e) _
+        (λ (k : ℕ). refused_after (Call.reply time bytes) k)
+        (λ (z : reply_refusal time bytes e.session ≡ 0). passed_by route p here trace j _ (λ (n : 0 ≡ 0). nothing_foreign route))
 
-    tick-after : (time : ℕ) (line : List ℕ) → After (Call.clock time) rt (clock time (lent Direction.presenting line e))
+    tick_after : (time : ℕ) (line : List ℕ) → After (Call.clock time) rt (clock time (lent Direction.presenting line e))
     unfolding clock
-    tick-after time line =
-        either (After (Call.clock time) rt) (clockRefusal time e.session.seen e.session.close) (lent Direction.presenting line e) _
-        (λ (k : ℕ). refused-after (Call.clock time) k)
-        (λ (z : clockRefusal time e.session.seen e.session.close ≡ 0). passed-by route p here trace j _ (λ (n : 0 ≡ 0). nothing-foreign route))
+    tick_after time line =
+        either (After (Call.clock time) rt) (clock_refusal time e.session.seen e.session.close) (lent Direction.presenting line e) _
+        (λ (k : ℕ). refused_after (Call.clock time) k)
+        (λ (z : clock_refusal time e.session.seen e.session.close ≡ 0). passed_by route p here trace j _ (λ (n : 0 ≡ 0). nothing_foreign route))
 
     module _ (time : ℕ) (bytes line : List ℕ) (brought : WrittenBefore bytes trace) (told : ReceiveTold bytes (lent Direction.receiving line e)) where
       abbrev h : Held
@@ -123,137 +123,137 @@ module _ (x : End) (e : Engine) (ready : Ready e) (different : e.session.parties
       body = body_of bytes
 
       abbrev code : ℕ
-      code = earnedCode time body e.session.parties rt r
+      code = earned_code time body e.session.parties rt r
 
       -- the reply of this serial with some code, kept by the receiver, is on the line beside all earlier ones
-      module _ (after : Receiving) (reply : Reply) (serial : serialOf bytes ≡ after.serial) (keptReply : after.reply ≡ reply) where
+      module _ (after : Receiving) (reply : Reply) (serial : serial_of bytes ≡ after.serial) (kept_reply : after.reply ≡ reply) where
         abbrev whole : List ℕ
-        whole = wholeReply (envelopeOf bytes) reply
+        whole = whole_reply (envelope_of bytes) reply
 
         abbrev event : Event
-        event = eventOf x (Call.receive time bytes) 0 whole
+        event = event_of x (Call.receive time bytes) 0 whole
 
         fits : length whole ≤ length line
-        fits = omega (arith, told.room, whole_length Kind.Reply (envelopeOf bytes) (writtenReplyBody reply))
+        fits = omega (arith, told.room, whole_length Kind.Reply (envelope_of bytes) (written_reply_body reply))
 
-        all-messages : (b : List ℕ) → WrittenBefore b (event ∷ trace) → MessageFact route p.state.serial p.entered.waiting b
-        all-messages b (inl w) = subst (MessageFact route p.state.serial p.entered.waiting) w.1 (λ (g : envelopeGood Kind.Message whole ≡ true) (way : (envelopeOf whole).route ≡ route). absurd (reply-no-message (envelopeOf bytes) reply g))
-        all-messages b (inr w) = j.messages b w
+        all_messages : (b : List ℕ) → WrittenBefore b (event ∷ trace) → MessageFact route p.state.serial p.entered.waiting b
+        all_messages b (inl w) = subst (MessageFact route p.state.serial p.entered.waiting) w.1 (λ (g : envelope_good Kind.Message whole ≡ true) (way : (envelope_of whole).route ≡ route). absurd (reply_no_message (envelope_of bytes) reply g))
+        all_messages b (inr w) = j.messages b w
 
-        all-replies : ((b : List ℕ) → WrittenBefore b trace → ReplyFact route after.serial after.reply.code b) → (b : List ℕ) → WrittenBefore b (event ∷ trace) → ReplyFact route after.serial after.reply.code b
-        all-replies old b (inl w) =
+        all_replies : ((b : List ℕ) → WrittenBefore b trace → ReplyFact route after.serial after.reply.code b) → (b : List ℕ) → WrittenBefore b (event ∷ trace) → ReplyFact route after.serial after.reply.code b
+        all_replies old b (inl w) =
             subst (ReplyFact route after.serial after.reply.code) w.1
-            (λ (g : envelopeGood Kind.Reply whole ≡ true) (way : (envelopeOf whole).route ≡ route).
-            let read = serial-read Kind.Reply (envelopeOf bytes) (writtenReplyBody reply) (reply-fits e.session ready.sound bytes told.good told.way) ∙ serial in
-            (omega (arith, read), λ (s : serialOf whole ≡ after.serial). code_read (envelopeOf bytes) reply ∙ ap (λ (q : Reply). accepts q.code) (sym keptReply)))
-        all-replies old b (inr w) = old b w
+            (λ (g : envelope_good Kind.Reply whole ≡ true) (way : (envelope_of whole).route ≡ route).
+            let read = serial_read Kind.Reply (envelope_of bytes) (written_reply_body reply) (reply_fits e.session ready.sound bytes told.good told.way) ∙ serial in
+            (omega (arith, read), λ (s : serial_of whole ≡ after.serial). code_read (envelope_of bytes) reply ∙ ap (λ (q : Reply). accepts q.code) (sym kept_reply)))
+        all_replies old b (inr w) = old b w
 
       -- a new message is entered on both sides with the same code
       abbrev kept : Reply
-      kept = (receivingAfter code body rt r).reply
+      kept = (receiving_after code body rt r).reply
 
       abbrev entered : ReceiverLedger
-      entered = record { ledger = enterRead (bodyEntry body) (eqb code 0) br.ledger; serials = suc r.serial ∷ br.serials }
+      entered = record { ledger = enter_read (body_entry body) (eqb code 0) br.ledger; serials = suc r.serial ∷ br.serials }
 
-      replied-code : isAccepted (wholeReply (envelopeOf bytes) kept) ≡ eqb code 0
-      unfolding receivingAfter
-      replied-code = code_read (envelopeOf bytes) kept ∙ code-accepts code
+      replied_code : is_accepted (whole_reply (envelope_of bytes) kept) ≡ eqb code 0
+      unfolding receiving_after
+      replied_code = code_read (envelope_of bytes) kept ∙ code-accepts code
 
-      first-time : serialOf bytes ≡ suc r.serial → firstReceived (serialOf bytes) (bodyEntry body) (isAccepted (wholeReply (envelopeOf bytes) kept)) br ≡ entered
-      first-time next =
-          ap (λ (t : Bool). cond t br (record { ledger = enterRead (bodyEntry body) (isAccepted (wholeReply (envelopeOf bytes) kept)) br.ledger; serials = serialOf bytes ∷ br.serials })) (ap (λ (n : ℕ). member n br.serials) next ∙ next-unseen r.serial br.serials j.seen.earlier)
-          ∙ λ i. record { ledger = enterRead (bodyEntry body) (replied-code i) br.ledger; serials = next i ∷ br.serials }
+      first_time : serial_of bytes ≡ suc r.serial → first_received (serial_of bytes) (body_entry body) (is_accepted (whole_reply (envelope_of bytes) kept)) br ≡ entered
+      first_time next =
+          ap (λ (t : Bool). cond t br (record { ledger = enter_read (body_entry body) (is_accepted (whole_reply (envelope_of bytes) kept)) br.ledger; serials = serial_of bytes ∷ br.serials })) (ap (λ (n : ℕ). member n br.serials) next ∙ next_unseen r.serial br.serials j.seen.earlier)
+          ∙ λ i. record { ledger = enter_read (body_entry body) (replied_code i) br.ledger; serials = next i ∷ br.serials }
 
-      mirrored : Mirrored (receivingAfter code body rt r) (receivingCourse code body rt r).running entered.ledger
-      unfolding receivingAfter
+      mirrored : Mirrored (receiving_after code body rt r) (receiving_course code body rt r).running entered.ledger
+      unfolding receiving_after
       mirrored =
-          let c = contentOf body in
+          let c = content_of body in
           let m = j.receiver in
-          let allowed : eqb code 0 ≡ true → Allowed (receivedEffect c body rt) (record { counters = r.counters; running = rt }) = λ (t : eqb code 0 ≡ true). received-allowed time body e.session.parties rt r ready.receiving.fits c (eqb-true code 0 t) in
-          let numbers = numbers-mirror r rt br.ledger m body c (eqb code 0) allowed (λ (t : eqb code 0 ≡ true). free-header r rt br.ledger m body time e.session.parties c (eqb-true code 0 t)) in
+          let allowed : eqb code 0 ≡ true → Allowed (received_effect c body rt) (record { counters = r.counters; running = rt }) = λ (t : eqb code 0 ≡ true). received_allowed time body e.session.parties rt r ready.receiving.fits c (eqb-true code 0 t) in
+          let numbers = numbers_mirror r rt br.ledger m body c (eqb code 0) allowed (λ (t : eqb code 0 ≡ true). free_header r rt br.ledger m body time e.session.parties c (eqb-true code 0 t)) in
           record {
-            course = course-mirrors r rt br.ledger m body c (eqb code 0) allowed;
-            kept = lots-mirror r rt br.ledger m body c (eqb code 0) allowed (λ (o : isOpen r.counters.current ≡ true). omega (arith, has_room r.counters.current r.counters.lots ready.sound.receiving.open-lot o, ready.sound.places));
+            course = course_mirrors r rt br.ledger m body c (eqb code 0) allowed;
+            kept = lots_mirror r rt br.ledger m body c (eqb code 0) allowed (λ (o : is_open r.counters.current ≡ true). omega (arith, has_room r.counters.current r.counters.lots ready.sound.receiving.open_lot o, ready.sound.places));
             once = numbers.0;
             new = numbers.1;
           }
 
-      linked : serialOf bytes ≡ suc r.serial → Link p.state r p.entered.waiting p.entered.ledger br.ledger → Link p.state (receivingAfter code body rt r) p.entered.waiting p.entered.ledger entered.ledger
-      unfolding receivingAfter
+      linked : serial_of bytes ≡ suc r.serial → Link p.state r p.entered.waiting p.entered.ledger br.ledger → Link p.state (receiving_after code body rt r) p.entered.waiting p.entered.ledger entered.ledger
+      unfolding receiving_after
       linked next (Link.idle w s b) = absurd (omega (arith, next, s, (j.messages bytes brought told.good told.way).0))
       linked next (Link.taken d w s b o) = absurd (omega (arith, next, s, (j.messages bytes brought told.good told.way).0))
       linked next (Link.sent m w s b) =
-          let reads : bodyEntry body ≡ some m.entry = (j.messages bytes brought told.good told.way).1 m (next ∙ sym s) w in
-          Link.taken m w s (λ i. enterRead (reads i) (sym (code-accepts code) i) (sym b i)) (reply-entry body ∙ ap replyForRead reads)
+          let reads : body_entry body ≡ some m.entry = (j.messages bytes brought told.good told.way).1 m (next ∙ sym s) w in
+          Link.taken m w s (λ i. enter_read (reads i) (sym (code-accepts code) i) (sym b i)) (reply_entry body ∙ ap reply_for_read reads)
 
-      taken-joined : serialOf bytes ≡ suc r.serial → Joined route p (receivingEnd (receivingAfter code body rt r) (receivingCourse code body rt r).running entered) (eventOf x (Call.receive time bytes) 0 (wholeReply (envelopeOf bytes) kept) ∷ trace)
-      unfolding receivingAfter member
-      taken-joined next =
+      taken_joined : serial_of bytes ≡ suc r.serial → Joined route p (receiving_end (receiving_after code body rt r) (receiving_course code body rt r).running entered) (event_of x (Call.receive time bytes) 0 (whole_reply (envelope_of bytes) kept) ∷ trace)
+      unfolding receiving_after member
+      taken_joined next =
           record {
             presenter = j.presenter;
             receiver = mirrored;
-            seen = record { earlier = up-to-next r.serial br.serials j.seen.earlier; last-seen = inr (ap (λ (t : Bool). t || member (suc r.serial) br.serials) (eq-eqb (suc r.serial) (suc r.serial) refl)) };
+            seen = record { earlier = up_to_next r.serial br.serials j.seen.earlier; last_seen = inr (ap (λ (t : Bool). t || member (suc r.serial) br.serials) (eq-eqb (suc r.serial) (suc r.serial) refl)) };
             link = linked next j.link;
-            waits = still route p here trace j (eventOf x (Call.receive time bytes) 0 (wholeReply (envelopeOf bytes) kept));
-            messages = all-messages (receivingAfter code body rt r) kept next refl;
+            waits = still route p here trace j (event_of x (Call.receive time bytes) 0 (whole_reply (envelope_of bytes) kept));
+            messages = all_messages (receiving_after code body rt r) kept next refl;
             replies =
-                all-replies (receivingAfter code body rt r) kept next refl
-                (λ (b : List ℕ) (w : WrittenBefore b trace) (g : envelopeGood Kind.Reply b ≡ true) (way : (envelopeOf b).route ≡ route).
+                all_replies (receiving_after code body rt r) kept next refl
+                (λ (b : List ℕ) (w : WrittenBefore b trace) (g : envelope_good Kind.Reply b ≡ true) (way : (envelope_of b).route ≡ route).
                 let old = (j.replies b w g way).0 in
-                (omega (arith, old), λ (s : serialOf b ≡ suc r.serial). absurd (omega (arith, old, s))));
+                (omega (arith, old), λ (s : serial_of b ≡ suc r.serial). absurd (omega (arith, old, s))));
           }
 
       -- a repeat writes the kept reply once more and enters nothing
-      seen-before : serialOf bytes ≡ r.serial → member (serialOf bytes) br.serials ≡ true
-      seen-before same = ap (λ (n : ℕ). member n br.serials) same ∙ go j.seen.last-seen
+      seen_before : serial_of bytes ≡ r.serial → member (serial_of bytes) br.serials ≡ true
+      seen_before same = ap (λ (n : ℕ). member n br.serials) same ∙ go j.seen.last_seen
         where
           go : (r.serial ≡ 0) ⊎ (member r.serial br.serials ≡ true) → member r.serial br.serials ≡ true
-          go (inl z) = absurd (omega (arith, z, same, (serial-told Kind.Message bytes told.good).0))
+          go (inl z) = absurd (omega (arith, z, same, (serial_told Kind.Message bytes told.good).0))
           go (inr m) = m
 
-      not-again : serialOf bytes ≡ r.serial → (accepted : Bool) → firstReceived (serialOf bytes) (bodyEntry body) accepted br ≡ br
-      not-again same accepted = ap (λ (t : Bool). cond t br (record { ledger = enterRead (bodyEntry body) accepted br.ledger; serials = serialOf bytes ∷ br.serials })) (seen-before same)
+      not_again : serial_of bytes ≡ r.serial → (accepted : Bool) → first_received (serial_of bytes) (body_entry body) accepted br ≡ br
+      not_again same accepted = ap (λ (t : Bool). cond t br (record { ledger = enter_read (body_entry body) accepted br.ledger; serials = serial_of bytes ∷ br.serials })) (seen_before same)
 
-      repeated-joined : serialOf bytes ≡ r.serial → Joined route p here (eventOf x (Call.receive time bytes) 0 (wholeReply (envelopeOf bytes) r.reply) ∷ trace)
-      repeated-joined same =
+      repeated_joined : serial_of bytes ≡ r.serial → Joined route p here (event_of x (Call.receive time bytes) 0 (whole_reply (envelope_of bytes) r.reply) ∷ trace)
+      repeated_joined same =
           record {
             presenter = j.presenter;
             receiver = j.receiver;
             seen = j.seen;
             link = j.link;
-            waits = still route p here trace j (eventOf x (Call.receive time bytes) 0 (wholeReply (envelopeOf bytes) r.reply));
-            messages = all-messages r r.reply same refl;
-            replies = all-replies r r.reply same refl j.replies;
+            waits = still route p here trace j (event_of x (Call.receive time bytes) 0 (whole_reply (envelope_of bytes) r.reply));
+            messages = all_messages r r.reply same refl;
+            replies = all_replies r r.reply same refl j.replies;
           }
 
-    message-after : (time : ℕ) (bytes line : List ℕ) → WrittenBefore bytes trace → After (Call.receive time bytes) (receive time bytes (lent Direction.receiving line e)).left.running (receive time bytes (lent Direction.receiving line e))
-    unfolding receive receivingAfter
-    message-after time bytes line brought =
+    message_after : (time : ℕ) (bytes line : List ℕ) → WrittenBefore bytes trace → After (Call.receive time bytes) (receive time bytes (lent Direction.receiving line e)).left.running (receive time bytes (lent Direction.receiving line e))
+    unfolding receive receiving_after
+    message_after time bytes line brought =
         let h = lent Direction.receiving line e in
-        either (λ (o : Outcome). After (Call.receive time bytes) o.left.running o) (receiveRefusal time bytes (length h.line) h.session) h _
-        (λ (k : ℕ). refused-after (Call.receive time bytes) k)
-        (λ (z : receiveRefusal time bytes (length h.line) h.session ≡ 0). go (isNext bytes r.serial) refl (receive-told time bytes h z))
+        either (λ (o : Outcome). After (Call.receive time bytes) o.left.running o) (receive_refusal time bytes (length h.line) h.session) h _
+        (λ (k : ℕ). refused_after (Call.receive time bytes) k)
+        (λ (z : receive_refusal time bytes (length h.line) h.session ≡ 0). go (is_next bytes r.serial) refl (receive_told time bytes h z))
       where
-        go : (t : Bool) → isNext bytes r.serial ≡ t → ReceiveTold bytes (lent Direction.receiving line e) → let o = replying bytes (cond t (afterNew time (body_of bytes) (lent Direction.receiving line e)) (afterRepeat time (lent Direction.receiving line e))) in After (Call.receive time bytes) o.left.running o
+        go : (t : Bool) → is_next bytes r.serial ≡ t → ReceiveTold bytes (lent Direction.receiving line e) → let o = replying bytes (cond t (after_new time (body_of bytes) (lent Direction.receiving line e)) (after_repeat time (lent Direction.receiving line e))) in After (Call.receive time bytes) o.left.running o
         go true n told =
-            let next = eqb-true (serialOf bytes) (suc r.serial) n in
-            let code = earnedCode time (body_of bytes) e.session.parties rt r in
-            let after = receivingAfter code (body_of bytes) rt r in
-            let running = (receivingCourse code (body_of bytes) rt r).running in
-            let whole = wholeReply (envelopeOf bytes) after.reply in
-            subst (λ (w : List ℕ). Joined route p (receivingEnd after running (receiverEnters (Call.receive time bytes) w br)) (eventOf x (Call.receive time bytes) 0 w ∷ trace)) (sym (first-bytes whole line (fits time bytes line brought told after after.reply next refl)))
-            (subst (λ (b : ReceiverLedger). Joined route p (receivingEnd after running b) (eventOf x (Call.receive time bytes) 0 whole ∷ trace)) (sym (first-time time bytes line brought told next)) (taken-joined time bytes line brought told next))
+            let next = eqb-true (serial_of bytes) (suc r.serial) n in
+            let code = earned_code time (body_of bytes) e.session.parties rt r in
+            let after = receiving_after code (body_of bytes) rt r in
+            let running = (receiving_course code (body_of bytes) rt r).running in
+            let whole = whole_reply (envelope_of bytes) after.reply in
+            subst (λ (w : List ℕ). Joined route p (receiving_end after running (receiver_enters (Call.receive time bytes) w br)) (event_of x (Call.receive time bytes) 0 w ∷ trace)) (sym (first_bytes whole line (fits time bytes line brought told after after.reply next refl)))
+            (subst (λ (b : ReceiverLedger). Joined route p (receiving_end after running b) (event_of x (Call.receive time bytes) 0 whole ∷ trace)) (sym (first_time time bytes line brought told next)) (taken_joined time bytes line brought told next))
         go false n told =
-            let same = last-told bytes r.serial n told.known in
-            let whole = wholeReply (envelopeOf bytes) r.reply in
-            let event : List ℕ → Event = λ (w : List ℕ). eventOf x (Call.receive time bytes) 0 w in
-            subst (λ (w : List ℕ). Joined route p (receivingEnd r rt (receiverEnters (Call.receive time bytes) w br)) (event w ∷ trace)) (sym (first-bytes whole line (fits time bytes line brought told r r.reply same refl)))
-            (subst (λ (b : ReceiverLedger). Joined route p (receivingEnd r rt b) (event whole ∷ trace)) (sym (not-again time bytes line brought told same (isAccepted whole))) (repeated-joined time bytes line brought told same))
+            let same = last_told bytes r.serial n told.known in
+            let whole = whole_reply (envelope_of bytes) r.reply in
+            let event : List ℕ → Event = λ (w : List ℕ). event_of x (Call.receive time bytes) 0 w in
+            subst (λ (w : List ℕ). Joined route p (receiving_end r rt (receiver_enters (Call.receive time bytes) w br)) (event w ∷ trace)) (sym (first_bytes whole line (fits time bytes line brought told r r.reply same refl)))
+            (subst (λ (b : ReceiverLedger). Joined route p (receiving_end r rt b) (event whole ∷ trace)) (sym (not_again time bytes line brought told same (is_accepted whole))) (repeated_joined time bytes line brought told same))
 
-    pub receiver-step : (call : Call) (line : List ℕ) → Brought call trace → let d = performed call line e in Joined route p (receivingEnd d.engine.session.receiving d.engine.receiving (cond (eqb (saidBy d).number 0) (receiverEnters call (saidBy d).bytes br) br)) (record { at = x; call = call; said = saidBy d } ∷ trace)
+    pub receiver_step : (call : Call) (line : List ℕ) → Brought call trace → let d = performed call line e in Joined route p (receiving_end d.engine.session.receiving d.engine.receiving (cond (eqb (said_by d).number 0) (receiver_enters call (said_by d).bytes br) br)) (record { at = x; call = call; said = said_by d } ∷ trace)
     unfolding performed meaning
-    receiver-step (Call.send time m) line brought = send-after time m line
-    receiver-step (Call.receive time bytes) line brought = message-after time bytes line brought
-    receiver-step (Call.reply time bytes) line brought = reply-after time bytes line
-    receiver-step (Call.clock time) line brought = tick-after time line
-    receiver-step Call.report line brought = passed-by route p here trace j _ (λ (n : 0 ≡ 0). nothing-foreign route)
+    receiver_step (Call.send time m) line brought = send_after time m line
+    receiver_step (Call.receive time bytes) line brought = message_after time bytes line brought
+    receiver_step (Call.reply time bytes) line brought = reply_after time bytes line
+    receiver_step (Call.clock time) line brought = tick_after time line
+    receiver_step Call.report line brought = passed_by route p here trace j _ (λ (n : 0 ≡ 0). nothing_foreign route)

@@ -4,34 +4,34 @@ use mathlib.Core.Bool.{Bool, true}
 use Prim.Native.Nat.{ℕ}
 use lib.Dec.{lit<}
 use Rattle.codes.specs.declared.code.Code.{Code}
-use Rattle.codes.proofs.Laws.Chain.{none-held, held}
+use Rattle.codes.proofs.Laws.Chain.{none_held, held}
 use Rattle.codes.proofs.Laws.Listed.{Listed, one, row}
 use Rattle.session.specs.declared.counters.OpenLot.{OpenLot}
 use Rattle.session.specs.declared.running.Running.{Running}
-use Rattle.session.specs.Sequence.{isOpen, isOpenLot, headerSequence, lotSequence, lotTotalSequence, sessionTotalSequence}
+use Rattle.session.specs.Sequence.{is_open, is_open_lot, header_sequence, lot_sequence, lot_total_sequence, session_total_sequence}
 
 -- what belongs into a lot finds one open, and a lot total that was received its own
-pub open_told : (ended : Bool) (lot : OpenLot) → lotSequence ended lot ≡ 0 → isOpen lot ≡ true
-unfolding lotSequence
-open_told ended lot e = none-held 7 (isOpen lot) (lit< tt) e
+pub open_told : (ended : Bool) (lot : OpenLot) → lot_sequence ended lot ≡ 0 → is_open lot ≡ true
+unfolding lot_sequence
+open_told ended lot e = none_held 7 (is_open lot) (lit< tt) e
 
-pub this-told : (ended : Bool) (number : ℕ) (lot : OpenLot) (t : Running) → lotTotalSequence ended number lot t ≡ 0 → isOpenLot number lot ≡ true
-unfolding lotTotalSequence
-this-told ended number lot t e = (held 7 (isOpenLot number lot) _ (lit< tt) e).0
+pub this_told : (ended : Bool) (number : ℕ) (lot : OpenLot) (t : Running) → lot_total_sequence ended number lot t ≡ 0 → is_open_lot number lot ≡ true
+unfolding lot_total_sequence
+this_told ended number lot t e = (held 7 (is_open_lot number lot) _ (lit< tt) e).0
 
 module _ (ended : Bool) (lot : OpenLot) where
-  pub header-listed : Listed (headerSequence ended lot)
-  unfolding headerSequence
-  header-listed = row Code.WrongSequence _ _ (one Code.WrongSequence _)
+  pub header_listed : Listed (header_sequence ended lot)
+  unfolding header_sequence
+  header_listed = row Code.WrongSequence _ _ (one Code.WrongSequence _)
 
-  pub lot-listed : Listed (lotSequence ended lot)
-  unfolding lotSequence
-  lot-listed = one Code.WrongSequence _
+  pub lot_listed : Listed (lot_sequence ended lot)
+  unfolding lot_sequence
+  lot_listed = one Code.WrongSequence _
 
-  pub lot-total-listed : (number : ℕ) (t : Running) → Listed (lotTotalSequence ended number lot t)
-  unfolding lotTotalSequence
-  lot-total-listed number t = row Code.WrongSequence _ _ (one Code.WrongSequence _)
+  pub lot_total_listed : (number : ℕ) (t : Running) → Listed (lot_total_sequence ended number lot t)
+  unfolding lot_total_sequence
+  lot_total_listed number t = row Code.WrongSequence _ _ (one Code.WrongSequence _)
 
-  pub session-total-listed : Listed (sessionTotalSequence ended lot)
-  unfolding sessionTotalSequence
-  session-total-listed = row Code.WrongSequence _ _ (one Code.WrongSequence _)
+  pub session_total_listed : Listed (session_total_sequence ended lot)
+  unfolding session_total_sequence
+  session_total_listed = row Code.WrongSequence _ _ (one Code.WrongSequence _)

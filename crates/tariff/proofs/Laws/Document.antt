@@ -10,106 +10,106 @@ use lib.ListN.{length}
 use borrow.Author.Tests.{eqb-true, eqb-false, le-leb}
 use Rattle.packed.specs.Part.{part}
 use Rattle.packed.specs.Every.{every}
-use Rattle.packed.specs.Digits.{areDigits}
+use Rattle.packed.specs.Digits.{are_digits}
 use Rattle.packed.proofs.Laws.Told.{both}
 use Rattle.codes.proofs.Laws.Chain.{all_held}
-use Rattle.document.specs.Limits.{documentBytes, largestNominal, largestCommission}
-use Rattle.document.specs.Fields.{fieldsGood, amountsGood}
-use Rattle.document.specs.Drawee.{draweeServed}
-use Rattle.document.specs.Amounts.{nominal, commission, totalsOf}
-use Rattle.document.proofs.Laws.Fields.{amounts-split}
-use Rattle.document.proofs.Laws.Amounts.{totals-below}
+use Rattle.document.specs.Limits.{document_bytes, largest_nominal, largest_commission}
+use Rattle.document.specs.Fields.{fields_good, amounts_good}
+use Rattle.document.specs.Drawee.{drawee_served}
+use Rattle.document.specs.Amounts.{nominal, commission, totals_of}
+use Rattle.document.proofs.Laws.Fields.{amounts_split}
+use Rattle.document.proofs.Laws.Amounts.{totals_below}
 use Rattle.tariff.specs.declared.row.Row.{Row}
 use Rattle.tariff.specs.declared.search.Rule.{Rule}
-use Rattle.tariff.specs.Tariff.{rows_of, goodTariff}
-use Rattle.tariff.specs.Commission.{ruleOf, keyKnown, due, withinLimits, commissioned}
-use Rattle.tariff.specs.Tray.{tariffKey, keyDigits, amountDigits, documentRefusal, withCommission, filledDocument, AfterFilling}
+use Rattle.tariff.specs.Tariff.{rows_of, good_tariff}
+use Rattle.tariff.specs.Commission.{rule_of, key_known, due, within_limits, commissioned}
+use Rattle.tariff.specs.Tray.{tariff_key, key_digits, amount_digits, document_refusal, with_commission, filled_document, AfterFilling}
 use Rattle.tariff.proofs.Laws.Rows.{rule_told}
-use Rattle.tariff.proofs.Laws.Commission.{given, due-most}
+use Rattle.tariff.proofs.Laws.Commission.{given, due_most}
 use Rattle.tariff.proofs.Laws.Judged.{nothing}
-use Rattle.tariff.proofs.Laws.Kept.{commissionPlace, key-kept, key-digits-kept, nominal-kept, nominal-digits-kept, fields-kept, served-kept, commission-written, commission-digits, amounts-written, written-again}
-use Rattle.tariff.proofs.Laws.Filled.{kept-key, written-key, filled-either}
+use Rattle.tariff.proofs.Laws.Kept.{commission_place, key_kept, key_digits_kept, nominal_kept_lem, nominal_digits_kept, fields_kept, served_kept, commission_written, commission_digits, amounts_written, written_again}
+use Rattle.tariff.proofs.Laws.Filled.{kept_key, written_key, filled_either}
 
 -- what a document that earns nothing is known by
-earns-nothing : (rows : List Row) (d : List ℕ) → documentRefusal rows d ≡ 0 → (keyDigits d ≡ true) × (amountDigits d ≡ true) × (keyKnown rows (tariffKey d) ≡ true)
-unfolding documentRefusal
-earns-nothing rows d e =
-    all_held 1 3 41 (keyDigits d) (amountDigits d) (keyKnown rows (tariffKey d)) (lit< tt) (lit< tt) (lit< tt) e
+earns_nothing : (rows : List Row) (d : List ℕ) → document_refusal rows d ≡ 0 → (key_digits d ≡ true) × (amount_digits d ≡ true) × (key_known rows (tariff_key d) ≡ true)
+unfolding document_refusal
+earns_nothing rows d e =
+    all_held 1 3 41 (key_digits d) (amount_digits d) (key_known rows (tariff_key d)) (lit< tt) (lit< tt) (lit< tt) e
 
-module _ (tariff d : List ℕ) (good : goodTariff tariff ≡ true) (whole : length d ≡ documentBytes) (none : documentRefusal (rows_of tariff) d ≡ 0) where
+module _ (tariff d : List ℕ) (good : good_tariff tariff ≡ true) (whole : length d ≡ document_bytes) (none : document_refusal (rows_of tariff) d ≡ 0) where
   abbrev rows : List Row
   rows = rows_of tariff
 
   abbrev worth : ℕ
-  worth = due (ruleOf rows (tariffKey d)) (nominal d) (commission d)
+  worth = due (rule_of rows (tariff_key d)) (nominal d) (commission d)
 
-  digits : (areDigits (part 25 6 d) ≡ true) × (areDigits (part commissionPlace 4 d) ≡ true)
-  digits = both (areDigits (part 25 6 d)) (areDigits (part commissionPlace 4 d)) (earns-nothing rows d none).1
+  digits : (are_digits (part 25 6 d) ≡ true) × (are_digits (part commission_place 4 d) ≡ true)
+  digits = both (are_digits (part 25 6 d)) (are_digits (part commission_place 4 d)) (earns_nothing rows d none).1
 
-  amounts-small : (nominal d ≤ largestNominal) × (commission d ≤ largestCommission)
-  unfolding totalsOf every
-  amounts-small =
-      let good : amountsGood 0 0 d ≡ true = amounts-split 0 0 d ∙ (λ i. digits.0 i && digits.1 i) in
-      let t = totals-below 0 0 (d ∷ []) (rw good) in
+  amounts_small : (nominal d ≤ largest_nominal) × (commission d ≤ largest_commission)
+  unfolding totals_of every
+  amounts_small =
+      let good : amounts_good 0 0 d ≡ true = amounts_split 0 0 d ∙ (λ i. digits.0 i && digits.1 i) in
+      let t = totals_below 0 0 (d ∷ []) (rw good) in
       (omega (arith, t.1), omega (arith, t.2))
 
   -- the commission of the filled document is the one that is due
-  worth-read : commission (filledDocument rows d) ≡ worth
-  unfolding ruleOf due
-  worth-read = go (eqb (tariffKey d) 0) refl
+  worth_read : commission (filled_document rows d) ≡ worth
+  unfolding rule_of due
+  worth_read = go (eqb (tariff_key d) 0) refl
     where
-      go : (t : Bool) → eqb (tariffKey d) 0 ≡ t → commission (filledDocument rows d) ≡ worth
-      go true e = ap commission (sym (kept-key rows d (eqb-true (tariffKey d) 0 e))) ∙ rw e
+      go : (t : Bool) → eqb (tariff_key d) 0 ≡ t → commission (filled_document rows d) ≡ worth
+      go true e = ap commission (sym (kept_key rows d (eqb-true (tariff_key d) 0 e))) ∙ rw e
       go false e =
-          let most = due-most tariff (tariffKey d) (nominal d) (commission d) good amounts-small.1 in
-          ap commission (sym (written-key rows d (eqb-false (tariffKey d) 0 e))) ∙ commission-written worth d whole (omega (arith, most))
+          let most = due_most tariff (tariff_key d) (nominal d) (commission d) good amounts_small.1 in
+          ap commission (sym (written_key rows d (eqb-false (tariff_key d) 0 e))) ∙ commission_written worth d whole (omega (arith, most))
 
-  as-asked : commissioned tariff (tariffKey d) (nominal d) (commission d) ≡ record { code = 0; commission = commission (filledDocument rows d) }
-  as-asked =
-      let within : withinLimits (nominal d) (commission d) ≡ true = λ i. le-leb (nominal d) largestNominal amounts-small.0 i && le-leb (commission d) largestCommission amounts-small.1 i in
-      sym (given tariff (tariffKey d) (nominal d) (commission d) good within (earns-nothing rows d none).2)
-      ∙ (λ i. record { code = 0; commission = sym worth-read i })
+  as_asked : commissioned tariff (tariff_key d) (nominal d) (commission d) ≡ record { code = 0; commission = commission (filled_document rows d) }
+  as_asked =
+      let within : within_limits (nominal d) (commission d) ≡ true = λ i. le-leb (nominal d) largest_nominal amounts_small.0 i && le-leb (commission d) largest_commission amounts_small.1 i in
+      sym (given tariff (tariff_key d) (nominal d) (commission d) good within (earns_nothing rows d none).2)
+      ∙ (λ i. record { code = 0; commission = sym worth_read i })
 
-  pub after-filling : AfterFilling tariff d
-  after-filling =
+  pub after_filling : AfterFilling tariff d
+  after_filling =
       record {
-        asked = as-asked;
-        fields = λ o r. filled-either rows (λ (e : List ℕ). fieldsGood o r e ≡ fieldsGood o r d) d refl (λ c. fields-kept c d o r);
-        amounts = λ o r. filled-either rows (λ (e : List ℕ). amountsGood o r e ≡ true) d (amounts-split o r d ∙ (λ i. digits.0 i && digits.1 i)) (λ c. amounts-written c d whole o r digits.0);
-        served = λ o own rep. filled-either rows (λ (e : List ℕ). draweeServed o own rep e ≡ draweeServed o own rep d) d refl (λ c. served-kept c d o own rep);
-        nominalKept = filled-either rows (λ (e : List ℕ). nominal e ≡ nominal d) d refl (λ c. nominal-kept c d);
+        asked = as_asked;
+        fields = λ o r. filled_either rows (λ (e : List ℕ). fields_good o r e ≡ fields_good o r d) d refl (λ c. fields_kept c d o r);
+        amounts = λ o r. filled_either rows (λ (e : List ℕ). amounts_good o r e ≡ true) d (amounts_split o r d ∙ (λ i. digits.0 i && digits.1 i)) (λ c. amounts_written c d whole o r digits.0);
+        served = λ o own rep. filled_either rows (λ (e : List ℕ). drawee_served o own rep e ≡ drawee_served o own rep d) d refl (λ c. served_kept c d o own rep);
+        nominal_kept = filled_either rows (λ (e : List ℕ). nominal e ≡ nominal d) d refl (λ c. nominal_kept_lem c d);
       }
 
-  key-same : tariffKey (filledDocument rows d) ≡ tariffKey d
-  key-same = filled-either rows (λ (e : List ℕ). tariffKey e ≡ tariffKey d) d refl (λ c. key-kept c d)
+  key_same : tariff_key (filled_document rows d) ≡ tariff_key d
+  key_same = filled_either rows (λ (e : List ℕ). tariff_key e ≡ tariff_key d) d refl (λ c. key_kept c d)
 
   -- it earns nothing again
-  pub nothing-again : documentRefusal rows (filledDocument rows d) ≡ 0
-  nothing-again =
-      let e = filledDocument rows d in
-      let told = earns-nothing rows d none in
-      let keyed : keyDigits e ≡ true = filled-either rows (λ (e : List ℕ). keyDigits e ≡ true) d told.0 (λ c. key-digits-kept c d ∙ told.0) in
-      let amounts : amountDigits e ≡ true = filled-either rows (λ (e : List ℕ). amountDigits e ≡ true) d told.1 (λ c. λ i. (nominal-digits-kept c d ∙ digits.0) i && commission-digits c d whole i) in
-      sym (nothing rows e keyed amounts (ap (keyKnown rows) key-same ∙ told.2))
+  pub nothing_again : document_refusal rows (filled_document rows d) ≡ 0
+  nothing_again =
+      let e = filled_document rows d in
+      let told = earns_nothing rows d none in
+      let keyed : key_digits e ≡ true = filled_either rows (λ (e : List ℕ). key_digits e ≡ true) d told.0 (λ c. key_digits_kept c d ∙ told.0) in
+      let amounts : amount_digits e ≡ true = filled_either rows (λ (e : List ℕ). amount_digits e ≡ true) d told.1 (λ c. λ i. (nominal_digits_kept c d ∙ digits.0) i && commission_digits c d whole i) in
+      sym (nothing rows e keyed amounts (ap (key_known rows) key_same ∙ told.2))
 
   -- and is filled already: for a key other than 0 the typed commission does not count
-  typed-passed : (a b : ℕ) → (tariffKey d ≡ 0 → ⊥) → due (ruleOf rows (tariffKey d)) (nominal d) a ≡ due (ruleOf rows (tariffKey d)) (nominal d) b
+  typed_passed : (a b : ℕ) → (tariff_key d ≡ 0 → ⊥) → due (rule_of rows (tariff_key d)) (nominal d) a ≡ due (rule_of rows (tariff_key d)) (nominal d) b
   unfolding due
-  typed-passed a b other =
-      rule_told tariff (tariffKey d) good (λ (rule : Rule). due rule (nominal d) a ≡ due rule (nominal d) b) (λ z. absurd (other z)) refl (λ r g. refl)
+  typed_passed a b other =
+      rule_told tariff (tariff_key d) good (λ (rule : Rule). due rule (nominal d) a ≡ due rule (nominal d) b) (λ z. absurd (other z)) refl (λ r g. refl)
 
-  pub filled-again : filledDocument rows (filledDocument rows d) ≡ filledDocument rows d
-  filled-again = go (eqb (tariffKey d) 0) refl
+  pub filled_again : filled_document rows (filled_document rows d) ≡ filled_document rows d
+  filled_again = go (eqb (tariff_key d) 0) refl
     where
-      go : (t : Bool) → eqb (tariffKey d) 0 ≡ t → filledDocument rows (filledDocument rows d) ≡ filledDocument rows d
-      go true e = ap (filledDocument rows) (sym (kept-key rows d (eqb-true (tariffKey d) 0 e)))
+      go : (t : Bool) → eqb (tariff_key d) 0 ≡ t → filled_document rows (filled_document rows d) ≡ filled_document rows d
+      go true e = ap (filled_document rows) (sym (kept_key rows d (eqb-true (tariff_key d) 0 e)))
       go false n =
-          let e = withCommission worth d in
-          let other = eqb-false (tariffKey d) 0 n in
-          let first : e ≡ filledDocument rows d = written-key rows d other in
-          let same : due (ruleOf rows (tariffKey e)) (nominal e) (commission e) ≡ worth = (λ i. due (ruleOf rows (key-kept worth d i)) (nominal-kept worth d i) (commission e)) ∙ typed-passed (commission e) (commission d) other in
-          ap (filledDocument rows) (sym first)
-          ∙ sym (written-key rows e (λ z. other (sym (key-kept worth d) ∙ z)))
-          ∙ ap (λ (c : ℕ). withCommission c e) same
-          ∙ written-again worth d whole
+          let e = with_commission worth d in
+          let other = eqb-false (tariff_key d) 0 n in
+          let first : e ≡ filled_document rows d = written_key rows d other in
+          let same : due (rule_of rows (tariff_key e)) (nominal e) (commission e) ≡ worth = (λ i. due (rule_of rows (key_kept worth d i)) (nominal_kept_lem worth d i) (commission e)) ∙ typed_passed (commission e) (commission d) other in
+          ap (filled_document rows) (sym first)
+          ∙ sym (written_key rows e (λ z. other (sym (key_kept worth d) ∙ z)))
+          ∙ ap (λ (c : ℕ). with_commission c e) same
+          ∙ written_again worth d whole
           ∙ first

@@ -7,45 +7,45 @@ use lib.Dec.{eqb}
 use lib.ListN.{length}
 use borrow.Author.Tests.{eq-eqb, ne_eqb}
 use Rattle.codes.specs.Chain.{◌when◌, ◌orelse◌}
-use Rattle.document.specs.Limits.{documentBytes}
-use Rattle.document.specs.Part.{documentsOf}
+use Rattle.document.specs.Limits.{document_bytes}
+use Rattle.document.specs.Part.{documents_of}
 use Rattle.tariff.specs.declared.filled.FillAnswer.{FillAnswer}
 use Rattle.tariff.specs.declared.filled.FillShown.{FillShown}
-use Rattle.tariff.specs.Tariff.{rows_of, goodTariff}
-use Rattle.tariff.specs.Tray.{fillRefusal, fillShown, filled, filledDocument, trayAfter}
+use Rattle.tariff.specs.Tariff.{rows_of, good_tariff}
+use Rattle.tariff.specs.Tray.{fill_refusal, fill_shown, filled, filled_document, tray_after}
 use Rattle.tariff.specs.Inner.Judged.{judged}
 
 module _ (tariff tray : List ℕ) where
   abbrev Answered : FillAnswer → (after : List ℕ) → Type 0
-  Answered a after = (fillShown a ≡ filled tariff tray) × (after ≡ trayAfter tariff tray)
+  Answered a after = (fill_shown a ≡ filled tariff tray) × (after ≡ tray_after tariff tray)
 
-  pub wrong-tariff : goodTariff tariff ≡ false → Answered FillAnswer.WrongTariff tray
-  unfolding filled trayAfter fillRefusal ◌when◌ ◌orelse◌
-  wrong-tariff bad = rw bad (refl, refl)
+  pub wrong_tariff : good_tariff tariff ≡ false → Answered FillAnswer.WrongTariff tray
+  unfolding filled tray_after fill_refusal ◌when◌ ◌orelse◌
+  wrong_tariff bad = rw bad (refl, refl)
 
-  module _ (good : goodTariff tariff ≡ true) where
-    pub wrong-tray : (length tray % documentBytes ≡ 0 → ⊥) → Answered FillAnswer.WrongTray tray
-    unfolding filled trayAfter fillRefusal ◌when◌ ◌orelse◌
-    wrong-tray cut = rw (good, ne_eqb (length tray % documentBytes) 0 cut) (refl, refl)
+  module _ (good : good_tariff tariff ≡ true) where
+    pub wrong_tray : (length tray % document_bytes ≡ 0 → ⊥) → Answered FillAnswer.WrongTray tray
+    unfolding filled tray_after fill_refusal ◌when◌ ◌orelse◌
+    wrong_tray cut = rw (good, ne_eqb (length tray % document_bytes) 0 cut) (refl, refl)
 
     -- where tariff and tray are good, the documents decide
-    module _ (whole : length tray % documentBytes ≡ 0) where
-      pub documents-decide : filled tariff tray ≡ judged (rows_of tariff) (documentsOf tray)
-      unfolding filled fillRefusal ◌when◌ ◌orelse◌
-      documents-decide = rw (good, eq-eqb (length tray % documentBytes) 0 whole)
+    module _ (whole : length tray % document_bytes ≡ 0) where
+      pub documents_decide : filled tariff tray ≡ judged (rows_of tariff) (documents_of tray)
+      unfolding filled fill_refusal ◌when◌ ◌orelse◌
+      documents_decide = rw (good, eq-eqb (length tray % document_bytes) 0 whole)
 
-      module _ (a : FillAnswer) (found : fillShown a ≡ judged (rows_of tariff) (documentsOf tray)) where
-        shown : fillShown a ≡ filled tariff tray
-        shown = found ∙ sym documents-decide
+      module _ (a : FillAnswer) (found : fill_shown a ≡ judged (rows_of tariff) (documents_of tray)) where
+        shown : fill_shown a ≡ filled tariff tray
+        shown = found ∙ sym documents_decide
 
-        code : (fillShown a).code ≡ fillRefusal tariff tray
+        code : (fill_shown a).code ≡ fill_refusal tariff tray
         unfolding filled
         code = ap (λ (s : FillShown). s.code) shown
 
-        pub all-filled : eqb (fillShown a).code 0 ≡ true → Answered a (flat_map (filledDocument (rows_of tariff)) (documentsOf tray))
-        unfolding trayAfter
-        all-filled e = (shown, rw (sym (ap (λ (n : ℕ). eqb n 0) code) ∙ e))
+        pub all_filled : eqb (fill_shown a).code 0 ≡ true → Answered a (flat_map (filled_document (rows_of tariff)) (documents_of tray))
+        unfolding tray_after
+        all_filled e = (shown, rw (sym (ap (λ (n : ℕ). eqb n 0) code) ∙ e))
 
-        pub one-refused : eqb (fillShown a).code 0 ≡ false → Answered a tray
-        unfolding trayAfter
-        one-refused e = (shown, rw (sym (ap (λ (n : ℕ). eqb n 0) code) ∙ e))
+        pub one_refused : eqb (fill_shown a).code 0 ≡ false → Answered a tray
+        unfolding tray_after
+        one_refused e = (shown, rw (sym (ap (λ (n : ℕ). eqb n 0) code) ∙ e))

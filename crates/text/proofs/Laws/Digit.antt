@@ -5,7 +5,7 @@ use Prim.Native.Nat.{ℕ, ◌+◌, ◌-◌, ◌≤◌}
 use lib.Dec.{leb}
 use borrow.Author.Tests.{leb-true}
 use Rattle.packed.proofs.Laws.Told.{both}
-use Rattle.text.specs.Digit.{between, digitValue}
+use Rattle.text.specs.Digit.{between, digit_value}
 
 module _ (low high b : ℕ) where
   pub range : between low high b ≡ true → (low ≤ b) × (b ≤ high)
@@ -14,21 +14,21 @@ module _ (low high b : ℕ) where
       (leb-true low b told.0, leb-true b high told.1)
 
 module _ (b : ℕ) where
-  abbrev valueBy : Bool → Bool → Bool → ℕ
-  valueBy figure small large = cond figure (b - 48) (cond small (b - 97 + 10) (cond large (b - 65 + 10) 16))
+  abbrev value_by : Bool → Bool → Bool → ℕ
+  value_by figure small large = cond figure (b - 48) (cond small (b - 97 + 10) (cond large (b - 65 + 10) 16))
 
-  pub figure : between 48 57 b ≡ true → digitValue b ≡ b - 48
-  unfolding digitValue
-  figure e = λ t. valueBy (e t) (between 97 102 b) (between 65 70 b)
+  pub figure : between 48 57 b ≡ true → digit_value b ≡ b - 48
+  unfolding digit_value
+  figure e = λ t. value_by (e t) (between 97 102 b) (between 65 70 b)
 
-  pub small : between 48 57 b ≡ false → between 97 102 b ≡ true → digitValue b ≡ b - 97 + 10
-  unfolding digitValue
-  small e f = λ t. valueBy (e t) (f t) (between 65 70 b)
+  pub small : between 48 57 b ≡ false → between 97 102 b ≡ true → digit_value b ≡ b - 97 + 10
+  unfolding digit_value
+  small e f = λ t. value_by (e t) (f t) (between 65 70 b)
 
-  pub large : between 48 57 b ≡ false → between 97 102 b ≡ false → between 65 70 b ≡ true → digitValue b ≡ b - 65 + 10
-  unfolding digitValue
-  large e f g = λ t. valueBy (e t) (f t) (g t)
+  pub large : between 48 57 b ≡ false → between 97 102 b ≡ false → between 65 70 b ≡ true → digit_value b ≡ b - 65 + 10
+  unfolding digit_value
+  large e f g = λ t. value_by (e t) (f t) (g t)
 
-  pub no_digit : between 48 57 b ≡ false → between 97 102 b ≡ false → between 65 70 b ≡ false → digitValue b ≡ 16
-  unfolding digitValue
-  no_digit e f g = λ t. valueBy (e t) (f t) (g t)
+  pub no_digit : between 48 57 b ≡ false → between 97 102 b ≡ false → between 65 70 b ≡ false → digit_value b ≡ 16
+  unfolding digit_value
+  no_digit e f g = λ t. value_by (e t) (f t) (g t)

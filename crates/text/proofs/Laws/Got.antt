@@ -8,18 +8,18 @@ use lib.ListN.{length}
 use borrow.Author.Tests.{le-leb, lt-leb}
 use Rattle.text.specs.Got.{none, got, fitting}
 
-pub fitting-none : (most : ℕ) → fitting most none ≡ none
+pub fitting_none : (most : ℕ) → fitting most none ≡ none
 unfolding fitting
-fitting-none most = go (leb 0 most)
+fitting_none most = go (leb 0 most)
   where
     go : (b : Bool) → cond b none none ≡ none
     go true = refl
     go false = refl
 
-pub fitting-fits : (most : ℕ) (bytes : List ℕ) → length bytes ≤ most → fitting most (got bytes) ≡ got bytes
+pub fitting_fits : (most : ℕ) (bytes : List ℕ) → length bytes ≤ most → fitting most (got bytes) ≡ got bytes
 unfolding fitting
-fitting-fits most bytes h = ap (λ (b : Bool). cond b (got bytes) none) (le-leb (length bytes) most h)
+fitting_fits most bytes h = ap (λ (b : Bool). cond b (got bytes) none) (le-leb (length bytes) most h)
 
-pub fitting-over : (most : ℕ) (bytes : List ℕ) → most < length bytes → fitting most (got bytes) ≡ none
+pub fitting_over : (most : ℕ) (bytes : List ℕ) → most < length bytes → fitting most (got bytes) ≡ none
 unfolding fitting
-fitting-over most bytes h = ap (λ (b : Bool). cond b (got bytes) none) (lt-leb (length bytes) most h)
+fitting_over most bytes h = ap (λ (b : Bool). cond b (got bytes) none) (lt-leb (length bytes) most h)

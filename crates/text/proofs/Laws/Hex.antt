@@ -10,34 +10,34 @@ use lib.ListN.{length, take, drop, get_or, set}
 use lib.Seq.{sets, drop-cons}
 use borrow.Author.Tests.{ltb-true, ltb-false, lt-ltb, le-ltb}
 use Rattle.packed.specs.Every.{every}
-use Rattle.packed.proofs.Laws.Writing.{part-sets}
-use Rattle.text.specs.Digit.{digitValue, isHexadecimal}
-use Rattle.text.specs.Word.{sameBytes}
+use Rattle.packed.proofs.Laws.Writing.{part_sets}
+use Rattle.text.specs.Digit.{digit_value, is_hexadecimal}
+use Rattle.text.specs.Word.{equal_bytes}
 use Rattle.text.specs.Got.{Got, none, got, fitting}
-use Rattle.text.specs.Hex.{hexDigit, hexText, hexBytes, isPaired, hexWord}
-use Rattle.text.proofs.Laws.Got.{fitting-none, fitting-fits, fitting-over}
+use Rattle.text.specs.Hex.{hex_digit, hex_text, hex_bytes, is_paired, hex_word}
+use Rattle.text.proofs.Laws.Got.{fitting_none, fitting_fits, fitting_over}
 
-pub length-hex : (bs : List ℕ) → length (hexText bs) ≡ 2 * length bs
-unfolding hexText
-length-hex [] = omega arith
-length-hex (b ∷ bs) = omega (arith, length-hex bs)
+pub length_hex : (bs : List ℕ) → length (hex_text bs) ≡ 2 * length bs
+unfolding hex_text
+length_hex [] = omega arith
+length_hex (b ∷ bs) = omega (arith, length_hex bs)
 
 -- the two characters of the byte at i, and then the rest
-pub hex-step : (d bytes : List ℕ) (i k k₁ k₂ a b : ℕ) → i < length bytes → k₁ ≡ suc k → k₂ ≡ suc (suc k) → a ≡ hexDigit (get_or bytes i 0 / 16) → b ≡ hexDigit (get_or bytes i 0 % 16) → sets (set (set d k a) k₁ b) k₂ (hexText (drop (i + 1) bytes)) ≡ sets d k (hexText (drop i bytes))
-unfolding hexText
-hex-step d bytes i k k₁ k₂ a b h e₁ e₂ high low =
-    (λ t. sets (set (set d k (high t)) (e₁ t) (low t)) (e₂ t) (hexText (drop (add-one i t) bytes)))
-    ∙ ap (λ (l : List ℕ). sets d k (hexText l)) (sym (drop-cons bytes i 0 h))
+pub hex_step : (d bytes : List ℕ) (i k k₁ k₂ a b : ℕ) → i < length bytes → k₁ ≡ suc k → k₂ ≡ suc (suc k) → a ≡ hex_digit (get_or bytes i 0 / 16) → b ≡ hex_digit (get_or bytes i 0 % 16) → sets (set (set d k a) k₁ b) k₂ (hex_text (drop (i + 1) bytes)) ≡ sets d k (hex_text (drop i bytes))
+unfolding hex_text
+hex_step d bytes i k k₁ k₂ a b h e₁ e₂ high low =
+    (λ t. sets (set (set d k (high t)) (e₁ t) (low t)) (e₂ t) (hex_text (drop (add-one i t) bytes)))
+    ∙ ap (λ (l : List ℕ). sets d k (hex_text l)) (sym (drop-cons bytes i 0 h))
 
-pub length-bytes : (w : List ℕ) → length (hexBytes w) ≡ length w / 2
-unfolding hexBytes
-length-bytes [] = refl
-length-bytes (a ∷ []) = refl
-length-bytes (a ∷ b ∷ w) = omega (arith, length-bytes w)
+pub length_bytes : (w : List ℕ) → length (hex_bytes w) ≡ length w / 2
+unfolding hex_bytes
+length_bytes [] = refl
+length_bytes (a ∷ []) = refl
+length_bytes (a ∷ b ∷ w) = omega (arith, length_bytes w)
 
 -- the two digits of the byte at i, and then the rest
-pub pair-on : (w : List ℕ) (i : ℕ) → i * 2 + 1 < length w → drop (i * 2) w ≡ get_or w (i * 2) 0 ∷ get_or w (i * 2 + 1) 0 ∷ drop ((i + 1) * 2) w
-pair-on w i h =
+pub pair_on : (w : List ℕ) (i : ℕ) → i * 2 + 1 < length w → drop (i * 2) w ≡ get_or w (i * 2) 0 ∷ get_or w (i * 2 + 1) 0 ∷ drop ((i + 1) * 2) w
+pair_on w i h =
     let next : suc (i * 2) ≡ i * 2 + 1 = omega arith in
     let last : suc (i * 2 + 1) ≡ (i + 1) * 2 = omega arith in
     drop-cons w (i * 2) 0 (omega arith)
@@ -45,21 +45,21 @@ pair-on w i h =
     ∙ ap (λ (l : List ℕ). get_or w (i * 2) 0 ∷ l) (drop-cons w (i * 2 + 1) 0 h)
     ∙ ap (λ (k : ℕ). get_or w (i * 2) 0 ∷ get_or w (i * 2 + 1) 0 ∷ drop k w) last
 
-pub bytes_on : (d w : List ℕ) (i v : ℕ) → i * 2 + 1 < length w → v ≡ digitValue (get_or w (i * 2) 0) * 16 + digitValue (get_or w (i * 2 + 1) 0) → sets (set d i v) (i + 1) (hexBytes (drop ((i + 1) * 2) w)) ≡ sets d i (hexBytes (drop (i * 2) w))
-unfolding hexBytes
+pub bytes_on : (d w : List ℕ) (i v : ℕ) → i * 2 + 1 < length w → v ≡ digit_value (get_or w (i * 2) 0) * 16 + digit_value (get_or w (i * 2 + 1) 0) → sets (set d i v) (i + 1) (hex_bytes (drop ((i + 1) * 2) w)) ≡ sets d i (hex_bytes (drop (i * 2) w))
+unfolding hex_bytes
 bytes_on d w i v h e =
-    (λ t. sets (set d i (e t)) (add-one i t) (hexBytes (drop ((i + 1) * 2) w))) ∙ ap (λ (l : List ℕ). sets d i (hexBytes l)) (sym (pair-on w i h))
+    (λ t. sets (set d i (e t)) (add-one i t) (hex_bytes (drop ((i + 1) * 2) w))) ∙ ap (λ (l : List ℕ). sets d i (hex_bytes l)) (sym (pair_on w i h))
 
 -- where one of the two is no digit, and where both are
-module _ (w : List ℕ) (i high low : ℕ) (h : i * 2 + 1 < length w) (x : high ≡ digitValue (get_or w (i * 2) 0)) (y : low ≡ digitValue (get_or w (i * 2 + 1) 0)) where
-  pair : every isHexadecimal (drop (i * 2) w) ≡ ltb high 16 && (ltb low 16 && every isHexadecimal (drop ((i + 1) * 2) w))
+module _ (w : List ℕ) (i high low : ℕ) (h : i * 2 + 1 < length w) (x : high ≡ digit_value (get_or w (i * 2) 0)) (y : low ≡ digit_value (get_or w (i * 2 + 1) 0)) where
+  pair : every is_hexadecimal (drop (i * 2) w) ≡ ltb high 16 && (ltb low 16 && every is_hexadecimal (drop ((i + 1) * 2) w))
   unfolding every
-  pair = ap (every isHexadecimal) (pair-on w i h) ∙ (λ t. ltb (sym x t) 16 && (ltb (sym y t) 16 && every isHexadecimal (drop ((i + 1) * 2) w)))
+  pair = ap (every is_hexadecimal) (pair_on w i h) ∙ (λ t. ltb (sym x t) 16 && (ltb (sym y t) 16 && every is_hexadecimal (drop ((i + 1) * 2) w)))
 
-  pub pair-not : ltb 15 high || ltb 15 low ≡ true → every isHexadecimal (drop (i * 2) w) ≡ false
-  pair-not e = pair ∙ go (ltb 15 high) refl (ltb 15 low) refl e
+  pub pair_not : ltb 15 high || ltb 15 low ≡ true → every is_hexadecimal (drop (i * 2) w) ≡ false
+  pair_not e = pair ∙ go (ltb 15 high) refl (ltb 15 low) refl e
     where
-      go : (a : Bool) → ltb 15 high ≡ a → (b : Bool) → ltb 15 low ≡ b → a || b ≡ true → ltb high 16 && (ltb low 16 && every isHexadecimal (drop ((i + 1) * 2) w)) ≡ false
+      go : (a : Bool) → ltb 15 high ≡ a → (b : Bool) → ltb 15 low ≡ b → a || b ≡ true → ltb high 16 && (ltb low 16 && every is_hexadecimal (drop ((i + 1) * 2) w)) ≡ false
       go true e b f t = rw (le-ltb high 16 (ltb-true 15 high e))
       go false e true f t = rw (le-ltb low 16 (ltb-true 15 low f)) (and-false (ltb high 16))
       go false e false f t = absurd (false≢true t)
@@ -72,50 +72,50 @@ module _ (w : List ℕ) (i high low : ℕ) (h : i * 2 + 1 < length w) (x : high 
       go false e true f t = absurd (true≢false t)
       go false e false f t = (ltb-false 15 high e, ltb-false 15 low f)
 
-  pub digits-on : ltb 15 high || ltb 15 low ≡ false → every isHexadecimal (drop ((i + 1) * 2) w) ≡ every isHexadecimal (drop (i * 2) w)
-  digits-on e =
+  pub digits_on : ltb 15 high || ltb 15 low ≡ false → every is_hexadecimal (drop ((i + 1) * 2) w) ≡ every is_hexadecimal (drop (i * 2) w)
+  digits_on e =
       let told = pair_is e in
       sym (pair ∙ rw (lt-ltb high 16 (omega arith), lt-ltb low 16 (omega arith)))
 
 -- what a reading of pairs comes to: bytes that do not fit, a byte that is no digit, and all of them
 module _ (most : ℕ) (w : List ℕ) where
   abbrev pairs : Bool → Got
-  pairs b = fitting most (cond b (got (hexBytes w)) none)
+  pairs b = fitting most (cond b (got (hex_bytes w)) none)
 
-  pub pairs-over : most < length w / 2 → none ≡ pairs (every isHexadecimal w)
-  pairs-over h = go (every isHexadecimal w)
+  pub pairs_over : most < length w / 2 → none ≡ pairs (every is_hexadecimal w)
+  pairs_over h = go (every is_hexadecimal w)
     where
       go : (b : Bool) → none ≡ pairs b
-      go true = sym (fitting-over most (hexBytes w) (omega (arith, length-bytes w)))
-      go false = sym (fitting-none most)
+      go true = sym (fitting_over most (hex_bytes w) (omega (arith, length_bytes w)))
+      go false = sym (fitting_none most)
 
-  pub pairs-not : every isHexadecimal w ≡ false → none ≡ pairs (every isHexadecimal w)
-  pairs-not e = sym (ap pairs e ∙ fitting-none most)
+  pub pairs_not : every is_hexadecimal w ≡ false → none ≡ pairs (every is_hexadecimal w)
+  pairs_not e = sym (ap pairs e ∙ fitting_none most)
 
-  pub pairs-all : (d₀ d : List ℕ) → length d₀ ≡ most → length w / 2 ≤ most → every isHexadecimal w ≡ true → d ≡ sets d₀ 0 (hexBytes w) → got (take (length w / 2) d) ≡ pairs (every isHexadecimal w)
-  pairs-all d₀ d size h e written =
-      let fits : length (hexBytes w) ≤ most = omega (arith, length-bytes w) in
+  pub pairs_all : (d₀ d : List ℕ) → length d₀ ≡ most → length w / 2 ≤ most → every is_hexadecimal w ≡ true → d ≡ sets d₀ 0 (hex_bytes w) → got (take (length w / 2) d) ≡ pairs (every is_hexadecimal w)
+  pairs_all d₀ d size h e written =
+      let fits : length (hex_bytes w) ≤ most = omega (arith, length_bytes w) in
       ap (λ (l : List ℕ). got (take (length w / 2) l)) written
-      ∙ ap got (part-sets (hexBytes w) d₀ 0 (length w / 2) (length-bytes w) (omega arith))
-      ∙ sym (ap pairs e ∙ fitting-fits most (hexBytes w) fits)
+      ∙ ap got (part_sets (hex_bytes w) d₀ 0 (length w / 2) (length_bytes w) (omega arith))
+      ∙ sym (ap pairs e ∙ fitting_fits most (hex_bytes w) fits)
 
 -- what a word comes to: no bytes at all, pairs, or none
 module _ (w : List ℕ) where
-  abbrev wordBy : (dash paired : Bool) → Got
-  wordBy dash paired = cond dash (got []) (cond paired (cond (every isHexadecimal w) (got (hexBytes w)) none) none)
+  abbrev word_by : (dash paired : Bool) → Got
+  word_by dash paired = cond dash (got []) (cond paired (cond (every is_hexadecimal w) (got (hex_bytes w)) none) none)
 
-  pub hex-dash : sameBytes w (45 ∷ []) ≡ true → hexWord w ≡ got []
-  unfolding hexWord
-  hex-dash e = ap (λ (b : Bool). wordBy b (isPaired (length w))) e
+  pub hex_dash : equal_bytes w (45 ∷ []) ≡ true → hex_word w ≡ got []
+  unfolding hex_word
+  hex_dash e = ap (λ (b : Bool). word_by b (is_paired (length w))) e
 
-  pub hex-pairs : sameBytes w (45 ∷ []) ≡ false → isPaired (length w) ≡ true → hexWord w ≡ cond (every isHexadecimal w) (got (hexBytes w)) none
-  unfolding hexWord
-  hex-pairs e p = λ t. wordBy (e t) (p t)
+  pub hex_pairs : equal_bytes w (45 ∷ []) ≡ false → is_paired (length w) ≡ true → hex_word w ≡ cond (every is_hexadecimal w) (got (hex_bytes w)) none
+  unfolding hex_word
+  hex_pairs e p = λ t. word_by (e t) (p t)
 
-  pub hex-none : sameBytes w (45 ∷ []) ≡ false → isPaired (length w) ≡ false → hexWord w ≡ none
-  unfolding hexWord
-  hex-none e p = λ t. wordBy (e t) (p t)
+  pub hex_none : equal_bytes w (45 ∷ []) ≡ false → is_paired (length w) ≡ false → hex_word w ≡ none
+  unfolding hex_word
+  hex_none e p = λ t. word_by (e t) (p t)
 
-pub hex-nothing : hexWord [] ≡ none
-unfolding hexWord sameBytes
-hex-nothing = refl
+pub hex_nothing : hex_word [] ≡ none
+unfolding hex_word equal_bytes
+hex_nothing = refl

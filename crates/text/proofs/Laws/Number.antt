@@ -12,12 +12,12 @@ use lib.Seq.{drop-cons}
 use borrow.Author.Tests.{lt-ltb, le-ltb}
 use Rattle.packed.specs.Every.{every}
 use Rattle.text.specs.declared.number.Number.{Number}
-use Rattle.text.specs.Digit.{digitValue, isDecimal}
-use Rattle.text.specs.Number.{decimal, areDecimal, isSized, is_number, numberIf}
+use Rattle.text.specs.Digit.{digit_value, is_decimal}
+use Rattle.text.specs.Number.{decimal, are_decimal, is_sized, is_number, number_if}
 
 -- the two ends of the range, and digits of either kind
 example : decimal (49 ∷ 50 ∷ 48 ∷ []) ≡ 120
-unfolding decimal digitValue
+unfolding decimal digit_value
 example = refl
 
 -- a value v read so far, and the digits that are left
@@ -28,55 +28,55 @@ pub after_none : (v : ℕ) → after v [] ≡ v
 unfolding after decimal
 after_none v = add-zero (v * 1) ∙ mul-one v
 
-pub after-start : (bs : List ℕ) → after 0 bs ≡ decimal bs
+pub after_start : (bs : List ℕ) → after 0 bs ≡ decimal bs
 unfolding after
-after-start bs = rw (zero-mul, zero-add)
+after_start bs = rw (zero-mul, zero-add)
 
-after-step : (v b : ℕ) (bs : List ℕ) → after (v * 10 + digitValue b) bs ≡ after v (b ∷ bs)
+after_step : (v b : ℕ) (bs : List ℕ) → after (v * 10 + digit_value b) bs ≡ after v (b ∷ bs)
 unfolding after decimal
-after-step v b bs = simp (pow-succ', add-mul, mul_assoc, add_assoc)
+after_step v b bs = simp (pow-succ', add-mul, mul_assoc, add_assoc)
 
-pub after_on : (v d : ℕ) (w : List ℕ) (i : ℕ) → i < length w → d ≡ digitValue (get_or w i 0) → after (v * 10 + d) (drop (i + 1) w) ≡ after v (drop i w)
+pub after_on : (v d : ℕ) (w : List ℕ) (i : ℕ) → i < length w → d ≡ digit_value (get_or w i 0) → after (v * 10 + d) (drop (i + 1) w) ≡ after v (drop i w)
 after_on v d w i h e =
-    (λ t. after (v * 10 + e t) (drop (add-one i t) w)) ∙ after-step v (get_or w i 0) (drop (suc i) w) ∙ ap (after v) (sym (drop-cons w i 0 h))
+    (λ t. after (v * 10 + e t) (drop (add-one i t) w)) ∙ after_step v (get_or w i 0) (drop (suc i) w) ∙ ap (after v) (sym (drop-cons w i 0 h))
 
-pub after-end : (v : ℕ) (w : List ℕ) (i : ℕ) → length w ≤ i → after v (drop i w) ≡ v
-after-end v w i h = ap (after v) (drop_of_length-le w {i = i} h) ∙ after_none v
+pub after_end : (v : ℕ) (w : List ℕ) (i : ℕ) → length w ≤ i → after v (drop i w) ≡ v
+after_end v w i h = ap (after v) (drop_of_length-le w {i = i} h) ∙ after_none v
 
-pub after-least : (v : ℕ) (bs : List ℕ) → v ≤ after v bs
+pub after_least : (v : ℕ) (bs : List ℕ) → v ≤ after v bs
 unfolding after
-after-least v bs = omega (arith, mul-le-mul_left v (one-le-pow (length bs) 10 (lit< tt)))
+after_least v bs = omega (arith, mul-le-mul_left v (one-le-pow (length bs) 10 (lit< tt)))
 
 -- what a reading comes to: no digits, a value that does not fit, and a number
 module _ (w : List ℕ) where
-  pub no-digits : every isDecimal w ≡ false → record { good = false; value = 0 } ≡ numberIf (areDecimal w) (decimal w)
-  no-digits e = sym (ap (λ (b : Bool). numberIf (b && ltb (decimal w) (2 ^ 64)) (decimal w)) e)
+  pub no_digits_lem : every is_decimal w ≡ false → record { good = false; value = 0 } ≡ number_if (are_decimal w) (decimal w)
+  no_digits_lem e = sym (ap (λ (b : Bool). number_if (b && ltb (decimal w) (2 ^ 64)) (decimal w)) e)
 
-  pub too_large : 2 ^ 64 ≤ decimal w → record { good = false; value = 0 } ≡ numberIf (areDecimal w) (decimal w)
-  too_large h = sym (ap (λ (b : Bool). numberIf b (decimal w)) (ap (λ (b : Bool). every isDecimal w && b) (le-ltb (decimal w) (2 ^ 64) h) ∙ and-false (every isDecimal w)))
+  pub too_large : 2 ^ 64 ≤ decimal w → record { good = false; value = 0 } ≡ number_if (are_decimal w) (decimal w)
+  too_large h = sym (ap (λ (b : Bool). number_if b (decimal w)) (ap (λ (b : Bool). every is_decimal w && b) (le-ltb (decimal w) (2 ^ 64) h) ∙ and-false (every is_decimal w)))
 
-  pub a-number : (v : ℕ) → every isDecimal w ≡ true → v ≡ decimal w → v < 2 ^ 64 → record { good = true; value = v } ≡ numberIf (areDecimal w) (decimal w)
-  a-number v e same h =
+  pub a_number : (v : ℕ) → every is_decimal w ≡ true → v ≡ decimal w → v < 2 ^ 64 → record { good = true; value = v } ≡ number_if (are_decimal w) (decimal w)
+  a_number v e same h =
       (λ t. record { good = true; value = same t })
-      ∙ sym (λ t. numberIf (e t && lt-ltb (decimal w) (2 ^ 64) (rw same at h) t) (decimal w))
+      ∙ sym (λ t. number_if (e t && lt-ltb (decimal w) (2 ^ 64) (rw same at h) t) (decimal w))
 
 -- by the count of digits
-pub sized : (w : List ℕ) → isSized (length w) ≡ true → areDecimal w ≡ is_number w
+pub sized : (w : List ℕ) → is_sized (length w) ≡ true → are_decimal w ≡ is_number w
 unfolding is_number
-sized w e = sym (ap (λ (b : Bool). b && areDecimal w) e)
+sized w e = sym (ap (λ (b : Bool). b && are_decimal w) e)
 
-pub unsized : (w : List ℕ) → isSized (length w) ≡ false → is_number w ≡ false
+pub unsized : (w : List ℕ) → is_sized (length w) ≡ false → is_number w ≡ false
 unfolding is_number
-unsized w e = ap (λ (b : Bool). b && areDecimal w) e
+unsized w e = ap (λ (b : Bool). b && are_decimal w) e
 
 -- what a number that was read tells
-module _ (b : Bool) (v : ℕ) (r : Number) (said : r ≡ numberIf b v) where
-  pub told-good : r.good ≡ b
-  told-good = ap (λ (n : Number). n.good) said ∙ go b
+module _ (b : Bool) (v : ℕ) (r : Number) (said : r ≡ number_if b v) where
+  pub told_good : r.good ≡ b
+  told_good = ap (λ (n : Number). n.good) said ∙ go b
     where
-      go : (t : Bool) → (numberIf t v).good ≡ t
+      go : (t : Bool) → (number_if t v).good ≡ t
       go true = refl
       go false = refl
 
-  pub told-value : b ≡ true → r.value ≡ v
-  told-value e = ap (λ (n : Number). n.value) said ∙ ap (λ (t : Bool). (numberIf t v).value) e
+  pub told_value : b ≡ true → r.value ≡ v
+  told_value e = ap (λ (n : Number). n.value) said ∙ ap (λ (t : Bool). (number_if t v).value) e

@@ -13,12 +13,12 @@ module _ (p : ℕ → Bool) (l : List ℕ) (i : ℕ) where
   unfolding every
   step h = ap (every p) (drop-cons l i 0 h)
 
-  pub every-on : i < length l → p (get_or l i 0) ≡ true → every p (drop (i + 1) l) ≡ every p (drop i l)
-  every-on h e = ap (λ (k : ℕ). every p (drop k l)) (add-one i) ∙ sym (step h ∙ ap (λ (b : Bool). b && every p (drop (suc i) l)) e)
+  pub every_on : i < length l → p (get_or l i 0) ≡ true → every p (drop (i + 1) l) ≡ every p (drop i l)
+  every_on h e = ap (λ (k : ℕ). every p (drop k l)) (add-one i) ∙ sym (step h ∙ ap (λ (b : Bool). b && every p (drop (suc i) l)) e)
 
-  pub every-not : i < length l → p (get_or l i 0) ≡ false → every p (drop i l) ≡ false
-  every-not h e = step h ∙ ap (λ (b : Bool). b && every p (drop (suc i) l)) e
+  pub every_not : i < length l → p (get_or l i 0) ≡ false → every p (drop i l) ≡ false
+  every_not h e = step h ∙ ap (λ (b : Bool). b && every p (drop (suc i) l)) e
 
-  pub every-end : length l ≤ i → every p (drop i l) ≡ true
+  pub every_end : length l ≤ i → every p (drop i l) ≡ true
   unfolding every
-  every-end h = ap (every p) (drop_of_length-le l {i = i} h)
+  every_end h = ap (every p) (drop_of_length-le l {i = i} h)

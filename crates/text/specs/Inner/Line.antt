@@ -10,11 +10,11 @@ use Rattle.text.specs.declared.line.Data.{Data}
 use Rattle.text.specs.declared.line.Parts.{Parts}
 use Rattle.text.specs.declared.line.End.{End}
 use Rattle.text.specs.Ascii.{ascii}
-use Rattle.text.specs.Word.{sameBytes, words}
+use Rattle.text.specs.Word.{equal_bytes, words}
 use Rattle.text.specs.Number.{decimal, is_number}
-use Rattle.text.specs.Got.{Got, got, fitting, gotOf}
+use Rattle.text.specs.Got.{Got, got, fitting, got_of}
 use Rattle.text.specs.Kind.{shape_of}
-use Rattle.text.specs.Line.{mostRoom, first_of, bytesFrom, words_of, bytesIn, is_whole, numbersIn, isEnd}
+use Rattle.text.specs.Line.{most_room, first_of, bytes_from, words_of, bytes_in, is_whole, numbers_in, is_end}
 
 -- the sizes of what was read: numbers, as many as its kind asks for at least; bytes, of which at most so many fit; and the length of the line
 -- buffer
@@ -23,7 +23,7 @@ pub record Bounded (most : ℕ) (r : Line) : Type 0 where
   pub asked : (shape_of r.kind).asked ≤ r.count
   pub count : r.count ≤ 19
   pub bytes : r.bytes ≤ most
-  pub room : r.room ≤ mostRoom
+  pub room : r.room ≤ most_room
 
 -- the next words as numbers, at most so many, put one behind another from a place on
 pub record NumbersRead (ws : List (List ℕ)) (most first : ℕ) (before after line : List ℕ) (r : Numbers) : Type 0 where
@@ -37,7 +37,7 @@ pub record NumbersRead (ws : List (List ℕ)) (most first : ℕ) (before after l
 
 -- the bytes of a line, and where it goes on behind them
 pub record DataRead (held : ℕ → Got) (most : ℕ) (source : Source) (ws : List (List ℕ)) (buffer line : List ℕ) (r : Data) : Type 0 where
-  pub got : gotOf r.bytes buffer ≡ fitting most (bytesFrom held source ws)
+  pub got : got_of r.bytes buffer ≡ fitting most (bytes_from held source ws)
   pub rest : r.bytes.good ≡ true → words (drop r.at line) ≡ drop (words_of source) ws
   pub bytes : r.bytes.count ≤ most
   pub at : r.at ≤ length line
@@ -45,8 +45,8 @@ pub record DataRead (held : ℕ → Got) (most : ℕ) (source : Source) (ws : Li
 -- all behind the end
 pub record PartsRead (held : ℕ → Got) (most : ℕ) (s : Shape) (ws : List (List ℕ)) (buffer : List ℕ) (r : Parts) : Type 0 where
   pub good : r.good ≡ is_whole held most s ws
-  pub numbers : r.good ≡ true → take r.count r.numbers ≡ numbersIn s ws
-  pub got : r.good ≡ true → take r.bytes buffer ≡ (bytesIn held most s ws).bytes
+  pub numbers : r.good ≡ true → take r.count r.numbers ≡ numbers_in s ws
+  pub got : r.good ≡ true → take r.bytes buffer ≡ (bytes_in held most s ws).bytes
   pub size : length r.numbers ≡ 19
   pub asked : s.asked ≤ r.count
   pub count : r.count ≤ 19
@@ -54,7 +54,7 @@ pub record PartsRead (held : ℕ → Got) (most : ℕ) (s : Shape) (ws : List (L
 
 -- the end
 pub record EndRead (ws : List (List ℕ)) (line : List ℕ) (r : End) : Type 0 where
-  pub good : r.good ≡ isEnd (first_of ws)
-  pub near : r.near ≡ sameBytes (first_of ws) (ascii "A")
+  pub good : r.good ≡ is_end (first_of ws)
+  pub near : r.near ≡ equal_bytes (first_of ws) (ascii "A")
   pub rest : r.good ≡ true → words (drop r.at line) ≡ drop 1 ws
   pub at : r.at ≤ length line

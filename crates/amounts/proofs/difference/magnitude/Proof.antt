@@ -25,10 +25,10 @@ record Turned (z : ℤ) : Type 0 where
   small : SFits w64 (pos rest)
   whole : rest + 1 ≡ nat_abs z
 
-below-zero : (z : ℤ) → SFits w64 z → lt_z z (pos 0) ≡ true → Turned z
-below-zero (pos k) f e = absurd (omega (arith, ltb-true k 0 e))
-below-zero (negsuc zero) f e = record { raised = record { sfits = lit< tt }; rest = 0; turned = refl; small = record { sfits = lit< tt }; whole = refl }
-below-zero (negsuc (suc k)) f e =
+below_zero : (z : ℤ) → SFits w64 z → lt_z z (pos 0) ≡ true → Turned z
+below_zero (pos k) f e = absurd (omega (arith, ltb-true k 0 e))
+below_zero (negsuc zero) f e = record { raised = record { sfits = lit< tt }; rest = 0; turned = refl; small = record { sfits = lit< tt }; whole = refl }
+below_zero (negsuc (suc k)) f e =
     record {
       raised = rw +ℤ_one (record { sfits = omega (arith, f.sfits) });
       rest = suc k;
@@ -37,12 +37,12 @@ below-zero (negsuc (suc k)) f e =
       whole = omega arith;
     }
 
-not-below : (z : ℤ) → SFits w64 z → lt_z z (pos 0) ≡ false → T (non_neg z) × Fits w64 (nat_abs z)
-not-below (pos k) f e = (tt, record { fits = omega (arith, f.sfits) })
-not-below (negsuc k) f e = absurd (false≢true (sym e))
+not_below : (z : ℤ) → SFits w64 z → lt_z z (pos 0) ≡ false → T (non_neg z) × Fits w64 (nat_abs z)
+not_below (pos k) f e = (tt, record { fits = omega (arith, f.sfits) })
+not_below (negsuc k) f e = absurd (false≢true (sym e))
 
 known : (c : tie.Then1) → Turned (read c.before.args.n)
-known c = below-zero (read c.before.args.n) (sfits_to_z (Fits-of_z c.before.ranges.n)) c.if1.true
+known c = below_zero (read c.before.args.n) (sfits_to_z (Fits-of_z c.before.ranges.n)) c.if1.true
 
 turned : (c : tie.Then1) → pos 0 -ℤ read (read c.before.args.n +ℤ pos 1) ≡ pos (known c).rest
 turned c = ap (λ (z : ℤ). pos 0 -ℤ z) (to_z-of_z (known c).raised) ∙ (known c).turned
@@ -66,7 +66,7 @@ returns : tie.Need-returns
 returns c = ap (λ (z : ℤ). nat_abs z + 1) (rest c) ∙ (known c).whole ∙ ap nat_abs (to_z-of_z c.before.ranges.n)
 
 cast-result-2 : tie.Need-overflow-cast-result-2
-cast-result-2 c = not-below (read c.before.args.n) (sfits_to_z (Fits-of_z c.before.ranges.n)) c.if1.false
+cast-result-2 c = not_below (read c.before.args.n) (sfits_to_z (Fits-of_z c.before.ranges.n)) c.if1.false
 
 returns-2 : tie.Need-returns-2
 returns-2 c = ap nat_abs (to_z-of_z c.before.ranges.n)

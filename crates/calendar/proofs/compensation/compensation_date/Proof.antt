@@ -4,19 +4,19 @@ use mathlib.Core.Bool.{true, false}
 use Prim.Native.Nat.{ℕ}
 use borrow.Author.Rules.{rules}
 use Rattle.calendar.specs.declared.compensation.Compensation.{Compensation}
-use Rattle.calendar.specs.Dates.{isDay2028, dayNumber}
-use Rattle.calendar.specs.Year.{nextIn2028}
-use Rattle.calendar.specs.Compensation.{onDay, compensation}
+use Rattle.calendar.specs.Dates.{is_day2028, day_number}
+use Rattle.calendar.specs.Year.{next_in2028}
+use Rattle.calendar.specs.Compensation.{on_day, compensation}
 use Rattle.calendar.proofs.compensation.compensation_date.Statement.{statement}
 use Rattle.calendar.proofs.compensation.compensation_date.Tie as tie
 
-a-day : (date : ℕ) → isDay2028 date ≡ true → onDay (nextIn2028 (dayNumber date)) ≡ compensation date
+a_day : (date : ℕ) → is_day2028 date ≡ true → on_day (next_in2028 (day_number date)) ≡ compensation date
 unfolding compensation
-a-day date e = rw e
+a_day date e = rw e
 
-no-day : (date : ℕ) → isDay2028 date ≡ false → Compensation.NoDay ≡ compensation date
+no_day : (date : ℕ) → is_day2028 date ≡ false → Compensation.NoDay ≡ compensation date
 unfolding compensation
-no-day date e = rw e
+no_day date e = rw e
 
 is-day-requires : tie.Need-is-day-requires
 is-day-requires c κs = search rules
@@ -34,12 +34,12 @@ returns : tie.Need-returns
 returns c =
     let d = c.before.before in
     let s = d.before.before in
-    c.on-day.ensures
-    ∙ ap onDay (c.before.next-day.ensures ∙ ap nextIn2028 d.day-number.ensures)
-    ∙ a-day s.before.args.date (sym s.is-day.ensures ∙ d.before.if1.true)
+    c.on_day_lem.ensures
+    ∙ ap on_day (c.before.next-day.ensures ∙ ap next_in2028 d.day-number.ensures)
+    ∙ a_day s.before.args.date (sym s.is-day.ensures ∙ d.before.if1.true)
 
 returns-2 : tie.Need-returns-2
-returns-2 c = no-day c.before.before.args.date (sym c.before.is-day.ensures ∙ c.if1.false)
+returns-2 c = no_day c.before.before.args.date (sym c.before.is-day.ensures ∙ c.if1.false)
 
 pub compensation-date-spec : {M : Type 1} → statement M
 compensation-date-spec =

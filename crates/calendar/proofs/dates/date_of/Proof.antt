@@ -6,21 +6,21 @@ use native.Mathlib.Numerals.{add-one}
 use native.Mathlib.Omega.{arith}
 use borrow.Author.Rules.{rules}
 use lib.ListN.{length, drop}
-use Rattle.document.specs.Rules.{monthDays}
+use Rattle.document.specs.Rules.{month_days}
 use Rattle.calendar.specs.Rule.{entry_of}
-use Rattle.calendar.specs.Dates.{datesFrom, dateOf}
-use Rattle.calendar.proofs.Laws.Dates.{in-month-at, after-month-at, past-months}
+use Rattle.calendar.specs.Dates.{dates_from, date_of}
+use Rattle.calendar.proofs.Laws.Dates.{in_month_at, after_month_at, past_months}
 use Rattle.calendar.proofs.dates.date_of.Statement.{statement}
 use Rattle.calendar.proofs.dates.date_of.Tie as tie
 
 abbrev invariant-loop : tie.invariant-loop
-invariant-loop number day₀ month₀ day month = (month ≤ length monthDays) × (entry_of (datesFrom month (drop month monthDays)) day ≡ dateOf number) × (0 < day)
+invariant-loop number day₀ month₀ day month = (month ≤ length month_days) × (entry_of (dates_from month (drop month month_days)) day ≡ date_of number) × (0 < day)
 
 abbrev decreases-loop : tie.decreases-loop
-decreases-loop number day₀ month₀ day month = length monthDays - month
+decreases-loop number day₀ month₀ day month = length month_days - month
 
 loop-holds : tie.Need-loop-init invariant-loop decreases-loop
-unfolding dateOf
+unfolding date_of
 loop-holds c = (omega arith, refl, c.requires)
 
 month-days-requires : tie.Need-month-days-requires invariant-loop decreases-loop
@@ -45,10 +45,10 @@ add-result-2 : tie.Need-overflow-add-result-2 invariant-loop decreases-loop
 add-result-2 c = omega arith
 
 returns : tie.Need-returns invariant-loop decreases-loop
-unfolding monthDays
+unfolding month_days
 returns c =
     let t = c.before.before.before in
-    sym (in-month-at t.loop.month t.loop.day (omega arith) t.loop.invariant.2 (omega (arith, c.before.month-days.ensures, c.if1.true))) ∙ t.loop.invariant.1
+    sym (in_month_at t.loop.month t.loop.day (omega arith) t.loop.invariant.2 (omega (arith, c.before.month-days.ensures, c.if1.true))) ∙ t.loop.invariant.1
 
 sub-day : tie.Need-overflow-sub-day invariant-loop decreases-loop
 sub-day c = omega arith
@@ -57,22 +57,22 @@ add-month : tie.Need-overflow-add-month invariant-loop decreases-loop
 add-month c = search rules
 
 loop-less : tie.Need-loop-smaller invariant-loop decreases-loop
-unfolding monthDays
+unfolding month_days
 loop-less c = omega arith
 
 loop-again : tie.Need-loop-preserved invariant-loop decreases-loop
-unfolding monthDays
+unfolding month_days
 loop-again c =
     let t = c.before.before.before in
     let days = c.before.month-days.ensures in (
       omega arith,
-      rw (add-one, days) (sym (after-month-at t.loop.month t.loop.day (omega arith) (omega (arith, days))) ∙ t.loop.invariant.1),
+      rw (add-one, days) (sym (after_month_at t.loop.month t.loop.day (omega arith) (omega (arith, days))) ∙ t.loop.invariant.1),
       omega arith,
     )
 
 returns-2 : tie.Need-returns-2 invariant-loop decreases-loop
-unfolding monthDays
-returns-2 c = let t = c.before in sym (past-months t.loop.month t.loop.day (omega arith)) ∙ t.loop.invariant.1
+unfolding month_days
+returns-2 c = let t = c.before in sym (past_months t.loop.month t.loop.day (omega arith)) ∙ t.loop.invariant.1
 
 pub date-of-spec : {M : Type 1} → statement M
 date-of-spec =

@@ -6,14 +6,14 @@ use native.Mathlib.Numerals.{add-one}
 use native.Mathlib.Omega.{arith}
 use borrow.Author.Rules.{rules}
 use lib.ListN.{take}
-use Rattle.document.specs.Rules.{monthDays}
-use Rattle.calendar.specs.Dates.{dayIn, monthIn, total, dayNumber}
-use Rattle.calendar.proofs.Laws.Dates.{total-step, within-year, day-short}
+use Rattle.document.specs.Rules.{month_days}
+use Rattle.calendar.specs.Dates.{day_in, month_in, total, day_number}
+use Rattle.calendar.proofs.Laws.Dates.{total_step, within_year, day_short}
 use Rattle.calendar.proofs.dates.day_number.Statement.{statement}
 use Rattle.calendar.proofs.dates.day_number.Tie as tie
 
 abbrev invariant-loop : tie.invariant-loop
-invariant-loop date month number₀ before₀ number before = (before ≤ month) × (number ≡ total (take before monthDays) + dayIn date)
+invariant-loop date month number₀ before₀ number before = (before ≤ month) × (number ≡ total (take before month_days) + day_in date)
 
 abbrev decreases-loop : tie.decreases-loop
 decreases-loop date month number₀ before₀ number before = month - before
@@ -22,11 +22,11 @@ cast-month : tie.Need-overflow-cast-month invariant-loop decreases-loop
 cast-month c = search rules
 
 cast-number : tie.Need-overflow-cast-number invariant-loop decreases-loop
-cast-number c = omega (arith, day-short c.args.date c.requires)
+cast-number c = omega (arith, day_short c.args.date c.requires)
 
 loop-holds : tie.Need-loop-init invariant-loop decreases-loop
 unfolding total
-loop-holds c = (omega arith, sym (zero-add (dayIn c.args.date)))
+loop-holds c = (omega arith, sym (zero-add (day_in c.args.date)))
 
 month-days-requires : tie.Need-month-days-requires invariant-loop decreases-loop
 month-days-requires c κs = search rules
@@ -34,7 +34,7 @@ month-days-requires c κs = search rules
 add-number : tie.Need-overflow-add-number invariant-loop decreases-loop
 add-number c =
     let t = c.before.before in
-    omega (arith, t.loop.invariant.1, c.month-days.ensures, total-step monthDays t.loop.before, within-year (suc t.loop.before), day-short t.before.args.date t.before.requires)
+    omega (arith, t.loop.invariant.1, c.month-days.ensures, total_step month_days t.loop.before, within_year (suc t.loop.before), day_short t.before.args.date t.before.requires)
 
 add-before : tie.Need-overflow-add-before invariant-loop decreases-loop
 add-before c = search rules
@@ -45,13 +45,13 @@ loop-less c = omega arith
 loop-again : tie.Need-loop-preserved invariant-loop decreases-loop
 loop-again c =
     let t = c.before.before in
-    (omega arith, rw add-one (omega (arith, t.loop.invariant.1, c.month-days.ensures, total-step monthDays t.loop.before)))
+    (omega arith, rw add-one (omega (arith, t.loop.invariant.1, c.month-days.ensures, total_step month_days t.loop.before)))
 
 returns : tie.Need-returns invariant-loop decreases-loop
-unfolding dayNumber
+unfolding day_number
 returns c =
     let t = c.before in
-    t.loop.invariant.1 ∙ ap (λ (k : ℕ). total (take k monthDays) + dayIn t.before.args.date) {x = t.loop.before} {y = monthIn t.before.args.date} (omega arith)
+    t.loop.invariant.1 ∙ ap (λ (k : ℕ). total (take k month_days) + day_in t.before.args.date) {x = t.loop.before} {y = month_in t.before.args.date} (omega arith)
 
 pub day-number-spec : {M : Type 1} → statement M
 day-number-spec =

@@ -1,6 +1,6 @@
 -- `is_day` asks what the definition asks.
 use borrow.Author.Rules.{rules}
-use Rattle.calendar.specs.Dates.{isDay2028}
+use Rattle.calendar.specs.Dates.{is_day2028}
 use Rattle.calendar.proofs.dates.is_day.Statement.{statement}
 use Rattle.calendar.proofs.dates.is_day.Tie as tie
 
@@ -14,7 +14,7 @@ cast-result : tie.Need-overflow-cast-result
 cast-result c = search rules
 
 returns : tie.Need-returns
-unfolding isDay2028
+unfolding is_day2028
 returns c = rw c.month-days.ensures
 
 pub is-day-spec : {M : Type 1} → statement M

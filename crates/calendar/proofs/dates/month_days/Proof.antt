@@ -3,13 +3,13 @@ use mathlib.Core.Path.{refl, sym}
 use native.Mathlib.Omega.{arith}
 use borrow.Author.Rules.{rules}
 use lib.ListN.{get_or-eq_default}
-use Rattle.document.specs.Rules.{monthDays}
+use Rattle.document.specs.Rules.{month_days}
 use Rattle.calendar.proofs.dates.month_days.Statement.{statement}
 use Rattle.calendar.proofs.dates.month_days.Tie as tie
 
 returns : tie.Need-returns
-unfolding monthDays
-returns c = sym (get_or-eq_default monthDays 0 {n = c.before.args.month} (omega arith))
+unfolding month_days
+returns c = sym (get_or-eq_default month_days 0 {n = c.before.args.month} (omega arith))
 
 mul-result : tie.Need-overflow-mul-result
 mul-result c = search rules
@@ -18,7 +18,7 @@ array-read-result : tie.Need-array-read-result
 array-read-result c = search rules
 
 returns-2 : tie.Need-returns-2
-unfolding monthDays
+unfolding month_days
 returns-2 c = refl
 
 pub month-days-spec : {M : Type 1} → statement M

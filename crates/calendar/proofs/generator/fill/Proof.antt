@@ -7,18 +7,18 @@ use Prim.Native.Nat.{ℕ, suc, ◌-◌, ◌≤◌}
 use native.Mathlib.Omega.{arith}
 use borrow.Author.Rules.{rules}
 use lib.ListN.{length, drop, length-set}
-use Rattle.calendar.specs.Rule.{yearDays, later, nextDay, table_of, entry_of}
-use Rattle.calendar.proofs.Laws.Rule.{none-later}
+use Rattle.calendar.specs.Rule.{year_days, later, next_day, table_of, entry_of}
+use Rattle.calendar.proofs.Laws.Rule.{none_later}
 use Rattle.calendar.proofs.Laws.Ascending.{ascends}
-use Rattle.calendar.proofs.Laws.Walk.{Walked, at_last, some_left, over-listed, over-worked, entry-written}
+use Rattle.calendar.proofs.Laws.Walk.{Walked, at_last, some_left, over_listed, over_worked, entry_written}
 use Rattle.calendar.proofs.generator.fill.Statement.{statement}
 use Rattle.calendar.proofs.generator.fill.Tie as tie
 
 abbrev invariant-loop : tie.invariant-loop
 invariant-loop unworked days₀ left₀ next₀ day₀ days left next day =
-    (day ≤ yearDays)
+    (day ≤ year_days)
     × (length days ≡ length days₀)
-    × (drop day days ≡ map (nextDay unworked) (later day) ++ drop yearDays days₀)
+    × (drop day days ≡ map (next_day unworked) (later day) ++ drop year_days days₀)
     × Walked unworked day next left
 
 abbrev decreases-loop : tie.decreases-loop
@@ -30,7 +30,7 @@ loop-holds c =
     let u = s.args.unworked.now in (
       omega arith,
       refl,
-      ap (λ (later : List ℕ). map (nextDay u) later ++ drop yearDays s.args.days.now) (sym (none-later yearDays (omega arith))),
+      ap (λ (later : List ℕ). map (next_day u) later ++ drop year_days s.args.days.now) (sym (none_later year_days (omega arith))),
       at_last u s.requires.0,
     )
 
@@ -73,15 +73,15 @@ loop-again c =
     let last = c.before.last_of.ensures in (
       omega arith,
       length-set t.loop.days (day - 1) next ∙ t.loop.invariant.1,
-      entry-written u t.loop.days (drop yearDays s.args.days.now) (day - 1) day next (omega arith) (omega arith) (omega arith) w.entry t.loop.invariant.2,
+      entry_written u t.loop.days (drop year_days s.args.days.now) (day - 1) day next (omega arith) (omega arith) (omega arith) w.entry t.loop.invariant.2,
       ⊎_elim
           (λ e.
           let found : entry_of u left ≡ day = sym last ∙ e.0.taken in
           let less : c.if1.left ≡ left - 1 = e.1 in
           let counted : suc c.if1.left ≡ left = omega (arith, less, some_left u left day (omega arith) found) in
-          over-listed u (day - 1) day next c.if1.next c.if1.left left (omega arith) counted e.2 (omega arith) asc w found)
+          over_listed u (day - 1) day next c.if1.next c.if1.left left (omega arith) counted e.2 (omega arith) asc w found)
           (λ e.
-          over-worked u (day - 1) day next c.if1.next c.if1.left left (omega arith) e.1 e.2 (omega arith) asc w
+          over_worked u (day - 1) day next c.if1.next c.if1.left left (omega arith) e.1 e.2 (omega arith) asc w
           (λ found. e.0.left (last ∙ found)))
           c.if1.branch,
     )
@@ -97,7 +97,7 @@ returns c =
     let s = t.before.before.before in
     ap (λ (k : ℕ). drop k t.loop.days) (sym day0)
     ∙ t.loop.invariant.2
-    ∙ ap (λ (k : ℕ). map (nextDay s.args.unworked.now) (later k) ++ drop yearDays s.args.days.now) day0
+    ∙ ap (λ (k : ℕ). map (next_day s.args.unworked.now) (later k) ++ drop year_days s.args.days.now) day0
 
 pub fill_spec : {M : Type 1} → statement M
 fill_spec =

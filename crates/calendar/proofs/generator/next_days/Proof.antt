@@ -2,7 +2,7 @@
 use mathlib.Core.Path.{sym, ◌∙◌}
 use native.Mathlib.Omega.{arith}
 use borrow.Author.Rules.{rules}
-use Rattle.calendar.proofs.Laws.Generator.{wrong-list, short-table, made}
+use Rattle.calendar.proofs.Laws.Generator.{wrong_list, short_table, made}
 use Rattle.calendar.proofs.generator.next_days.Statement.{statement}
 use Rattle.calendar.proofs.generator.next_days.Tie as tie
 
@@ -13,7 +13,7 @@ returns : tie.Need-returns
 returns c =
     let g = c.before.before in
     let s = g.before.before.before in
-    short-table s.args.unworked.now s.args.days.now (sym g.good-list.ensures ∙ c.before.if1.true) (omega arith)
+    short_table s.args.unworked.now s.args.days.now (sym g.good-list.ensures ∙ c.before.if1.true) (omega arith)
 
 fill-requires : tie.Need-fill-requires
 fill-requires c κs = (sym c.before.before.before.good-list.ensures ∙ c.before.before.if1.true, omega arith)
@@ -33,7 +33,7 @@ returns-3 : tie.Need-returns-3
 returns-3 c =
     let g = c.before in
     let s = g.before.before.before in
-    wrong-list s.args.unworked.now s.args.days.now (sym g.good-list.ensures ∙ c.if1.false)
+    wrong_list s.args.unworked.now s.args.days.now (sym g.good-list.ensures ∙ c.if1.false)
 
 pub next-days-spec : {M : Type 1} → statement M
 next-days-spec = tie.close (tie.spec good-list-requires returns fill-requires same_length returns-2 returns-3)

@@ -1,16 +1,16 @@
 -- `table` hands out the constant table: one test over all its entries, which antt computes, shows that it is that of the list.
 use mathlib.Core.Path.{refl}
 use Rattle.packed.specs.Every.{member}
-use Rattle.document.specs.Rules.{monthDays}
-use Rattle.calendar.specs.Dates.{total, dayNumber}
+use Rattle.document.specs.Rules.{month_days}
+use Rattle.calendar.specs.Dates.{total, day_number}
 use Rattle.calendar.specs.Year.{holidays}
-use Rattle.calendar.proofs.Laws.Year.{table-2028}
+use Rattle.calendar.proofs.Laws.Year.{table_2028}
 use Rattle.calendar.proofs.year.table.Statement.{statement}
 use Rattle.calendar.proofs.year.table.Tie as tie
 
 returns : tie.Need-returns
-unfolding holidays dayNumber total monthDays member
-returns c = table-2028 _ refl refl
+unfolding holidays day_number total month_days member
+returns c = table_2028 _ refl refl
 
 pub table-spec : {M : Type 1} → statement M
 table-spec = tie.close (tie.spec returns)

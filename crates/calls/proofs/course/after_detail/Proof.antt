@@ -1,11 +1,11 @@
 -- `after_detail`: what a lot may gather fits the counters.
 use Rattle.session.specs.Course.{course, advance}
-use Rattle.calls.proofs.Laws.Course.{detail-fits}
+use Rattle.calls.proofs.Laws.Course.{detail_fits}
 use Rattle.calls.proofs.course.after_detail.Statement.{statement}
 use Rattle.calls.proofs.course.after_detail.Tie as tie
 
 gather-requires : tie.Need-gather-requires
-gather-requires c κs = detail-fits c.before.args.more c.before.args.running (c.before.requires.carried c.if1.true)
+gather-requires c κs = detail_fits c.before.args.more c.before.args.running (c.before.requires.carried c.if1.true)
 
 returns : tie.Need-returns
 unfolding advance

@@ -7,7 +7,7 @@ use Rattle.session.specs.declared.counters.OpenLot.{OpenLot}
 use Rattle.session.specs.declared.effect.Effect.{Effect}
 use Rattle.session.specs.Course.{course, advance}
 use Rattle.calls.specs.Inner.Course.{Countable}
-use Rattle.calls.proofs.Laws.Course.{lot-fits}
+use Rattle.calls.proofs.Laws.Course.{lot_fits}
 use borrow.Author.Rules.{rules}
 use Rattle.calls.proofs.course.after_lot_total.Statement.{statement}
 use Rattle.calls.proofs.course.after_lot_total.Tie as tie
@@ -19,7 +19,7 @@ gather-requires : tie.Need-gather-requires
 gather-requires c κs =
     let t = c.before.before.before.before in
     let a = t.args in
-    lot-fits a.lot a.counters a.running (subst (λ (b : Bool). Countable (Effect.LotTotal a.lot) b a.counters a.running) c.before.before.before.if1.true t.requires)
+    lot_fits a.lot a.counters a.running (subst (λ (b : Bool). Countable (Effect.LotTotal a.lot) b a.counters a.running) c.before.before.before.if1.true t.requires)
 
 empty-requires : tie.Need-empty-requires
 empty-requires c κs = search rules

@@ -1,5 +1,5 @@
 -- `lot_sequence` is the definition's own chain.
-use Rattle.session.specs.Sequence.{lotSequence}
+use Rattle.session.specs.Sequence.{lot_sequence}
 use borrow.Author.Rules.{rules}
 use Rattle.calls.proofs.sequence.lot_sequence.Statement.{statement}
 use Rattle.calls.proofs.sequence.lot_sequence.Tie as tie
@@ -11,7 +11,7 @@ when-requires : tie.Need-when-requires
 when-requires c κs = search rules
 
 returns : tie.Need-returns
-unfolding lotSequence
+unfolding lot_sequence
 returns c = cc
 
 pub lot-sequence-spec : {M : Type 1} → statement M

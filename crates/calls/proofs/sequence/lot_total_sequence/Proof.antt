@@ -1,5 +1,5 @@
 -- `lot_total_sequence` is the definition's own chain.
-use Rattle.session.specs.Sequence.{lotTotalSequence}
+use Rattle.session.specs.Sequence.{lot_total_sequence}
 use borrow.Author.Rules.{rules}
 use Rattle.calls.proofs.sequence.lot_total_sequence.Statement.{statement}
 use Rattle.calls.proofs.sequence.lot_total_sequence.Tie as tie
@@ -20,7 +20,7 @@ or-else-requires : tie.Need-or-else-requires
 or-else-requires c κs = search rules
 
 returns : tie.Need-returns
-unfolding lotTotalSequence
+unfolding lot_total_sequence
 returns c = cc
 
 pub lot-total-sequence-spec : {M : Type 1} → statement M

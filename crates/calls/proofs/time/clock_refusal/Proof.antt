@@ -1,5 +1,5 @@
 -- `clock_refusal` is the definition's own chain.
-use Rattle.session.specs.Time.{clockRefusal}
+use Rattle.session.specs.Time.{clock_refusal}
 use borrow.Author.Rules.{rules}
 use Rattle.calls.proofs.time.clock_refusal.Statement.{statement}
 use Rattle.calls.proofs.time.clock_refusal.Tie as tie
@@ -26,7 +26,7 @@ or-refused-requires-2 : tie.Need-or-refused-requires-2
 or-refused-requires-2 c κs = search rules
 
 returns : tie.Need-returns
-unfolding clockRefusal
+unfolding clock_refusal
 returns c = cc
 
 pub clock-refusal-spec : {M : Type 1} → statement M

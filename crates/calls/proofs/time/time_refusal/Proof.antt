@@ -1,5 +1,5 @@
 -- `time_refusal` is the definition's own chain.
-use Rattle.session.specs.Time.{timeRefusal}
+use Rattle.session.specs.Time.{time_refusal}
 use borrow.Author.Rules.{rules}
 use Rattle.calls.proofs.time.time_refusal.Statement.{statement}
 use Rattle.calls.proofs.time.time_refusal.Tie as tie
@@ -17,7 +17,7 @@ or-refused-requires : tie.Need-or-refused-requires
 or-refused-requires c κs = search rules
 
 returns : tie.Need-returns
-unfolding timeRefusal
+unfolding time_refusal
 returns c = cc
 
 pub time-refusal-spec : {M : Type 1} → statement M

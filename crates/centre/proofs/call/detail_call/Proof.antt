@@ -3,8 +3,8 @@ use mathlib.Core.Path.{◌∙◌}
 use borrow.Author.Rules.{rules}
 use Rattle.session.specs.Sending.{Send}
 use Rattle.session.specs.Engine.{Call, meaning}
-use Rattle.centre.specs.Turn.{engineOf}
-use Rattle.centre.proofs.Laws.{by-meaning}
+use Rattle.centre.specs.Turn.{engine_of}
+use Rattle.centre.proofs.Laws.{by_meaning}
 use Rattle.centre.proofs.call.detail_call.Statement.{statement}
 use Rattle.centre.proofs.call.detail_call.Tie as tie
 
@@ -22,7 +22,7 @@ unfolding meaning
 returns c =
     let s = c.before.before.before.before.before.before.before.before.before in
     let said = c.sent-beside.ensures in
-    (said.0 _ ∙ by-meaning (Call.send s.args.time (Send.detail s.args.operation s.args.part.now)) s.args.line.now (engineOf s.args.c) c.before.before.before.send-detail.ensures.0, said.1)
+    (said.0 _ ∙ by_meaning (Call.send s.args.time (Send.detail s.args.operation s.args.part.now)) s.args.line.now (engine_of s.args.c) c.before.before.before.send-detail.ensures.0, said.1)
 
 pub detail-call-spec : {M : Type 1} → statement M
 detail-call-spec =

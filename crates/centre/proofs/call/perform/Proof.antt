@@ -3,7 +3,7 @@ use mathlib.Core.Path.{◌≡◌, ap, sym, ◌∙◌}
 use borrow.Author.Rules.{rules}
 use Rattle.session.specs.Engine.{Engine, Performed, performed, Ready}
 use Rattle.centre.specs.declared.call.Order.{Order}
-use Rattle.centre.specs.Turn.{engineOf, call_of}
+use Rattle.centre.specs.Turn.{engine_of, call_of}
 use Rattle.centre.proofs.call.perform.Statement.{statement}
 use Rattle.centre.proofs.call.perform.Tie as tie
 
@@ -50,8 +50,8 @@ clock-call-requires : tie.Need-clock-call-requires
 clock-call-requires c κs = search rules
 
 -- at the arm of an order, what its call says is what was asked
-arm : (s : tie.Start) {o : Order} {p : Performed} {after : Engine} → s.args.order ≡ o → (p ≡ performed (call_of o s.args.bytes.now) s.args.line.now (engineOf s.args.c)) × Ready after → (p ≡ performed (call_of s.args.order s.args.bytes.now) s.args.line.now (engineOf s.args.c)) × Ready after
-arm s same said = (said.0 ∙ ap (λ (o : Order). performed (call_of o s.args.bytes.now) s.args.line.now (engineOf s.args.c)) (sym same), said.1)
+arm : (s : tie.Start) {o : Order} {p : Performed} {after : Engine} → s.args.order ≡ o → (p ≡ performed (call_of o s.args.bytes.now) s.args.line.now (engine_of s.args.c)) × Ready after → (p ≡ performed (call_of s.args.order s.args.bytes.now) s.args.line.now (engine_of s.args.c)) × Ready after
+arm s same said = (said.0 ∙ ap (λ (o : Order). performed (call_of o s.args.bytes.now) s.args.line.now (engine_of s.args.c)) (sym same), said.1)
 
 same_length : tie.Need-same-length
 same_length c = search rules

@@ -2,8 +2,8 @@
 use mathlib.Core.Path.{◌∙◌, refl}
 use borrow.Author.Rules.{rules}
 use Rattle.session.specs.Engine.{Call, meaning}
-use Rattle.centre.specs.Turn.{engineOf}
-use Rattle.centre.proofs.Laws.{together, by-meaning}
+use Rattle.centre.specs.Turn.{engine_of}
+use Rattle.centre.proofs.Laws.{together, by_meaning}
 use Rattle.centre.proofs.call.receive_call.Statement.{statement}
 use Rattle.centre.proofs.call.receive_call.Tie as tie
 
@@ -24,7 +24,7 @@ unfolding meaning
 returns c =
     let s = c.before.before.before.before.before.before.before.before.before.before.before.before.before in
     let kept = c.with-received.ensures in
-    (together c.before.answer-number.ensures refl kept.0 _ ∙ by-meaning (Call.receive s.args.time s.args.message.now) s.args.line.now (engineOf s.args.c) c.before.before.before.before.before.before.before.receive.ensures.0, kept.1)
+    (together c.before.answer-number.ensures refl kept.0 _ ∙ by_meaning (Call.receive s.args.time s.args.message.now) s.args.line.now (engine_of s.args.c) c.before.before.before.before.before.before.before.receive.ensures.0, kept.1)
 
 pub receive-call-spec : {M : Type 1} → statement M
 receive-call-spec =

@@ -5,15 +5,15 @@ use native.Mathlib.Omega.{arith}
 use borrow.Author.Rules.{rules}
 use lib.ListN.{length, set, length-set}
 use lib.Seq.{sets}
-use Rattle.decimal.specs.Decimal.{behindSpace}
-use Rattle.decimal.proofs.Laws.Text.{Put, put-behind}
+use Rattle.decimal.specs.Decimal.{behind_space}
+use Rattle.decimal.proofs.Laws.Text.{Put, put_behind}
 use Rattle.detail.specs.declared.checked.Checked.{Checked}
-use Rattle.check_detail.specs.Line.{lineFeed, twoDigits, line_of}
+use Rattle.check_detail.specs.Line.{line_feed, two_digits, line_of}
 use Rattle.check_detail.proofs.line.write_line.Statement.{statement}
 use Rattle.check_detail.proofs.line.write_line.Tie as tie
 
 -- the pieces as they were put, from the left
-pieces : (c : Checked) → (((twoDigits c.code ++ behindSpace c.documents) ++ behindSpace c.nominal) ++ behindSpace c.commission) ++ lineFeed ∷ [] ≡ line_of c
+pieces : (c : Checked) → (((two_digits c.code ++ behind_space c.documents) ++ behind_space c.nominal) ++ behind_space c.commission) ++ line_feed ∷ [] ≡ line_of c
 unfolding line_of
 pieces c = simp append_assoc
 
@@ -65,11 +65,11 @@ returns c =
     let two = c.before.before.before.before.before.before.put-number2 in
     let three = c.before.before.put-number3 in
     let k = s.args.c in
-    let code : Put s.args.line.now (twoDigits k.code) _ 2 = record { written = refl; place = refl } in
-    let documents = put-behind code (behindSpace k.documents) one.ensures.0 one.ensures.1.0 in
-    let nominal = put-behind documents (behindSpace k.nominal) two.ensures.0 two.ensures.1.0 in
-    let commission = put-behind nominal (behindSpace k.commission) three.ensures.0 three.ensures.1.0 in
-    let all = put-behind commission (lineFeed ∷ []) {after = set three.new.0 three.result lineFeed} refl refl in
+    let code : Put s.args.line.now (two_digits k.code) _ 2 = record { written = refl; place = refl } in
+    let documents = put_behind code (behind_space k.documents) one.ensures.0 one.ensures.1.0 in
+    let nominal = put_behind documents (behind_space k.nominal) two.ensures.0 two.ensures.1.0 in
+    let commission = put_behind nominal (behind_space k.commission) three.ensures.0 three.ensures.1.0 in
+    let all = put_behind commission (line_feed ∷ []) {after = set three.new.0 three.result line_feed} refl refl in
     (all.written ∙ ap (sets s.args.line.now 0) (pieces k), (all.place ∙ ap length (pieces k), omega (arith, one.ensures.1.1, two.ensures.1.1, three.ensures.1.1)))
 
 pub write-line-spec : {M : Type 1} → statement M

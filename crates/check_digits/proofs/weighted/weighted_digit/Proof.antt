@@ -2,7 +2,7 @@
 use mathlib.Core.Path.{ap, ◌∙◌}
 use Prim.Native.Nat.{ℕ, ◌-◌, ◌%◌}
 use borrow.Author.Rules.{rules}
-use Rattle.check_digits.specs.Weighted.{weightedModulus, remainder, oneFigure, weightedDigit}
+use Rattle.check_digits.specs.Weighted.{weighted_modulus, remainder, one_figure, weighted_digit}
 use Rattle.check_digits.proofs.weighted.weighted_digit.Statement.{statement}
 use Rattle.check_digits.proofs.weighted.weighted_digit.Tie as tie
 
@@ -16,8 +16,8 @@ one-figure-requires : tie.Need-one-figure-requires
 one-figure-requires c κs = search rules
 
 returns : tie.Need-returns
-unfolding weightedDigit remainder
-returns c = c.one-figure.ensures ∙ ap (λ (sum : ℕ). oneFigure (weightedModulus - sum % weightedModulus)) c.before.weighted-sum.ensures
+unfolding weighted_digit remainder
+returns c = c.one-figure.ensures ∙ ap (λ (sum : ℕ). one_figure (weighted_modulus - sum % weighted_modulus)) c.before.weighted-sum.ensures
 
 pub weighted-digit-spec : {M : Type 1} → statement M
 weighted-digit-spec =

@@ -1,8 +1,8 @@
 -- `code_byte` packs the code's number.
 use mathlib.Core.Path.{ap, ◌∙◌}
 use borrow.Author.Rules.{rules}
-use Rattle.packed.specs.Writing.{packedByte}
-use Rattle.codes.specs.Code.{codeByte}
+use Rattle.packed.specs.Writing.{packed_byte}
+use Rattle.codes.specs.Code.{code_byte}
 use Rattle.codes.proofs.code.code_byte.Statement.{statement}
 use Rattle.codes.proofs.code.code_byte.Tie as tie
 
@@ -16,8 +16,8 @@ packed-byte-requires : tie.Need-packed-byte-requires
 packed-byte-requires c κs = search rules
 
 returns : tie.Need-returns
-unfolding codeByte
-returns c = c.packed_byte.ensures ∙ ap packedByte c.before.code-number.ensures
+unfolding code_byte
+returns c = c.packed_byte.ensures ∙ ap packed_byte c.before.code-number.ensures
 
 pub code-byte-spec : {M : Type 1} → statement M
 code-byte-spec =

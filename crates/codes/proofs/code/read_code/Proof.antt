@@ -8,13 +8,13 @@ use lib.ListN.{length, drop}
 use Rattle.codes.specs.declared.code.Code.{Code}
 use Rattle.codes.specs.declared.code.ReadCode.{ReadCode}
 use Rattle.codes.specs.Numbered.{numbered}
-use Rattle.codes.specs.Code.{codes, codeByte, read_code}
-use Rattle.codes.proofs.Laws.Numbered.{found_at, passed-at, none-at}
+use Rattle.codes.specs.Code.{codes, code_byte, read_code}
+use Rattle.codes.proofs.Laws.Numbered.{found_at, passed_at, none_at}
 use Rattle.codes.proofs.code.read_code.Statement.{statement}
 use Rattle.codes.proofs.code.read_code.Tie as tie
 
 abbrev invariant-loop : tie.invariant-loop
-invariant-loop byte table i₀ i = (i ≤ length codes) × (numbered codeByte ReadCode.Known ReadCode.Unknown (drop i codes) byte ≡ read_code byte)
+invariant-loop byte table i₀ i = (i ≤ length codes) × (numbered code_byte ReadCode.Known ReadCode.Unknown (drop i codes) byte ≡ read_code byte)
 
 abbrev decreases-loop : tie.decreases-loop
 decreases-loop byte table i₀ i = length codes - i
@@ -33,7 +33,7 @@ returns : tie.Need-returns invariant-loop decreases-loop
 unfolding codes
 returns c =
     let t = c.before.before.before.before in
-    sym (found_at codeByte ReadCode.Known ReadCode.Unknown codes t.before.args.byte t.loop.i Code.Accepted (omega arith) (sym c.before.code-byte.ensures ∙ c.if1.true))
+    sym (found_at code_byte ReadCode.Known ReadCode.Unknown codes t.before.args.byte t.loop.i Code.Accepted (omega arith) (sym c.before.code-byte.ensures ∙ c.if1.true))
     ∙ t.loop.invariant.1
 
 add-i : tie.Need-overflow-add-i invariant-loop decreases-loop
@@ -48,14 +48,14 @@ unfolding codes
 loop-again c =
     let t = c.before.before.before.before in (
       omega arith,
-      sym (passed-at codeByte ReadCode.Known ReadCode.Unknown codes t.before.args.byte t.loop.i Code.Accepted (omega arith) (λ e. c.if1.false (c.before.code-byte.ensures ∙ e))) ∙ t.loop.invariant.1,
+      sym (passed_at code_byte ReadCode.Known ReadCode.Unknown codes t.before.args.byte t.loop.i Code.Accepted (omega arith) (λ e. c.if1.false (c.before.code-byte.ensures ∙ e))) ∙ t.loop.invariant.1,
     )
 
 returns-2 : tie.Need-returns-2 invariant-loop decreases-loop
 unfolding codes
 returns-2 c =
     let t = c.before in
-    sym (none-at codeByte ReadCode.Known ReadCode.Unknown codes t.before.args.byte t.loop.i (omega arith)) ∙ t.loop.invariant.1
+    sym (none_at code_byte ReadCode.Known ReadCode.Unknown codes t.before.args.byte t.loop.i (omega arith)) ∙ t.loop.invariant.1
 
 pub read-code-spec : {M : Type 1} → statement M
 read-code-spec =

@@ -2,7 +2,7 @@
 use mathlib.Core.Path.{◌∙◌}
 use native.Mathlib.Omega.{arith}
 use borrow.Author.Rules.{rules}
-use Rattle.detail.proofs.Laws.Checked.{start-refused, own-too-large}
+use Rattle.detail.proofs.Laws.Checked.{start_refused, own_too_large}
 use Rattle.detail.proofs.checked.line_check_detail.Statement.{statement}
 use Rattle.detail.proofs.checked.line_check_detail.Tie as tie
 
@@ -15,7 +15,7 @@ wrong-start-requires c κs = search rules
 returns : tie.Need-returns
 returns c =
     let a = c.before.before.before.before.args in
-    c.wrong_start.ensures ∙ start-refused a.own a.represented.now a.body.now (own-too-large a.own a.represented.now (omega arith))
+    c.wrong_start.ensures ∙ start_refused a.own a.represented.now a.body.now (own_too_large a.own a.represented.now (omega arith))
 
 cast-check : tie.Need-overflow-cast-check
 cast-check c = omega arith

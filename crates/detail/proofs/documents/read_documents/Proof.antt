@@ -9,24 +9,24 @@ use lib.Dec.{lit<}
 use lib.ListN.{length, length-take, length-drop, drop}
 use Rattle.packed.specs.Part.{part}
 use Rattle.packed.specs.Pieces.{pieces}
-use Rattle.packed.proofs.Laws.Pieces.{pieces-at, pieces_end}
-use Rattle.document.specs.Limits.{documentBytes}
+use Rattle.packed.proofs.Laws.Pieces.{pieces_at, pieces_end}
+use Rattle.document.specs.Limits.{document_bytes}
 use Rattle.document.specs.Inner.Bounds.{Within}
-use Rattle.document.specs.Inner.Found.{found, foundIn, join}
-use Rattle.document.proofs.Laws.Found.{nothing-join, found-end, found-step, within-zeros, within-plus, within_more, within-fits}
+use Rattle.document.specs.Inner.Found.{found, found_in, join}
+use Rattle.document.proofs.Laws.Found.{nothing_join, found_end, found_step, within_zeros, within_plus, within_more, within_fits}
 use Rattle.detail.proofs.documents.read_documents.Statement.{statement}
 use Rattle.detail.proofs.documents.read_documents.Tie as tie
 
 abbrev invariant-loop : tie.invariant-loop
 invariant-loop part operation receiving represented found₀ end₀ found end =
-    (documentBytes ≤ end)
-    × (end ≤ length part + documentBytes)
-    × ((length part + documentBytes - end) % documentBytes ≡ 0)
-    × Within (end - documentBytes) found.totals
-    × (join found (foundIn operation receiving represented (pieces documentBytes (drop (end - documentBytes) part))) ≡ foundIn operation receiving represented (pieces documentBytes part))
+    (document_bytes ≤ end)
+    × (end ≤ length part + document_bytes)
+    × ((length part + document_bytes - end) % document_bytes ≡ 0)
+    × Within (end - document_bytes) found.totals
+    × (join found (found_in operation receiving represented (pieces document_bytes (drop (end - document_bytes) part))) ≡ found_in operation receiving represented (pieces document_bytes part))
 
 abbrev decreases-loop : tie.decreases-loop
-decreases-loop part operation receiving represented found₀ end₀ found end = length part + documentBytes - end
+decreases-loop part operation receiving represented found₀ end₀ found end = length part + document_bytes - end
 
 nothing-requires : tie.Need-nothing-requires invariant-loop decreases-loop
 nothing-requires c κs = search rules
@@ -37,8 +37,8 @@ loop-holds c =
       omega arith,
       omega arith,
       omega arith,
-      rw c.nothing.ensures within-zeros,
-      rw c.nothing.ensures (nothing-join (foundIn a.operation a.receiving a.represented.now (pieces documentBytes a.part.now))),
+      rw c.nothing.ensures within_zeros,
+      rw c.nothing.ensures (nothing_join (found_in a.operation a.receiving a.represented.now (pieces document_bytes a.part.now))),
     )
 
 sub_at : tie.Need-overflow-sub-at invariant-loop decreases-loop
@@ -59,7 +59,7 @@ read-document-requires c κs = simp (length-take, length-drop) (omega arith)
 join-requires : tie.Need-join-requires invariant-loop decreases-loop
 join-requires c κs =
     let t = c.before.before.before in
-    within-fits (t.loop.end - documentBytes) 1 t.loop.found.totals c.read-document.result.totals (omega arith) t.loop.invariant.3 c.read-document.ensures.1
+    within_fits (t.loop.end - document_bytes) 1 t.loop.found.totals c.read-document.result.totals (omega arith) t.loop.invariant.3 c.read-document.ensures.1
 
 add-end : tie.Need-overflow-add-end invariant-loop decreases-loop
 add-end c = omega arith
@@ -72,18 +72,18 @@ loop-again c =
     let t = c.before.before.before.before in
     let a = t.before.before.before.before.args in
     let end = t.loop.end in
-    let at = end - documentBytes in
+    let at = end - document_bytes in
     let so = t.loop.found in
-    let size : end - at ≡ documentBytes = omega arith in
-    let next : end + documentBytes - documentBytes ≡ at + documentBytes = omega arith in (
+    let size : end - at ≡ document_bytes = omega arith in
+    let next : end + document_bytes - document_bytes ≡ at + document_bytes = omega arith in (
       omega arith,
       omega arith,
       omega arith,
       rw (c.join.ensures, next)
-          (within_more (at + 1) (at + documentBytes) _ (omega arith) (within-plus at 1 so.totals c.before.read-document.result.totals t.loop.invariant.3 c.before.read-document.ensures.1)),
+          (within_more (at + 1) (at + document_bytes) _ (omega arith) (within_plus at 1 so.totals c.before.read-document.result.totals t.loop.invariant.3 c.before.read-document.ensures.1)),
       rw (c.join.ensures, c.before.read-document.ensures.0, size, next)
-          (found-step a.operation a.receiving a.represented.now so (part at documentBytes a.part.now) _
-          ∙ ap (λ (ds : List (List ℕ)). join so (foundIn a.operation a.receiving a.represented.now ds)) (sym (pieces-at documentBytes (lit< tt) at a.part.now (omega arith)))
+          (found_step a.operation a.receiving a.represented.now so (part at document_bytes a.part.now) _
+          ∙ ap (λ (ds : List (List ℕ)). join so (found_in a.operation a.receiving a.represented.now ds)) (sym (pieces_at document_bytes (lit< tt) at a.part.now (omega arith)))
           ∙ t.loop.invariant.4),
     )
 
@@ -92,10 +92,10 @@ returns c =
     let t = c.before in
     let a = t.before.before.before.before.args in
     let so = t.loop.found in
-    let at = t.loop.end - documentBytes in
+    let at = t.loop.end - document_bytes in
     let all : length a.part.now ≤ at = omega arith in (
-      sym (found-end a.operation a.receiving a.represented.now so)
-          ∙ ap (λ (ds : List (List ℕ)). join so (foundIn a.operation a.receiving a.represented.now ds)) (sym (pieces_end documentBytes (lit< tt) at a.part.now all))
+      sym (found_end a.operation a.receiving a.represented.now so)
+          ∙ ap (λ (ds : List (List ℕ)). join so (found_in a.operation a.receiving a.represented.now ds)) (sym (pieces_end document_bytes (lit< tt) at a.part.now all))
           ∙ t.loop.invariant.4,
       within_more at (length a.part.now) so.totals (omega arith) t.loop.invariant.3,
     )

@@ -11,14 +11,14 @@ use lib.ListN.{length, length-take, length-drop, drop}
 use Rattle.packed.specs.Every.{every}
 use Rattle.packed.specs.Part.{part}
 use Rattle.packed.specs.Pieces.{pieces}
-use Rattle.packed.proofs.Laws.Every.{every-cons}
-use Rattle.packed.proofs.Laws.Part.{part-tail}
-use Rattle.packed.proofs.Laws.Pieces.{pieces-at, pieces_end}
+use Rattle.packed.proofs.Laws.Every.{every_cons}
+use Rattle.packed.proofs.Laws.Part.{part_tail}
+use Rattle.packed.proofs.Laws.Pieces.{pieces_at, pieces_end}
 use Rattle.document.specs.Inner.Bounds.{Within}
-use Rattle.document.specs.Inner.Found.{foundIn, join}
-use Rattle.document.proofs.Laws.Found.{nothing-join, found-end, found-more, within-zeros, within-plus, within_more, within-fits}
-use Rattle.detail.specs.Limits.{groupBytes}
-use Rattle.detail.specs.Groups.{groupGood, groups, groupDocuments, documents}
+use Rattle.document.specs.Inner.Found.{found_in, join}
+use Rattle.document.proofs.Laws.Found.{nothing_join, found_end, found_more, within_zeros, within_plus, within_more, within_fits}
+use Rattle.detail.specs.Limits.{group_bytes}
+use Rattle.detail.specs.Groups.{group_good, groups, group_documents, documents}
 use Rattle.detail.proofs.Laws.Groups.{Good, good}
 use Rattle.detail.proofs.documents.read_groups.Statement.{statement}
 use Rattle.detail.proofs.documents.read_groups.Tie as tie
@@ -26,8 +26,8 @@ use Rattle.detail.proofs.documents.read_groups.Tie as tie
 abbrev invariant-loop : tie.invariant-loop
 invariant-loop body operation receiving represented found₀ at₀ found at =
     Within at found.totals
-    × (every groupGood (pieces groupBytes (drop at body)) ≡ true)
-    × (join found (foundIn operation receiving represented (flat_map groupDocuments (pieces groupBytes (drop at body)))) ≡ foundIn operation receiving represented (documents body))
+    × (every group_good (pieces group_bytes (drop at body)) ≡ true)
+    × (join found (found_in operation receiving represented (flat_map group_documents (pieces group_bytes (drop at body)))) ≡ found_in operation receiving represented (documents body))
 
 abbrev decreases-loop : tie.decreases-loop
 decreases-loop body operation receiving represented found₀ at₀ found at = length body - at
@@ -40,9 +40,9 @@ unfolding groups documents
 loop-holds c =
     let s = c.before.before.before in
     let a = s.args in (
-      rw c.nothing.ensures within-zeros,
+      rw c.nothing.ensures within_zeros,
       s.requires.0,
-      rw c.nothing.ensures (nothing-join (foundIn a.operation a.receiving a.represented.now (documents a.body.now))),
+      rw c.nothing.ensures (nothing_join (found_in a.operation a.receiving a.represented.now (documents a.body.now))),
     )
 
 piece-at-requires : tie.Need-piece-at-requires invariant-loop decreases-loop
@@ -55,7 +55,7 @@ here c =
     let body = t.before.before.before.before.args.body.now in
     let left : t.loop.at < length body = omega arith in
     rw c.piece-at.ensures
-    (good (part t.loop.at groupBytes body) (every-cons groupGood _ _ (rw (pieces-at groupBytes (lit< tt) t.loop.at body left) at t.loop.invariant.1)).0)
+    (good (part t.loop.at group_bytes body) (every_cons group_good _ _ (rw (pieces_at group_bytes (lit< tt) t.loop.at body left) at t.loop.invariant.1)).0)
 
 sub-read-documents : tie.Need-overflow-sub-read-documents invariant-loop decreases-loop
 sub-read-documents c = omega (arith, here c)
@@ -70,13 +70,13 @@ read-documents-requires : tie.Need-read-documents-requires invariant-loop decrea
 read-documents-requires c κs =
     let g = c.before.piece-at.result.now in
     let h = here c.before in
-    rw (part-tail 4 g) (simp length-drop (omega arith), simp length-drop (omega arith))
+    rw (part_tail 4 g) (simp length-drop (omega arith), simp length-drop (omega arith))
 
 join-requires : tie.Need-join-requires invariant-loop decreases-loop
 join-requires c κs =
     let t = c.before.before.before.before in
     let h = here c.before.before in
-    within-fits t.loop.at _ t.loop.found.totals c.read-documents.result.totals (omega arith) t.loop.invariant.0 c.read-documents.ensures.1
+    within_fits t.loop.at _ t.loop.found.totals c.read-documents.result.totals (omega arith) t.loop.invariant.0 c.read-documents.ensures.1
 
 add_at : tie.Need-overflow-add-at invariant-loop decreases-loop
 add_at c = omega arith
@@ -94,15 +94,15 @@ loop-again c =
     let so = t.loop.found in
     let left : at < length body = omega arith in
     let h = here c.before.before.before in
-    let g = part at groupBytes body in
-    let next = pieces-at groupBytes (lit< tt) at body left in
+    let g = part at group_bytes body in
+    let next = pieces_at group_bytes (lit< tt) at body left in
     let size : length c.before.before.before.piece-at.result.now ≤ 208 = omega arith in (
       rw c.join.ensures
-          (within_more _ (at + 208) _ (simp (length-take, length-drop) (omega arith)) (within-plus at _ so.totals c.before.read-documents.result.totals t.loop.invariant.0 c.before.read-documents.ensures.1)),
-      (every-cons groupGood g _ (rw next at t.loop.invariant.1)).1,
-      rw (c.join.ensures, c.before.read-documents.ensures.0, part-tail 4 c.before.before.before.piece-at.result.now, c.before.before.before.piece-at.ensures)
-          (found-more a.operation a.receiving a.represented.now so (groupDocuments g) _
-          ∙ ap (λ (gs : List (List ℕ)). join so (foundIn a.operation a.receiving a.represented.now (flat_map groupDocuments gs))) (sym next)
+          (within_more _ (at + 208) _ (simp (length-take, length-drop) (omega arith)) (within_plus at _ so.totals c.before.read-documents.result.totals t.loop.invariant.0 c.before.read-documents.ensures.1)),
+      (every_cons group_good g _ (rw next at t.loop.invariant.1)).1,
+      rw (c.join.ensures, c.before.read-documents.ensures.0, part_tail 4 c.before.before.before.piece-at.result.now, c.before.before.before.piece-at.ensures)
+          (found_more a.operation a.receiving a.represented.now so (group_documents g) _
+          ∙ ap (λ (gs : List (List ℕ)). join so (found_in a.operation a.receiving a.represented.now (flat_map group_documents gs))) (sym next)
           ∙ t.loop.invariant.2),
     )
 
@@ -112,8 +112,8 @@ returns c =
     let t = c.before in
     let a = t.before.before.before.before.args in
     let so = t.loop.found in
-    sym (found-end a.operation a.receiving a.represented.now so)
-    ∙ ap (λ (gs : List (List ℕ)). join so (foundIn a.operation a.receiving a.represented.now (flat_map groupDocuments gs))) (sym (pieces_end groupBytes (lit< tt) t.loop.at a.body.now (omega arith)))
+    sym (found_end a.operation a.receiving a.represented.now so)
+    ∙ ap (λ (gs : List (List ℕ)). join so (found_in a.operation a.receiving a.represented.now (flat_map group_documents gs))) (sym (pieces_end group_bytes (lit< tt) t.loop.at a.body.now (omega arith)))
     ∙ t.loop.invariant.2
 
 pub read-groups-spec : {M : Type 1} → statement M

@@ -4,12 +4,12 @@ use mathlib.Core.Bool.{and-false}
 use native.Mathlib.Omega.{arith}
 use borrow.Author.Rules.{rules}
 use lib.ListN.{get_or-eq_default}
-use Rattle.detail.specs.Groups.{groupGood}
+use Rattle.detail.specs.Groups.{group_good}
 use Rattle.detail.proofs.groups.group_good.Statement.{statement}
 use Rattle.detail.proofs.groups.group_good.Tie as tie
 
 returns : tie.Need-returns
-unfolding groupGood
+unfolding group_good
 returns c = rw (get_or-eq_default c.before.args.g.now 0 {n = 3} (omega arith), and-false)
 
 shared-slice-read-count : tie.Need-shared-slice-read-count
@@ -34,7 +34,7 @@ add-result : tie.Need-overflow-add-result
 add-result c = omega (arith, (c.before.before.before.shared-slice-known.given 3).fits)
 
 returns-2 : tie.Need-returns-2
-unfolding groupGood
+unfolding group_good
 returns-2 c = refl
 
 pub group-good-spec : {M : Type 1} → statement M

@@ -11,17 +11,17 @@ use lib.ListN.{length}
 use Rattle.packed.specs.Every.{every}
 use Rattle.amounts.specs.Totals.{zeros}
 use Rattle.codes.specs.declared.code.Code.{Code}
-use Rattle.codes.specs.Code.{codeNumber}
+use Rattle.codes.specs.Code.{code_number}
 use Rattle.codes.specs.Chain.{◌when◌, ◌orelse◌}
-use Rattle.codes.proofs.Laws.Chain.{held, none-held}
-use Rattle.document.specs.Amounts.{totalsOf}
+use Rattle.codes.proofs.Laws.Chain.{held, none_held}
+use Rattle.document.specs.Amounts.{totals_of}
 use Rattle.document.specs.declared.found.Found.{Found}
-use Rattle.document.specs.Inner.Found.{foundIn}
-use Rattle.codes.specs.Body.{longestBody}
-use Rattle.detail.specs.Groups.{shapeGood, oneOperation, groups, groupGood, documents}
-use Rattle.detail.specs.Inner.Verdict.{judged, ifAccepted}
-use Rattle.detail.proofs.Laws.Groups.{shape-told}
-use Rattle.detail.proofs.Laws.Codes.{misshapen, by_heads, shaped-judged}
+use Rattle.document.specs.Inner.Found.{found_in}
+use Rattle.codes.specs.Body.{longest_body}
+use Rattle.detail.specs.Groups.{shape_good, one_operation, groups, group_good, documents}
+use Rattle.detail.specs.Inner.Verdict.{judged, if_accepted}
+use Rattle.detail.proofs.Laws.Groups.{shape_told}
+use Rattle.detail.proofs.Laws.Codes.{misshapen, by_heads, shaped_judged}
 use Rattle.detail.proofs.reading.read_detail.Statement.{statement}
 use Rattle.detail.proofs.reading.read_detail.Tie as tie
 
@@ -32,19 +32,19 @@ returns : tie.Need-returns
 returns c =
     let a = c.before.before.before.before.args in
     let told = c.refused.ensures in
-    let wrong = shape-told a.body.now ∙ ap (λ (t : Bool). not t && every groupGood (groups a.body.now)) c.before.if1.true in
-    (ap codeNumber told.0 ∙ sym (misshapen a.own a.represented.now a.body.now wrong), rw (told.0, told.1))
+    let wrong = shape_told a.body.now ∙ ap (λ (t : Bool). not t && every group_good (groups a.body.now)) c.before.if1.true in
+    (ap code_number told.0 ∙ sym (misshapen a.own a.represented.now a.body.now wrong), rw (told.0, told.1))
 
-last-false : (a b : Bool) → a || b ≡ false → b ≡ false
-last-false true b e = absurd (true≢false e)
-last-false false b e = e
+last_false : (a b : Bool) → a || b ≡ false → b ≡ false
+last_false true b e = absurd (true≢false e)
+last_false false b e = e
 
 -- past the first test the length is right, and the heads decide on the shape
-fits : (body : List ℕ) → ltb (length body) 1 || ltb longestBody (length body) ≡ false → length body ≤ longestBody
-fits body e = ltb-false longestBody (length body) (last-false (ltb (length body) 1) (ltb longestBody (length body)) e)
+fits : (body : List ℕ) → ltb (length body) 1 || ltb longest_body (length body) ≡ false → length body ≤ longest_body
+fits body e = ltb-false longest_body (length body) (last_false (ltb (length body) 1) (ltb longest_body (length body)) e)
 
-shaped : (body : List ℕ) (t : Bool) → ltb (length body) 1 || ltb longestBody (length body) ≡ false → every groupGood (groups body) ≡ t → shapeGood body ≡ t
-shaped body t e h = shape-told body ∙ λ i. not (e i) && h i
+shaped : (body : List ℕ) (t : Bool) → ltb (length body) 1 || ltb longest_body (length body) ≡ false → every group_good (groups body) ≡ t → shape_good body ≡ t
+shaped body t e h = shape_told body ∙ λ i. not (e i) && h i
 
 read-heads-requires : tie.Need-read-heads-requires
 read-heads-requires c κs = search rules
@@ -68,23 +68,23 @@ abbrev start : tie.After-is-accepted → tie.Start
 start k = (heads k).before.before.before.before
 
 -- the code of the heads
-head-code : (k : tie.After-is-accepted) → let body = (start k).args.body.now in codeNumber k.before.or_else.result ≡ (1 when not (shapeGood body) orelse 9 when not (oneOperation body))
-head-code k =
+head_code : (k : tie.After-is-accepted) → let body = (start k).args.body.now in code_number k.before.or_else.result ≡ (1 when not (shape_good body) orelse 9 when not (one_operation body))
+head_code k =
     let h = heads k in
     let body = (start k).args.body.now in
     let shape = shaped body h.read-heads.result.good h.before.if1.left (sym h.read-heads.ensures.0) in
     k.before.or_else.ensures
     ∙ λ i. (k.before.before.before.before.when.ensures ∙ λ j. 1 when not (sym shape j)) i orelse (k.before.before.when2.ensures ∙ λ j. 9 when not (h.read-heads.ensures.1 j)) i
 
-none : (t : tie.Then2) → codeNumber t.before.before.or_else.result ≡ 0
-none t = eqb-true (codeNumber t.before.before.or_else.result) 0 (sym t.before.is-accepted.ensures ∙ t.if2.true)
+none : (t : tie.Then2) → code_number t.before.before.or_else.result ≡ 0
+none t = eqb-true (code_number t.before.before.or_else.result) 0 (sym t.before.is-accepted.ensures ∙ t.if2.true)
 
 -- where they are good
-good : (t : tie.Then2) → let body = (start t.before).args.body.now in (shapeGood body ≡ true) × (oneOperation body ≡ true)
+good : (t : tie.Then2) → let body = (start t.before).args.body.now in (shape_good body ≡ true) × (one_operation body ≡ true)
 good t =
     let body = (start t.before).args.body.now in
-    let first = held 1 (shapeGood body) _ (lit< tt) (sym (head-code t.before) ∙ none t) in
-    (first.0, none-held 9 (oneOperation body) (lit< tt) first.1)
+    let first = held 1 (shape_good body) _ (lit< tt) (sym (head_code t.before) ∙ none t) in
+    (first.0, none_held 9 (one_operation body) (lit< tt) first.1)
 
 operation-of-requires : tie.Need-operation-of-requires
 operation-of-requires c κs = search rules
@@ -94,7 +94,7 @@ read-groups-requires c κs =
     let t = c.before in
     let h = heads t.before in
     let body = (start t.before).args.body.now in
-    (sym (shaped body (every groupGood (groups body)) h.before.if1.left refl) ∙ (good t).0, fits body h.before.if1.left)
+    (sym (shaped body (every group_good (groups body)) h.before.if1.left refl) ∙ (good t).0, fits body h.before.if1.left)
 
 judge-requires : tie.Need-judge-requires
 judge-requires c κs = search rules
@@ -107,9 +107,9 @@ returns-2 c =
     let read = c.before.before.read-groups.ensures in
     let operation = c.before.before.before.operation-of.ensures in (
       c.judge.ensures.0
-          ∙ ap (λ (f : Found). judged f.fields f.amounts f.served f.something) (read ∙ ap (λ (o : ℕ). foundIn o a.own a.represented.now (documents body)) operation)
-          ∙ sym (shaped-judged a.own a.represented.now body (good t).0 (good t).1),
-      c.judge.ensures.1 ∙ ap (λ (f : Found). ifAccepted (codeNumber c.judge.result.code) f.totals) read,
+          ∙ ap (λ (f : Found). judged f.fields f.amounts f.served f.something) (read ∙ ap (λ (o : ℕ). found_in o a.own a.represented.now (documents body)) operation)
+          ∙ sym (shaped_judged a.own a.represented.now body (good t).0 (good t).1),
+      c.judge.ensures.1 ∙ ap (λ (f : Found). if_accepted (code_number c.judge.result.code) f.totals) read,
     )
 
 refused-requires-2 : tie.Need-refused-requires-2
@@ -120,10 +120,10 @@ returns-3 c =
     let k = c.before.before in
     let a = (start k).args in
     let told = c.refused2.ensures in
-    let code = codeNumber k.before.or_else.result in
+    let code = code_number k.before.or_else.result in
     let stopped = sym k.is-accepted.ensures ∙ c.before.if2.false in
-    let same = ap codeNumber told.0 ∙ by_heads a.own a.represented.now a.body.now code (head-code k) (pos_of_ne-zero (eqb-false code 0 stopped)) in
-    (same, told.1 ∙ sym (ap (λ (b : Bool). cond b (totalsOf (documents a.body.now)) zeros) (ap (λ (d : Code). eqb (codeNumber d) 0) told.0 ∙ stopped)))
+    let same = ap code_number told.0 ∙ by_heads a.own a.represented.now a.body.now code (head_code k) (pos_of_ne-zero (eqb-false code 0 stopped)) in
+    (same, told.1 ∙ sym (ap (λ (b : Bool). cond b (totals_of (documents a.body.now)) zeros) (ap (λ (d : Code). eqb (code_number d) 0) told.0 ∙ stopped)))
 
 pub read-detail-spec : {M : Type 1} → statement M
 read-detail-spec =

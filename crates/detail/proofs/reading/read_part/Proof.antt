@@ -5,12 +5,12 @@ use Prim.Native.Nat.{ℕ}
 use native.Mathlib.Omega.{arith}
 use borrow.Author.Rules.{rules}
 use Rattle.packed.specs.Pieces.{pieces}
-use Rattle.codes.specs.Code.{codeNumber}
-use Rattle.document.specs.Limits.{documentBytes}
+use Rattle.codes.specs.Code.{code_number}
+use Rattle.document.specs.Limits.{document_bytes}
 use Rattle.document.specs.declared.found.Found.{Found}
-use Rattle.document.specs.Inner.Found.{foundIn}
-use Rattle.detail.specs.Inner.Verdict.{judged, ifAccepted}
-use Rattle.detail.proofs.Laws.Codes.{sendable-part, unsendable, sendable-judged}
+use Rattle.document.specs.Inner.Found.{found_in}
+use Rattle.detail.specs.Inner.Verdict.{judged, if_accepted}
+use Rattle.detail.proofs.Laws.Codes.{sendable_part, unsendable, sendable_judged}
 use Rattle.detail.proofs.reading.read_part.Statement.{statement}
 use Rattle.detail.proofs.reading.read_part.Tie as tie
 
@@ -29,7 +29,7 @@ slice-aggregate-read-documents c = search rules
 read-documents-requires : tie.Need-read-documents-requires
 read-documents-requires c κs =
     let a = c.before.before.before.before.before.args in
-    let fit = sendable-part a.operation a.part.now (sym c.before.before.before.part-sendable.ensures ∙ c.before.before.if1.true) in
+    let fit = sendable_part a.operation a.part.now (sym c.before.before.before.part-sendable.ensures ∙ c.before.before.if1.true) in
     (fit.whole, omega arith)
 
 judge-requires : tie.Need-judge-requires
@@ -43,9 +43,9 @@ returns c =
     let read = c.before.before.read-documents.ensures.0 in
     let operation = c.before.before.before.before.packed_byte.ensures in (
       c.judge.ensures.0
-          ∙ ap (λ (f : Found). judged f.fields f.amounts true f.something) (read ∙ ap (λ (o : ℕ). foundIn o a.partner _ (pieces documentBytes a.part.now)) operation)
-          ∙ sym (sendable-judged a.operation a.partner a.part.now may),
-      c.judge.ensures.1 ∙ ap (λ (f : Found). ifAccepted (codeNumber c.judge.result.code) f.totals) read,
+          ∙ ap (λ (f : Found). judged f.fields f.amounts true f.something) (read ∙ ap (λ (o : ℕ). found_in o a.partner _ (pieces document_bytes a.part.now)) operation)
+          ∙ sym (sendable_judged a.operation a.partner a.part.now may),
+      c.judge.ensures.1 ∙ ap (λ (f : Found). if_accepted (code_number c.judge.result.code) f.totals) read,
     )
 
 refused-requires : tie.Need-refused-requires
@@ -56,7 +56,7 @@ returns-2 c =
     let a = c.before.before.before.before.args in
     let may-not = sym c.before.before.part-sendable.ensures ∙ c.before.if1.false in
     let told = c.refused.ensures in
-    (ap codeNumber told.0 ∙ sym (unsendable a.operation a.partner a.part.now may-not), rw (told.0, told.1))
+    (ap code_number told.0 ∙ sym (unsendable a.operation a.partner a.part.now may-not), rw (told.0, told.1))
 
 pub read-part-spec : {M : Type 1} → statement M
 read-part-spec =

@@ -8,24 +8,24 @@ use borrow.Author.Rules.{rules}
 use lib.ListN.{length, length-take}
 use lib.Seq.{sets}
 use Rattle.packed.specs.Part.{part}
-use Rattle.packed.proofs.Laws.Writing.{sets-append}
-use Rattle.detail.specs.Limits.{fillBytes}
-use Rattle.detail.specs.Writing.{writtenGroup, writtenDetail}
-use Rattle.detail.proofs.Laws.Writing.{rest, rest-step, rest_end, rest-length}
+use Rattle.packed.proofs.Laws.Writing.{sets_append}
+use Rattle.detail.specs.Limits.{fill_bytes}
+use Rattle.detail.specs.Writing.{written_group, written_detail}
+use Rattle.detail.proofs.Laws.Writing.{rest, rest_step, rest_end, rest_length}
 use Rattle.detail.proofs.writing.write_detail.Statement.{statement}
 use Rattle.detail.proofs.writing.write_detail.Tie as tie
 
 abbrev invariant-loop : tie.invariant-loop
 invariant-loop out₀ operation part to₀ at₀ out to at =
     (length out ≡ length out₀)
-    × (to + length (rest operation at part) ≡ length (writtenDetail operation part))
-    × (sets out to (rest operation at part) ≡ sets out₀ 0 (writtenDetail operation part))
+    × (to + length (rest operation at part) ≡ length (written_detail operation part))
+    × (sets out to (rest operation at part) ≡ sets out₀ 0 (written_detail operation part))
 
 abbrev decreases-loop : tie.decreases-loop
 decreases-loop out₀ operation part to₀ at₀ out to at = length part - at
 
 loop-holds : tie.Need-loop-init invariant-loop decreases-loop
-unfolding writtenDetail
+unfolding written_detail
 loop-holds c = (refl, zero-add _, refl)
 
 piece-at-requires : tie.Need-piece-at-requires invariant-loop decreases-loop
@@ -37,13 +37,13 @@ Here c =
     let t = c.before.before in
     let a = t.before.before.before.args in
     let n = length c.piece-at.result.now in
-    (length (rest a.operation-byte t.loop.at a.part.now) ≡ 4 + n + length (rest a.operation-byte (t.loop.at + fillBytes) a.part.now)) × (n ≤ fillBytes)
+    (length (rest a.operation_byte_lem t.loop.at a.part.now) ≡ 4 + n + length (rest a.operation_byte_lem (t.loop.at + fill_bytes) a.part.now)) × (n ≤ fill_bytes)
 
 here : (c : tie.After-piece-at invariant-loop decreases-loop) → Here c
 here c =
     let t = c.before.before in
     let a = t.before.before.before.args in
-    rw c.piece-at.ensures (rest-length a.operation-byte t.loop.at a.part.now (omega arith), simp length-take (omega arith))
+    rw c.piece-at.ensures (rest_length a.operation_byte_lem t.loop.at a.part.now (omega arith), simp length-take (omega arith))
 
 write-group-requires : tie.Need-write-group-requires invariant-loop decreases-loop
 write-group-requires c κs = let h = here c.before in (omega arith, h.1)
@@ -68,13 +68,13 @@ loop-again c =
     let h = here p in
     let to = t.loop.to in
     let at = t.loop.at in
-    let group = writtenGroup a.operation-byte (part at fillBytes a.part.now) in
-    let size : to + (4 + length (part at fillBytes a.part.now)) ≡ to + length group = omega arith in (
+    let group = written_group a.operation_byte_lem (part at fill_bytes a.part.now) in
+    let size : to + (4 + length (part at fill_bytes a.part.now)) ≡ to + length group = omega arith in (
       c.before.before.write-group.auto.0 ∙ t.loop.invariant.0,
       omega arith,
       rw (c.before.before.write-group.ensures, p.piece-at.ensures, size)
-          (sets-append group (rest a.operation-byte (at + fillBytes) a.part.now) t.loop.out to
-          ∙ ap (sets t.loop.out to) (sym (rest-step a.operation-byte at a.part.now (omega arith)))
+          (sets_append group (rest a.operation_byte_lem (at + fill_bytes) a.part.now) t.loop.out to
+          ∙ ap (sets t.loop.out to) (sym (rest_step a.operation_byte_lem at a.part.now (omega arith)))
           ∙ t.loop.invariant.2),
     )
 
@@ -85,7 +85,7 @@ returns : tie.Need-returns invariant-loop decreases-loop
 returns c =
     let t = c.before in
     let a = t.before.before.before.args in
-    let none = rest_end a.operation-byte t.loop.at a.part.now (omega arith) in
+    let none = rest_end a.operation_byte_lem t.loop.at a.part.now (omega arith) in
     (omega (arith, ap length none), ap (sets t.loop.out t.loop.to) (sym none) ∙ t.loop.invariant.2)
 
 pub write-detail-spec : {M : Type 1} → statement M

@@ -3,14 +3,14 @@ use mathlib.Core.Path.{sym, ◌∙◌}
 use Prim.Native.Nat.{ℕ, ◌≤◌}
 use native.Mathlib.Omega.{arith}
 use lib.ListN.{length}
-use Rattle.detail.specs.Inner.Part.{longestPart}
-use Rattle.detail.proofs.Laws.Writing.{written-bytes}
+use Rattle.detail.specs.Inner.Part.{longest_part}
+use Rattle.detail.proofs.Laws.Writing.{written_bytes_lem}
 use borrow.Author.Rules.{rules}
 use Rattle.detail.proofs.writing.written_bytes.Statement.{statement}
 use Rattle.detail.proofs.writing.written_bytes.Tie as tie
 
 returns : tie.Need-returns
-returns c = let p = c.before.args.part.now in (λ (h : length p ≤ longestPart) (operation : ℕ). absurd (omega (arith, c.if1.true, h)), omega arith)
+returns c = let p = c.before.args.part.now in (λ (h : length p ≤ longest_part) (operation : ℕ). absurd (omega (arith, c.if1.true, h)), omega arith)
 
 add-result : tie.Need-overflow-add-result
 add-result c = search rules
@@ -27,7 +27,7 @@ add-result-2 c = search rules
 returns-2 : tie.Need-returns-2
 returns-2 c =
     let p = c.before.args.part.now in
-    (λ (h : length p ≤ longestPart) (operation : ℕ). omega arith ∙ sym (written-bytes operation p), omega (arith, c.if1.false))
+    (λ (h : length p ≤ longest_part) (operation : ℕ). omega arith ∙ sym (written_bytes_lem operation p), omega (arith, c.if1.false))
 
 pub written-bytes-spec : {M : Type 1} → statement M
 written-bytes-spec =

@@ -3,7 +3,7 @@ use mathlib.Core.Path.{sym, ◌∙◌}
 use mathlib.Core.Bool.{◌&&◌}
 use native.Mathlib.Omega.{arith}
 use borrow.Author.Rules.{rules}
-use Rattle.packed.proofs.Laws.Digits.{digits-inside}
+use Rattle.packed.proofs.Laws.Digits.{digits_inside}
 use Rattle.document.proofs.digits.all_digits.Statement.{statement}
 use Rattle.document.proofs.digits.all_digits.Tie as tie
 
@@ -14,7 +14,7 @@ returns : tie.Need-returns
 returns c =
     let d = c.before.before.before.args.d.now in
     let all = sym c.before.sweep.ensures ∙ c.if1.true in
-    let inside = digits-inside 0 47 in
+    let inside = digits_inside 0 47 in
     (rw (inside 0 25 d (omega arith) all, inside 31 12 d (omega arith) all), rw (inside 25 6 d (omega arith) all, inside 43 4 d (omega arith) all))
 
 are-digits-requires : tie.Need-are-digits-requires

@@ -9,14 +9,14 @@ use native.Mathlib.Omega.{arith}
 use lib.ListN.{get_or}
 use borrow.Author.Rules.{rules}
 use Rattle.packed.specs.Part.{part}
-use Rattle.packed.specs.Digits.{isDigits, areDigits}
-use Rattle.packed.proofs.Laws.Digits.{digits-split, digits_step, digits-none}
+use Rattle.packed.specs.Digits.{is_digits, are_digits}
+use Rattle.packed.proofs.Laws.Digits.{digits_split, digits_step, digits_none}
 use Rattle.document.proofs.digits.sweep.Statement.{statement}
 use Rattle.document.proofs.digits.sweep.Tie as tie
 
 -- i bytes of the run from a place on are read
 abbrev Read : (from i : ℕ) → Bool → List ℕ → Type 0
-Read from i ok d = (ok && areDigits (part (from + i) (16 - i) d)) ≡ areDigits (part from 16 d)
+Read from i ok d = (ok && are_digits (part (from + i) (16 - i) d)) ≡ are_digits (part from 16 d)
 
 abbrev invariant-loop : tie.invariant-loop
 invariant-loop d first₀ second₀ third₀ i₀ first second third i = (i ≤ 16) × Read 0 i first d × Read 16 i second d × Read 31 i third d
@@ -64,7 +64,7 @@ loop-again c =
     let i = t.loop.i in (
       omega arith,
       rw c.before.before.before.before.is-digits.ensures
-          (ap (λ (j : ℕ). t.loop.first && isDigits (get_or d j 0) && areDigits (part (0 + (i + 1)) (16 - (i + 1)) d)) (sym (zero-add i))
+          (ap (λ (j : ℕ). t.loop.first && is_digits (get_or d j 0) && are_digits (part (0 + (i + 1)) (16 - (i + 1)) d)) (sym (zero-add i))
           ∙ digits_step 0 16 i t.loop.first d (omega arith) (omega arith)
           ∙ t.loop.invariant.1),
       rw c.before.before.is-digits2.ensures (digits_step 16 16 i t.loop.second d (omega arith) (omega arith) ∙ t.loop.invariant.2),
@@ -78,21 +78,21 @@ shared true true false s = refl
 shared true false r s = refl
 shared false q r s = refl
 
-joined : (d : List ℕ) → areDigits (part 0 16 d) && areDigits (part 16 16 d) && areDigits (part 31 16 d) ≡ areDigits (part 0 47 d)
+joined : (d : List ℕ) → are_digits (part 0 16 d) && are_digits (part 16 16 d) && are_digits (part 31 16 d) ≡ are_digits (part 0 47 d)
 joined d =
-    (λ i. areDigits (part 0 16 d) && digits-split 16 15 1 d i && digits-split 31 1 15 d i)
-    ∙ shared (areDigits (part 0 16 d)) (areDigits (part 16 15 d)) (areDigits (part 31 1 d)) (areDigits (part 32 15 d))
-    ∙ sym (λ i. areDigits (part 0 16 d) && digits-split 16 15 1 d i && areDigits (part 32 15 d))
-    ∙ sym (digits-split 0 32 15 d ∙ ap (λ (t : Bool). t && areDigits (part 32 15 d)) (digits-split 0 16 16 d))
+    (λ i. are_digits (part 0 16 d) && digits_split 16 15 1 d i && digits_split 31 1 15 d i)
+    ∙ shared (are_digits (part 0 16 d)) (are_digits (part 16 15 d)) (are_digits (part 31 1 d)) (are_digits (part 32 15 d))
+    ∙ sym (λ i. are_digits (part 0 16 d) && digits_split 16 15 1 d i && are_digits (part 32 15 d))
+    ∙ sym (digits_split 0 32 15 d ∙ ap (λ (t : Bool). t && are_digits (part 32 15 d)) (digits_split 0 16 16 d))
 
 returns : tie.Need-returns invariant-loop decreases-loop
 returns c =
     let t = c.before in
     let d = t.before.before.args.d.now in
     let all : t.loop.i ≡ 16 = omega arith in
-    let first = sym (digits-none (0 + 16) 16 t.loop.first d) ∙ rw all at t.loop.invariant.1 in
-    let second = sym (digits-none (16 + 16) 16 t.loop.second d) ∙ rw all at t.loop.invariant.2 in
-    let third = sym (digits-none (31 + 16) 16 t.loop.third d) ∙ rw all at t.loop.invariant.3 in
+    let first = sym (digits_none (0 + 16) 16 t.loop.first d) ∙ rw all at t.loop.invariant.1 in
+    let second = sym (digits_none (16 + 16) 16 t.loop.second d) ∙ rw all at t.loop.invariant.2 in
+    let third = sym (digits_none (31 + 16) 16 t.loop.third d) ∙ rw all at t.loop.invariant.3 in
     (λ i. first i && second i && third i) ∙ joined d
 
 pub sweep-spec : {M : Type 1} → statement M

@@ -5,7 +5,7 @@ use borrow.Author.Rules.{rules}
 use lib.Dec.{eqb}
 use Rattle.document.specs.Operation.{presented}
 use Rattle.packed.specs.Every.{member}
-use Rattle.document.specs.Drawee.{drawee, draweeServed}
+use Rattle.document.specs.Drawee.{drawee, drawee_served}
 use Rattle.document.proofs.drawee.drawee_served.Statement.{statement}
 use Rattle.document.proofs.drawee.drawee_served.Tie as tie
 
@@ -13,7 +13,7 @@ number2-requires : tie.Need-number2-requires
 number2-requires c κs = search rules
 
 returns : tie.Need-returns
-unfolding draweeServed drawee member
+unfolding drawee_served drawee member
 returns c =
     let a = c.before.before.before.before.args in
     let n = c.before.number2.result in
@@ -25,7 +25,7 @@ is-member-requires : tie.Need-is-member-requires
 is-member-requires c κs = search rules
 
 returns-2 : tie.Need-returns-2
-unfolding draweeServed drawee member
+unfolding drawee_served drawee member
 returns-2 c =
     let a = c.before.before.before.before.before.args in
     let n = c.before.before.number2.result in

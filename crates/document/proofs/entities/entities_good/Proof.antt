@@ -12,34 +12,34 @@ use lib.Dec.{leb}
 use lib.ListN.{length, drop, drop_of_length-le}
 use lib.Seq.{drop-cons}
 use Rattle.packed.specs.Every.{every}
-use Rattle.packed.proofs.Laws.Every.{every-none, every-step}
-use Rattle.document.specs.Limits.{mostRepresented}
-use Rattle.document.specs.Entities.{isEntity, entitiesGood}
+use Rattle.packed.proofs.Laws.Every.{every_none, every_step}
+use Rattle.document.specs.Limits.{most_represented}
+use Rattle.document.specs.Entities.{is_entity, entities_good}
 use Rattle.document.proofs.entities.entities_good.Statement.{statement}
 use Rattle.document.proofs.entities.entities_good.Tie as tie
 
 abbrev invariant-loop : tie.invariant-loop
 invariant-loop own represented good₀ i₀ good i =
-    (i ≤ length represented) × ((good && every isEntity (drop i represented)) ≡ entitiesGood own represented)
+    (i ≤ length represented) × ((good && every is_entity (drop i represented)) ≡ entities_good own represented)
 
 abbrev decreases-loop : tie.decreases-loop
 decreases-loop own represented good₀ i₀ good i = length represented - i
 
 -- what the number of them decides
-numbered : (own : ℕ) (represented : List ℕ) (few : Bool) → leb (length represented) mostRepresented ≡ few → entitiesGood own represented ≡ (isEntity own && few && every isEntity represented)
-numbered own represented few e = ap (λ (t : Bool). isEntity own && t && every isEntity represented) e
+numbered : (own : ℕ) (represented : List ℕ) (few : Bool) → leb (length represented) most_represented ≡ few → entities_good own represented ≡ (is_entity own && few && every is_entity represented)
+numbered own represented few e = ap (λ (t : Bool). is_entity own && t && every is_entity represented) e
 
 returns : tie.Need-returns invariant-loop decreases-loop
 returns c =
     let a = c.before.args in
     let r = a.represented.now in
-    sym (numbered a.own r false (lt-leb (length r) mostRepresented (omega arith)) ∙ ap (λ (t : Bool). t && every isEntity r) (and-false (isEntity a.own)))
+    sym (numbered a.own r false (lt-leb (length r) most_represented (omega arith)) ∙ ap (λ (t : Bool). t && every is_entity r) (and-false (is_entity a.own)))
 
 loop-holds : tie.Need-loop-init invariant-loop decreases-loop
 loop-holds c =
     let a = c.before.args in
     let r = a.represented.now in
-    (omega arith, sym (numbered a.own r true (le-leb (length r) mostRepresented (omega arith)) ∙ ap (λ (t : Bool). t && every isEntity r) (and-true (isEntity a.own))))
+    (omega arith, sym (numbered a.own r true (le-leb (length r) most_represented (omega arith)) ∙ ap (λ (t : Bool). t && every is_entity r) (and-true (is_entity a.own))))
 
 mul-good : tie.Need-overflow-mul-good invariant-loop decreases-loop
 mul-good c = search rules
@@ -60,8 +60,8 @@ loop-again c =
     let i = t.loop.i in (
       omega arith,
       rw add-one
-          (every-step isEntity t.loop.good _ _
-          ∙ ap (λ (l : List ℕ). t.loop.good && every isEntity l) (sym (drop-cons a.represented.now i 0 (omega arith)))
+          (every_step is_entity t.loop.good _ _
+          ∙ ap (λ (l : List ℕ). t.loop.good && every is_entity l) (sym (drop-cons a.represented.now i 0 (omega arith)))
           ∙ t.loop.invariant.1),
     )
 
@@ -69,8 +69,8 @@ returns-2 : tie.Need-returns-2 invariant-loop decreases-loop
 returns-2 c =
     let t = c.before in
     let a = t.before.before.args in
-    sym (every-none isEntity t.loop.good)
-    ∙ ap (λ (l : List ℕ). t.loop.good && every isEntity l) (sym (drop_of_length-le a.represented.now {i = t.loop.i} (omega arith)))
+    sym (every_none is_entity t.loop.good)
+    ∙ ap (λ (l : List ℕ). t.loop.good && every is_entity l) (sym (drop_of_length-le a.represented.now {i = t.loop.i} (omega arith)))
     ∙ t.loop.invariant.1
 
 pub entities-good-spec : {M : Type 1} → statement M

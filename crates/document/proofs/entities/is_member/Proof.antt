@@ -9,7 +9,7 @@ use borrow.Author.Rules.{rules}
 use lib.ListN.{length, drop, drop_of_length-le}
 use lib.Seq.{drop-cons}
 use Rattle.packed.specs.Every.{member}
-use Rattle.document.proofs.Laws.Entities.{member-none, member-step}
+use Rattle.document.proofs.Laws.Entities.{member_none, member_step}
 use Rattle.document.proofs.entities.is_member.Statement.{statement}
 use Rattle.document.proofs.entities.is_member.Tie as tie
 
@@ -41,7 +41,7 @@ loop-again c =
     let i = t.loop.i in (
       omega arith,
       rw add-one
-          (member-step t.loop.found a.e _ _
+          (member_step t.loop.found a.e _ _
           ∙ ap (λ (l : List ℕ). t.loop.found || member a.e l) (sym (drop-cons a.some.now i 0 (omega arith)))
           ∙ t.loop.invariant.1),
     )
@@ -50,7 +50,7 @@ returns : tie.Need-returns invariant-loop decreases-loop
 returns c =
     let t = c.before in
     let a = t.before.args in
-    sym (member-none t.loop.found a.e)
+    sym (member_none t.loop.found a.e)
     ∙ ap (λ (l : List ℕ). t.loop.found || member a.e l) (sym (drop_of_length-le a.some.now {i = t.loop.i} (omega arith)))
     ∙ t.loop.invariant.1
 

@@ -5,10 +5,10 @@ use Prim.Native.Nat.{ℕ}
 use lib.Dec.{ltb}
 use native.Mathlib.Omega.{arith}
 use borrow.Author.Rules.{rules}
-use Rattle.packed.proofs.Laws.Number.{number-grown}
+use Rattle.packed.proofs.Laws.Number.{number_grown}
 use Rattle.amounts.specs.Totals.{totals}
-use Rattle.document.specs.Amounts.{nominal, commission, forSomething}
-use Rattle.document.proofs.Laws.Fields.{fields_split, amounts-split}
+use Rattle.document.specs.Amounts.{nominal, commission, for_something}
+use Rattle.document.proofs.Laws.Fields.{fields_split, amounts_split}
 use Rattle.document.proofs.found.read_document.Statement.{statement}
 use Rattle.document.proofs.found.read_document.Tie as tie
 
@@ -31,7 +31,7 @@ drawee-served-requires : tie.Need-drawee-served-requires
 drawee-served-requires c κs = search rules
 
 returns : tie.Need-returns
-unfolding nominal commission forSomething
+unfolding nominal commission for_something
 returns c =
     let v = c.before.before in
     let n = v.before in
@@ -41,8 +41,8 @@ returns c =
     let a = s.before.args in
     let digits = t.all_digits.ensures in
     let fields = (λ i. digits.0 i && v.values-good.ensures i) ∙ sym (fields_split a.operation a.receiving a.d.now) in
-    let amounts = digits.1 ∙ sym (amounts-split a.operation a.receiving a.d.now) in
-    let grown = number-grown 43 4 a.d.now (λ (i : ℕ). (s.shared-slice-known.given i).fits) (omega arith) in (
+    let amounts = digits.1 ∙ sym (amounts_split a.operation a.receiving a.d.now) in
+    let grown = number_grown 43 4 a.d.now (λ (i : ℕ). (s.shared-slice-known.given i).fits) (omega arith) in (
       λ i. record { fields = fields i; amounts = amounts i; served = c.drawee-served.ensures i; something = ltb 0 (n.number.ensures.0 i); totals = totals 1 (n.number.ensures.0 i) (r.number4.ensures i) },
       record { documents = omega arith; nominal = omega arith; commission = omega (arith, r.number4.ensures, grown) },
     )

@@ -3,7 +3,7 @@ use mathlib.Core.Path.{ap, sym, ◌∙◌}
 use mathlib.Core.Bool.{◌&&◌}
 use borrow.Author.Rules.{rules}
 use Rattle.codes.specs.Field.{exactly}
-use Rattle.document.specs.Rules.{identification, dayAndMonth, province, truncation, keyOrReason}
+use Rattle.document.specs.Rules.{identification, day_and_month, province, truncation, key_or_reason}
 use Rattle.document.proofs.Laws.Fields.{values_listed}
 use Rattle.document.proofs.rules.values_good.Statement.{statement}
 use Rattle.document.proofs.rules.values_good.Tie as tie
@@ -53,12 +53,12 @@ returns c =
     let early = late.before.before.before.before.before in
     let a = early.before.before.before.before.args in
     let id = early.before.identification.ensures ∙ ap identification early.before.before.number2.ensures in
-    let date = late.before.before.before.before.day-and-month.ensures ∙ ap dayAndMonth early.number22.ensures in
+    let date = late.before.before.before.before.day-and-month.ensures ∙ ap day_and_month early.number22.ensures in
     let taker = late.before.before.province.ensures ∙ ap province late.before.before.before.number.ensures.0 in
     let receiving = ap (exactly a.receiving) late.before.number23.ensures in
     let claims = c.before.before.before.before.province2.ensures ∙ ap province late.number3.ensures.0 in
     let form = c.before.before.truncation.ensures ∙ ap truncation c.before.before.before.number4.ensures.0 in
-    let key = c.key-or-reason.ensures ∙ ap (keyOrReason a.operation) c.before.number24.ensures in
+    let key = c.key-or-reason.ensures ∙ ap (key_or_reason a.operation) c.before.number24.ensures in
     (λ i. id i && date i && taker i && receiving i && claims i && form i && key i) ∙ sym (values_listed a.operation a.receiving a.d.now)
 
 pub values-good-spec : {M : Type 1} → statement M

@@ -3,7 +3,7 @@ use mathlib.Core.Path.{ap, ◌∙◌}
 use Rattle.session.specs.Hours.{opening}
 use Rattle.session.specs.Sending.{Send}
 use Rattle.session.specs.Engine.{Call}
-use Rattle.exchange.specs.Course.{Standing, roundMade, directionMade}
+use Rattle.exchange.specs.Course.{Standing, round_made, direction_made}
 use borrow.Author.Rules.{rules}
 use Rattle.exchange.proofs.direction.present.Statement.{statement}
 use Rattle.exchange.proofs.direction.present.Tie as tie
@@ -21,10 +21,10 @@ same-length-2 : tie.Need-same-length-2
 same-length-2 c = search rules
 
 returns : tie.Need-returns
-unfolding directionMade
+unfolding direction_made
 returns c =
     let total = c.before.before.before.before.one_more.ensures in
-    (total.0 ∙ ap (λ (s : Standing). roundMade (Call.send opening Send.sessionTotal) s.ends) c.before.before.before.before.before.before.before.before.before.before.before.before.send-lots.ensures.0, total.1)
+    (total.0 ∙ ap (λ (s : Standing). round_made (Call.send opening Send.session_total) s.ends) c.before.before.before.before.before.before.before.before.before.before.before.before.send-lots.ensures.0, total.1)
 
 pub present-spec : {M : Type 1} → statement M
 present-spec =

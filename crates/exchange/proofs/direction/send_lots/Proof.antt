@@ -3,21 +3,21 @@ use mathlib.Core.Path.{refl, sym, ◌∙◌}
 use Prim.Native.Nat.{suc, ◌+◌, ◌-◌, ◌≤◌}
 use native.Mathlib.Omega.{arith}
 use borrow.Author.Rules.{rules}
-use Rattle.session.specs.Limits.{mostLots}
-use Rattle.exchange.specs.Course.{standingOf, lotMade, lotsMade}
+use Rattle.session.specs.Limits.{most_lots}
+use Rattle.exchange.specs.Course.{standing_of, lot_made, lots_made}
 use Rattle.exchange.proofs.Laws.Course.{Going, stays, moves, over}
 use Rattle.exchange.proofs.direction.send_lots.Statement.{statement}
 use Rattle.exchange.proofs.direction.send_lots.Tie as tie
 
 abbrev invariant-loop : tie.invariant-loop
 invariant-loop presentations returns message₀ reply₀ at₀ number₀ message reply at number =
-    Going presentations returns (lotMade presentations returns) (suc mostLots - number) number (lotsMade presentations returns (standingOf at₀ message₀ reply₀)) message₀ reply₀ message reply at × (number ≤ suc mostLots)
+    Going presentations returns (lot_made presentations returns) (suc most_lots - number) number (lots_made presentations returns (standing_of at₀ message₀ reply₀)) message₀ reply₀ message reply at × (number ≤ suc most_lots)
 
 abbrev decreases-loop : tie.decreases-loop
-decreases-loop presentations returns message₀ reply₀ at₀ number₀ message reply at number = suc mostLots - number
+decreases-loop presentations returns message₀ reply₀ at₀ number₀ message reply at number = suc most_lots - number
 
 loop-holds : tie.Need-loop-init invariant-loop decreases-loop
-unfolding lotsMade
+unfolding lots_made
 loop-holds c = (record { message = refl; reply = refl; safe = c.before.before.before.before.requires; whole = refl }, omega arith)
 
 send-lot-requires : tie.Need-send-lot-requires invariant-loop decreases-loop
@@ -39,7 +39,7 @@ returns c =
     let t = k.before.before.before.before.before in
     let a = t.before.before.before.before.before.args in
     let step = k.send-lot.ensures in
-    (stays (lotMade a.presentations.now a.returns.now) (mostLots - t.loop.number) (suc mostLots - t.loop.number) t.loop.number _ _ (omega arith) step.0 (sym c.before.same.ensures ∙ c.if1.true) ∙ t.loop.invariant.0.whole, step.1)
+    (stays (lot_made a.presentations.now a.returns.now) (most_lots - t.loop.number) (suc most_lots - t.loop.number) t.loop.number _ _ (omega arith) step.0 (sym c.before.same.ensures ∙ c.if1.true) ∙ t.loop.invariant.0.whole, step.1)
 
 add-number : tie.Need-overflow-add-number invariant-loop decreases-loop
 add-number c = let below = c.before.before.before.before.before.before.before.before.before.before.loop-test.true in omega arith
@@ -58,7 +58,7 @@ loop-again c =
         message = next.auto.1.1.1.1.0 ∙ t.loop.invariant.0.message;
         reply = next.auto.1.1.1.1.1.0 ∙ t.loop.invariant.0.reply;
         safe = next.ensures.1;
-        whole = moves (lotMade a.presentations.now a.returns.now) (suc mostLots - (t.loop.number + 1)) (suc mostLots - t.loop.number) t.loop.number _ _ (omega arith) next.ensures.0 _ (omega arith) (sym c.before.same.ensures ∙ c.if1.false) ∙ t.loop.invariant.0.whole;
+        whole = moves (lot_made a.presentations.now a.returns.now) (suc most_lots - (t.loop.number + 1)) (suc most_lots - t.loop.number) t.loop.number _ _ (omega arith) next.ensures.0 _ (omega arith) (sym c.before.same.ensures ∙ c.if1.false) ∙ t.loop.invariant.0.whole;
       },
       omega arith,
     )
@@ -74,7 +74,7 @@ returns-2 c =
     let above = c.loop-test.false in
     let t = c.before in
     let a = t.before.before.before.before.before.args in
-    (over (lotMade a.presentations.now a.returns.now) (suc mostLots - t.loop.number) t.loop.number _ (omega arith) ∙ t.loop.invariant.0.whole, t.loop.invariant.0.safe)
+    (over (lot_made a.presentations.now a.returns.now) (suc most_lots - t.loop.number) t.loop.number _ (omega arith) ∙ t.loop.invariant.0.whole, t.loop.invariant.0.safe)
 
 pub send-lots-spec : {M : Type 1} → statement M
 send-lots-spec =

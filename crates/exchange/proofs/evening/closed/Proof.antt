@@ -3,7 +3,7 @@ use mathlib.Core.Path.{ap, ◌∙◌}
 use mathlib.Core.List.{[]}
 use Rattle.session.specs.Report.{report}
 use Rattle.session.specs.Engine.{Performed}
-use Rattle.exchange.specs.Evening.{side_of, closedEnd, closedSide}
+use Rattle.exchange.specs.Evening.{side_of, closed_end, closed_side}
 use borrow.Author.Rules.{rules}
 use Rattle.exchange.proofs.evening.closed.Statement.{statement}
 use Rattle.exchange.proofs.evening.closed.Tie as tie
@@ -18,7 +18,7 @@ side-of-requires : tie.Need-side-of-requires
 side-of-requires c κs = search rules
 
 returns : tie.Need-returns
-unfolding closedSide closedEnd
+unfolding closed_side closed_end
 returns c = c.side-of.ensures ∙ ap side_of (c.before.report.ensures ∙ ap (λ (t : Performed). report t.engine.session) (c.before.before.before.clock-call.ensures.0 []))
 
 pub closed-spec : {M : Type 1} → statement M

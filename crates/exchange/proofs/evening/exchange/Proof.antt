@@ -1,6 +1,6 @@
 -- `exchange`: trays with a code are refused; the others are within their bounds, so that the evening can run.
 use mathlib.Core.Path.{◌∙◌}
-use Rattle.exchange.proofs.Laws.Evening.{trays-good, ran, refused}
+use Rattle.exchange.proofs.Laws.Evening.{trays_good, ran, refused}
 use borrow.Author.Rules.{rules}
 use Rattle.exchange.proofs.evening.exchange.Statement.{statement}
 use Rattle.exchange.proofs.evening.exchange.Tie as tie
@@ -11,7 +11,7 @@ trays-code-requires c κs = search rules
 evening-requires : tie.Need-evening-requires
 evening-requires c κs =
     let a = c.before.before.before.before.before.before.args in
-    trays-good a.near-presentations.now a.near-returns.now a.far-presentations.now a.far-returns.now _ c.before.trays-code.ensures c.if1.true
+    trays_good a.near-presentations.now a.near-returns.now a.far-presentations.now a.far-returns.now _ c.before.trays-code.ensures c.if1.true
 
 returns : tie.Need-returns
 returns c =

@@ -1,7 +1,7 @@
 -- `started`: a start, with running totals of no documents.
 use mathlib.Core.Path.{ap, ◌∙◌}
 use Rattle.session.specs.Start.{StartOutcome}
-use Rattle.session.specs.Engine.{withEmpty}
+use Rattle.session.specs.Engine.{with_empty}
 use borrow.Author.Rules.{rules}
 use Rattle.exchange.proofs.evening.started.Statement.{statement}
 use Rattle.exchange.proofs.evening.started.Tie as tie
@@ -19,7 +19,7 @@ begun-requires : tie.Need-begun-requires
 begun-requires c κs = search rules
 
 returns : tie.Need-returns
-returns c = let begun = c.begun.ensures in (begun.0 ∙ ap (λ (o : StartOutcome). withEmpty o.session) c.before.before.start.ensures.0, begun.1)
+returns c = let begun = c.begun.ensures in (begun.0 ∙ ap (λ (o : StartOutcome). with_empty o.session) c.before.before.start.ensures.0, begun.1)
 
 pub started-spec : {M : Type 1} → statement M
 started-spec =

@@ -3,18 +3,18 @@ use mathlib.Core.Path.{refl, sym, ◌∙◌}
 use Prim.Native.Nat.{suc, ◌+◌, ◌-◌, ◌≤◌}
 use native.Mathlib.Omega.{arith}
 use borrow.Author.Rules.{rules}
-use Rattle.exchange.specs.Fixed.{lotParts}
-use Rattle.exchange.specs.Course.{standingOf, nextPart, filled}
+use Rattle.exchange.specs.Fixed.{lot_parts}
+use Rattle.exchange.specs.Course.{standing_of, next_part, filled}
 use Rattle.exchange.proofs.Laws.Course.{Going, stays, moves, over}
 use Rattle.exchange.proofs.lot.fill.Statement.{statement}
 use Rattle.exchange.proofs.lot.fill.Tie as tie
 
 abbrev invariant-loop : tie.invariant-loop
 invariant-loop presentations returns message₀ reply₀ at₀ parts₀ message reply at parts =
-    Going presentations returns (nextPart presentations returns) (lotParts - parts) parts (filled presentations returns (standingOf at₀ message₀ reply₀)) message₀ reply₀ message reply at × (parts ≤ lotParts)
+    Going presentations returns (next_part presentations returns) (lot_parts - parts) parts (filled presentations returns (standing_of at₀ message₀ reply₀)) message₀ reply₀ message reply at × (parts ≤ lot_parts)
 
 abbrev decreases-loop : tie.decreases-loop
-decreases-loop presentations returns message₀ reply₀ at₀ parts₀ message reply at parts = lotParts - parts
+decreases-loop presentations returns message₀ reply₀ at₀ parts₀ message reply at parts = lot_parts - parts
 
 loop-holds : tie.Need-loop-init invariant-loop decreases-loop
 unfolding filled
@@ -39,7 +39,7 @@ returns c =
     let t = k.before.before.before.before.before in
     let a = t.before.before.before.before.before.args in
     let step = k.send-next.ensures in
-    (stays (nextPart a.presentations.now a.returns.now) (lotParts - suc t.loop.parts) (lotParts - t.loop.parts) t.loop.parts _ _ (omega arith) step.0 (sym c.before.same.ensures ∙ c.if1.true) ∙ t.loop.invariant.0.whole, step.1)
+    (stays (next_part a.presentations.now a.returns.now) (lot_parts - suc t.loop.parts) (lot_parts - t.loop.parts) t.loop.parts _ _ (omega arith) step.0 (sym c.before.same.ensures ∙ c.if1.true) ∙ t.loop.invariant.0.whole, step.1)
 
 add_parts : tie.Need-overflow-add-parts invariant-loop decreases-loop
 add_parts c = search rules
@@ -58,7 +58,7 @@ loop-again c =
         message = next.auto.1.1.1.0 ∙ t.loop.invariant.0.message;
         reply = next.auto.1.1.1.1.0 ∙ t.loop.invariant.0.reply;
         safe = next.ensures.1;
-        whole = moves (nextPart a.presentations.now a.returns.now) (lotParts - (t.loop.parts + 1)) (lotParts - t.loop.parts) t.loop.parts _ _ (omega arith) next.ensures.0 _ (omega arith) (sym c.before.same.ensures ∙ c.if1.false) ∙ t.loop.invariant.0.whole;
+        whole = moves (next_part a.presentations.now a.returns.now) (lot_parts - (t.loop.parts + 1)) (lot_parts - t.loop.parts) t.loop.parts _ _ (omega arith) next.ensures.0 _ (omega arith) (sym c.before.same.ensures ∙ c.if1.false) ∙ t.loop.invariant.0.whole;
       },
       omega arith,
     )
@@ -73,7 +73,7 @@ returns-2 : tie.Need-returns-2 invariant-loop decreases-loop
 returns-2 c =
     let t = c.before in
     let a = t.before.before.before.before.before.args in
-    (over (nextPart a.presentations.now a.returns.now) (lotParts - t.loop.parts) t.loop.parts _ (omega arith) ∙ t.loop.invariant.0.whole, t.loop.invariant.0.safe)
+    (over (next_part a.presentations.now a.returns.now) (lot_parts - t.loop.parts) t.loop.parts _ (omega arith) ∙ t.loop.invariant.0.whole, t.loop.invariant.0.safe)
 
 pub fill_spec : {M : Type 1} → statement M
 fill_spec =

@@ -1,7 +1,7 @@
 -- `send_lot`: by the test, over the part that the trays give.
 use mathlib.Core.Path.{◌∙◌}
-use Rattle.exchange.specs.Course.{standingOf}
-use Rattle.exchange.proofs.Laws.Course.{lot-none, lot-some}
+use Rattle.exchange.specs.Course.{standing_of}
+use Rattle.exchange.proofs.Laws.Course.{lot_none, lot_some}
 use borrow.Author.Rules.{rules}
 use Rattle.exchange.proofs.lot.send_lot.Statement.{statement}
 use Rattle.exchange.proofs.lot.send_lot.Tie as tie
@@ -13,7 +13,7 @@ returns : tie.Need-returns
 returns c =
     let s = c.before.before.before.before.before.before.before in
     let a = s.args in
-    (lot-none a.presentations.now a.returns.now _ a.number (standingOf a.p a.message.now a.reply.now) c.before.next.ensures c.if1.true, s.requires)
+    (lot_none a.presentations.now a.returns.now _ a.number (standing_of a.p a.message.now a.reply.now) c.before.next.ensures c.if1.true, s.requires)
 
 whole-lot-requires : tie.Need-whole-lot-requires
 whole-lot-requires c κs = search rules
@@ -28,7 +28,7 @@ returns-2 : tie.Need-returns-2
 returns-2 c =
     let a = c.before.before.before.before.before.before.before.before.before.before.before.before.before.before.args in
     let made = c.before.before.before.before.whole-lot.ensures in
-    (made.0 ∙ lot-some a.presentations.now a.returns.now _ a.number (standingOf a.p a.message.now a.reply.now) c.before.before.before.before.before.before.before.before.next.ensures c.before.before.before.before.before.before.before.if1.false, made.1)
+    (made.0 ∙ lot_some a.presentations.now a.returns.now _ a.number (standing_of a.p a.message.now a.reply.now) c.before.before.before.before.before.before.before.before.next.ensures c.before.before.before.before.before.before.before.if1.false, made.1)
 
 pub send-lot-spec : {M : Type 1} → statement M
 send-lot-spec =

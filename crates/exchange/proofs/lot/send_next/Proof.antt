@@ -1,7 +1,7 @@
 -- `send_next`: by the test, over the part that the trays give.
 use mathlib.Core.Path.{◌∙◌}
-use Rattle.exchange.specs.Course.{standingOf}
-use Rattle.exchange.proofs.Laws.Cursors.{moved-within}
+use Rattle.exchange.specs.Course.{standing_of}
+use Rattle.exchange.proofs.Laws.Cursors.{moved_within}
 use Rattle.exchange.proofs.Laws.Course.{no_room, room}
 use borrow.Author.Rules.{rules}
 use Rattle.exchange.proofs.lot.send_next.Statement.{statement}
@@ -20,13 +20,13 @@ returns : tie.Need-returns
 returns c =
     let s = c.before.before.before.before.before.before.before.before.before in
     let a = s.args in
-    (no_room a.presentations.now a.returns.now _ (standingOf a.p a.message.now a.reply.now) c.before.before.before.next.ensures _ _ c.before.before.documents-in.ensures c.before.passes-lot.ensures c.if1.true, s.requires)
+    (no_room a.presentations.now a.returns.now _ (standing_of a.p a.message.now a.reply.now) c.before.before.before.next.ensures _ _ c.before.before.documents-in.ensures c.before.passes-lot.ensures c.if1.true, s.requires)
 
 send-part-requires : tie.Need-send-part-requires
 send-part-requires c κs =
     let s = c.before.before.before.before.before.before.before.before.before.before.before in
     let a = s.args in
-    (s.requires, moved-within a.presentations.now a.returns.now a.p.cursors s.requires.good _ c.before.before.before.before.before.next.ensures)
+    (s.requires, moved_within a.presentations.now a.returns.now a.p.cursors s.requires.good _ c.before.before.before.before.before.next.ensures)
 
 same_length : tie.Need-same-length
 same_length c = search rules
@@ -40,7 +40,7 @@ returns-2 c =
     let t = k.before.before.before in
     let a = t.before.before.before.before.before.before.before.before.before.args in
     let sent = k.send-part.ensures in
-    (sent.0 ∙ room a.presentations.now a.returns.now _ (standingOf a.p a.message.now a.reply.now) t.before.before.before.next.ensures _ _ t.before.before.documents-in.ensures t.before.passes-lot.ensures t.if1.false, sent.1)
+    (sent.0 ∙ room a.presentations.now a.returns.now _ (standing_of a.p a.message.now a.reply.now) t.before.before.before.next.ensures _ _ t.before.before.documents-in.ensures t.before.passes-lot.ensures t.if1.false, sent.1)
 
 pub send-next-spec : {M : Type 1} → statement M
 send-next-spec =

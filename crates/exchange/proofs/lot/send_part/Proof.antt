@@ -1,8 +1,8 @@
 -- `send_part`: the detail's round, and the cursors past its documents where the presenter counted them.
-use Rattle.document.specs.Part.{countIn}
-use Rattle.exchange.specs.Course.{standingOf}
-use Rattle.exchange.proofs.Laws.Cursors.{past-within}
-use Rattle.exchange.proofs.Laws.Course.{part-sent}
+use Rattle.document.specs.Part.{count_in}
+use Rattle.exchange.specs.Course.{standing_of}
+use Rattle.exchange.proofs.Laws.Cursors.{past_within}
+use Rattle.exchange.proofs.Laws.Course.{part_sent_lem}
 use borrow.Author.Rules.{rules}
 use Rattle.exchange.proofs.lot.send_part.Statement.{statement}
 use Rattle.exchange.proofs.lot.send_part.Tie as tie
@@ -39,8 +39,8 @@ returns c =
     let before = k.before.before.before.before.documents-in in
     let after = c.before.documents-in2 in
     let made = k.one_more.ensures in (
-      part-sent a.presentations.now a.part.now (standingOf a.p a.message.now a.reply.now) _ _ _ _ _ k.before.before.before.operation.ensures before.ensures made.0 after.ensures c.past-part.ensures,
-      record { ready = made.1; good = past-within a.presentations.now a.returns.now a.p.cursors s.pre.0.good (countIn a.part.now) before.result after.result _ s.pre.1 c.past-part.ensures },
+      part_sent_lem a.presentations.now a.part.now (standing_of a.p a.message.now a.reply.now) _ _ _ _ _ k.before.before.before.operation.ensures before.ensures made.0 after.ensures c.past-part.ensures,
+      record { ready = made.1; good = past_within a.presentations.now a.returns.now a.p.cursors s.pre.0.good (count_in a.part.now) before.result after.result _ s.pre.1 c.past-part.ensures },
     )
 
 pub send-part-spec : {M : Type 1} → statement M

@@ -2,8 +2,8 @@
 use native.Mathlib.Omega.{arith}
 use lib.ListN.{length-take}
 use borrow.Author.Rules.{rules}
-use Rattle.centre.specs.Turn.{call_of, engineOf}
-use Rattle.exchange.proofs.Laws.Written.{written-within}
+use Rattle.centre.specs.Turn.{call_of, engine_of}
+use Rattle.exchange.proofs.Laws.Written.{written_within}
 use Rattle.exchange.proofs.Laws.Rounds.{heard, unheard}
 use Rattle.exchange.proofs.rounds.round.Statement.{statement}
 use Rattle.exchange.proofs.rounds.round.Tie as tie
@@ -19,7 +19,7 @@ slice-reshare-prefix-answered c =
     let k = c.before.before.before.before.before in
     let a = (start k).args in
     let call = k.perform in
-    omega (arith, written-within (call_of a.order a.part.now) a.message.now (engineOf a.presenter) _ call.ensures.0, call.auto.1.1.1.0)
+    omega (arith, written_within (call_of a.order a.part.now) a.message.now (engine_of a.presenter) _ call.ensures.0, call.auto.1.1.1.0)
 
 slice-aggregate-answered : tie.Need-slice-aggregate-answered
 slice-aggregate-answered c = simp length-take (omega (arith, slice-reshare-prefix-answered c.before))
@@ -39,7 +39,7 @@ returns c =
     let a = (start k).args in
     let turn = k.perform in
     let answer = c.before.before.answered in
-    (heard (call_of a.order a.part.now) a.time a.message.now a.reply.now (engineOf a.presenter) (engineOf a.receiver) _ turn.ensures.0 _ _ c.before.before.before.before.before.if1.true answer.ensures.1.0 answer.ensures.0, answer.ensures.1.1)
+    (heard (call_of a.order a.part.now) a.time a.message.now a.reply.now (engine_of a.presenter) (engine_of a.receiver) _ turn.ensures.0 _ _ c.before.before.before.before.before.if1.true answer.ensures.1.0 answer.ensures.0, answer.ensures.1.1)
 
 same-length-3 : tie.Need-same-length-3
 same-length-3 c = search rules
@@ -50,7 +50,7 @@ returns-2 c =
     let s = start k in
     let a = s.args in
     let turn = k.perform in
-    (unheard (call_of a.order a.part.now) a.time a.message.now a.reply.now (engineOf a.presenter) (engineOf a.receiver) _ turn.ensures.0 c.if1.false, record { presenter = turn.ensures.1; receiver = s.pre.1 })
+    (unheard (call_of a.order a.part.now) a.time a.message.now a.reply.now (engine_of a.presenter) (engine_of a.receiver) _ turn.ensures.0 c.if1.false, record { presenter = turn.ensures.1; receiver = s.pre.1 })
 
 pub round-spec : {M : Type 1} → statement M
 round-spec =

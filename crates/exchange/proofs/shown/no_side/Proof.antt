@@ -3,7 +3,7 @@ use mathlib.Core.Path.{ap, ◌∙◌}
 use lib.IntN.{pos}
 use borrow.Author.Rules.{rules}
 use Rattle.exchange.specs.declared.shown.Sums.{Sums}
-use Rattle.exchange.specs.Evening.{sumsOf}
+use Rattle.exchange.specs.Evening.{sums_of}
 use Rattle.exchange.proofs.shown.no_side.Statement.{statement}
 use Rattle.exchange.proofs.shown.no_side.Tie as tie
 
@@ -16,7 +16,7 @@ sums-of-requires c κs = search rules
 returns : tie.Need-returns
 returns c =
     ap (λ (s : Sums). record { presented = s; received = s; close = 0; awaited = 0; lot_number = 0; lot = s; nominal_position = pos 0; commission_position = pos 0 })
-    (c.sums-of.ensures ∙ ap (sumsOf 0) c.before.empty.ensures)
+    (c.sums-of.ensures ∙ ap (sums_of 0) c.before.empty.ensures)
 
 pub no-side-spec : {M : Type 1} → statement M
 no-side-spec = tie.close (tie.spec empty-requires sums-of-requires returns)

@@ -4,7 +4,7 @@ use borrow.Author.Rules.{rules}
 use mir.Syntax.{w64}
 use mir.ValLaws.{to_z-of_z}
 use Rattle.session.specs.declared.counters.Lot.{Lot}
-use Rattle.exchange.specs.Evening.{sumsOf}
+use Rattle.exchange.specs.Evening.{sums_of}
 use Rattle.exchange.proofs.shown.side_of.Statement.{statement}
 use Rattle.exchange.proofs.shown.side_of.Tie as tie
 
@@ -43,7 +43,7 @@ returns c =
       close = c.before.before.before.before.close-number.ensures i;
       awaited = c.before.before.before.awaited-number.ensures i;
       lot_number = ap (λ (l : Lot). l.number) lot.ensures i;
-      lot = (c.before.sums-of3.ensures ∙ ap (λ (l : Lot). sumsOf 0 l.gathered) lot.ensures) i;
+      lot = (c.before.sums-of3.ensures ∙ ap (λ (l : Lot). sums_of 0 l.gathered) lot.ensures) i;
       nominal_position = to_z-of_z w64 r.positions.nominal (record { sfits = signed.0.1 }) i;
       commission_position = to_z-of_z w64 r.positions.commission (record { sfits = signed.1.0.1 }) i;
     }

@@ -7,7 +7,7 @@ use mir.Val.{vstruct, vnil, vcons}
 use types.Run.{fld}
 use denote.Signature.{plain}
 use Rattle.receiving.specs.declared.receive.ReceiveOutcome.{ReceiveOutcome}
-use Rattle.lent.proofs.InPlace.{u8, ℕ, ◌≡◌, refl, List, [], ◌∷◌, length, Ura, full_share, named, Val, vptr, SProp, ent, id⊢, GName, Lft, Share, ftrue, flft, Memory, Routine, Calls, Loops, WpFn, Fun, FmC, Item, ‵, raw, ◌⊛◌, ⋆, ◌$◌, ◌∵◌, !, qed, by, move, keep, drop, group, use1, split3, join, fsplit, fjoin, feq_l, suffices, frame, done, look, init, stop, hop, from, load, addr, of_opd, and_then, no_more, returns, enter, alloc1, alloc0, params1, pass1, pass0, free0, agg, whole, sub, look_in, owns, Is, RefT, MutRef, slice_val, slice-vals, ShrSlice, MutSlice, finally, shr_slice_Lawful, mut_slice_Lawful, only, nothing, Contract, Triple, on_entry, triple_of, cited, says, walk_of, ends_at, Session, Running, Direction, Sound, Carried, Received, session, totals, number, received, outcome, typed, Param, by_value, shared, lent-on, stays, premise, ReceivedSo, has, lends, takes_back, promised, gone, here, hears, sets, into, asks, concluded}
+use Rattle.lent.proofs.InPlace.{u8, ℕ, ◌≡◌, refl, List, [], ◌∷◌, length, Ura, full_share, named, Val, vptr, SProp, ent, id⊢, GName, Lft, Share, ftrue, flft, Memory, Routine, Calls, Loops, WpFn, Fun, FmC, Item, ‵, raw, ◌⊛◌, ⋆, ◌$◌, ◌∵◌, !, qed, by, move, keep, drop, group, use1, split3, join, fsplit, fjoin, feq_l, suffices, frame, done, look, init, stop, hop, from, load, addr, of_opd, and_then, no_more, returns, enter, alloc1, alloc0, params1, pass1, pass0, free0, agg, whole, sub, look_in, owns, Is, RefT, MutRef, slice_val, slice-vals, ShrSlice, MutSlice, finally, shr_slice_Lawful, mut_slice_Lawful, only, nothing, Contract, Triple, on_entry, triple_of, cited, says, walk_of, ends_at, Session, Running, Direction, Sound, Carried, Received, session, totals, number, received, outcome, typed, Param, by_value, shared, lent_on, stays, premise, ReceivedSo, has, lends, takes_back, promised, gone, here, hears, sets, into, asks, concluded}
 use Rattle.lent.specs.contracts.receive.receive as step
 use Rattle.lent.proofs.receive.receive.Symbol as step-def
 use Rattle.lent.proofs.receive.receive.Symbol.{name as #step}
@@ -18,7 +18,7 @@ use Rattle.lent.proofs.example.receive_with_local.Statement as stated
 use Rattle.lent.proofs.example.receive_with_local.Code as code
 
 abbrev params : List (Param 2)
-params = by_value session (λ x f. refl) ∷ by_value totals (λ x f. refl) ∷ by_value number (λ x f. refl) ∷ shared 0 tt ∷ lent-on 1 tt ∷ []
+params = by_value session (λ x f. refl) ∷ by_value totals (λ x f. refl) ∷ by_value number (λ x f. refl) ∷ shared 0 tt ∷ lent_on 1 tt ∷ []
 
 -- the outcome is made of its two fields
 made : (r : Received) (t : Running) (v : Val) → Is received.type r (v ∷ []) → Is totals.type t (totals.spell t) → Is outcome.type (record { running = t; received = r }) (vstruct (vcons (only (totals.spell t)) (vcons v vnil)) ∷ [])
@@ -91,9 +91,9 @@ module _ {M : Type 1} {𝓤 : Ura M} (𝓛 : Logic 𝓤) (mem : Memory → SProp
         returns ! (look ! 26 refl) $ move ! (26 ∷ 27 ∷ 24 ∷ 25 ∷ 22 ∷ 23 ∷ 20 ∷ 21 ∷ 18 ∷ 19 ∷ 16 ∷ 17 ∷ 0 ∷ 15 ∷ 13 ∷ 14 ∷ 11 ∷ 12 ∷ 9 ∷ 10 ∷ 7 ∷ 8 ∷ 5 ∷ 6 ∷ []) $ gone ! $ gone ! $ gone ! $ gone ! $ gone ! $ gone ! $ gone ! $ gone ! $ gone ! $ gone ! $ gone ! $ gone ! $ free0 ! $ keep ! (0 ∷ 1 ∷ 2 ∷ []) $
         by ! (exits (record { running = ws.1.0; received = r }) _ (made r ws.1.0 v is is-w) ws.1.1.1.1.0 l e))))))))))))))))))
 
-pub receive-with-local-spec : {M : Type 1} → stated.statement M
+pub receive_with_local_spec : {M : Type 1} → stated.statement M
 unfolding code.routine
-receive-with-local-spec 𝓤 𝓛 𝓜 𝓡 =
+receive_with_local_spec 𝓤 𝓛 𝓜 𝓡 =
     concluded 𝓛 𝓜 𝓡 code.env params (plain (λ _. outcome.type)) (example.clauses 𝓛 𝓜.mem 𝓡.run) #example code.function (code.unfolded 𝓤 𝓛.H 𝓜 𝓡) (λ fm κs qs bounds a g are. premise 𝓤 (Sound a.0) (Carried Direction.receiving a.0 a.1.0) _
     (walk 𝓛 𝓜.mem 𝓡.run κs.0 κs.1.0 qs.0 qs.1.0 a.0 (only (session.spell a.0)) a.1.0 (only (totals.spell a.1.0)) a.1.1.0 (only (number.spell a.1.1.0)) a.1.1.1.0 (only (shr_slice_vals a.1.1.1.0)) a.1.1.1.1.0 are.0 are.1.0 are.1.1.0 are.1.1.1.0 are.1.1.1.1.0 _ _
     (cited 𝓤 𝓛.H (triple_of 𝓛 step.signature (step.spec 𝓛 𝓜.mem 𝓡.run)) 𝓜 𝓡 code.env #step step-def.routine code.calls-lent::receive::receive (step_thm.met 𝓤 𝓛 𝓜 𝓡)) fm))

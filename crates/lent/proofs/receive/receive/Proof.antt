@@ -15,7 +15,7 @@ use Rattle.receiving.specs.contracts.receive.receive as step
 use Rattle.receiving.proofs.receive.receive.Symbol as step-def
 use Rattle.receiving.proofs.receive.receive.Symbol.{name as #step}
 use Rattle.receiving.proofs.receive.receive.Met as step_thm
-use Rattle.lent.proofs.InPlace.{u8, ℕ, ◌≡◌, refl, ap, List, [], ◌∷◌, length, Ura, named, Val, vptr, SProp, ent, id⊢, GName, Lft, Share, ftrue, flft, Memory, Routine, Calls, Loops, WpFn, Fun, FmC, ‵, raw, ◌⊛◌, ⋆, ◌$◌, ◌∵◌, !, qed, by, move, keep, drop, group, use1, split, split3, join, fsplit, fsplit3, fjoin, feq_l, suffices, frame, done, look, init, stop, hop, from, load, addr, of_opd, and_then, no_more, returns, enter, alloc1, alloc0, params1, pass1, pass0, free0, agg, whole, sub, look_in, owns, Is, RefT, MutRef, slice_val, slice-vals, ShrSlice, MutSlice, finally, shr_slice_Lawful, mut_slice_Lawful, only, nothing, Contract, Triple, on_entry, triple_of, cited, says, walk_of, ends_at, Session, Running, Direction, Sound, Carried, Received, session, totals, totalsBytes, number, received, outcome, typed, Param, by_value, lent, shared, lent-on, stays, all_said, premise, ReceivedSo, Settled, has, promised, gone, here, field-of, apart, hears, sets, into, reads, asks, Leave, leaves, concluded}
+use Rattle.lent.proofs.InPlace.{u8, ℕ, ◌≡◌, refl, ap, List, [], ◌∷◌, length, Ura, named, Val, vptr, SProp, ent, id⊢, GName, Lft, Share, ftrue, flft, Memory, Routine, Calls, Loops, WpFn, Fun, FmC, ‵, raw, ◌⊛◌, ⋆, ◌$◌, ◌∵◌, !, qed, by, move, keep, drop, group, use1, split, split3, join, fsplit, fsplit3, fjoin, feq_l, suffices, frame, done, look, init, stop, hop, from, load, addr, of_opd, and_then, no_more, returns, enter, alloc1, alloc0, params1, pass1, pass0, free0, agg, whole, sub, look_in, owns, Is, RefT, MutRef, slice_val, slice-vals, ShrSlice, MutSlice, finally, shr_slice_Lawful, mut_slice_Lawful, only, nothing, Contract, Triple, on_entry, triple_of, cited, says, walk_of, ends_at, Session, Running, Direction, Sound, Carried, Received, session, totals, totals_bytes, number, received, outcome, typed, Param, by_value, lent, shared, lent_on, stays, all_said, premise, ReceivedSo, Settled, has, promised, gone, here, field_of_local, apart, hears, sets, into, reads, asks, Leave, leaves, concluded}
 use Rattle.lent.proofs.leaving.leave.Symbol as leave-def
 use Rattle.lent.proofs.leaving.leave.Symbol.{name as #leave}
 use Rattle.lent.proofs.leaving.leave.Met as leave-thm
@@ -25,11 +25,11 @@ use Rattle.lent.proofs.receive.receive.Statement as stated
 use Rattle.lent.proofs.receive.receive.Code as code
 
 abbrev params : List (Param 3)
-params = by_value session (λ x f. refl) ∷ lent 0 tt ∷ by_value number (λ x f. refl) ∷ shared 1 tt ∷ lent-on 2 tt ∷ []
+params = by_value session (λ x f. refl) ∷ lent 0 tt ∷ by_value number (λ x f. refl) ∷ shared 1 tt ∷ lent_on 2 tt ∷ []
 
 -- where the outcome by value has what the call gives beside the running totals
-at-received : field_of O'.mir 1 ≡ just (R'.mir, totalsBytes)
-at-received = refl
+at_received : field_of O'.mir 1 ≡ just (R'.mir, totals_bytes)
+at_received = refl
 
 module _ {M : Type 1} {𝓤 : Ura M} (𝓛 : Logic 𝓤) (mem : Memory → SProp 𝓤) (run : Routine → Fun 𝓤)
     (κ κ₁ κ₂ : Lft) (q q₁ q₂ : Share) (s : Session) (sv : Val) (b o : ℕ) (γ : GName) (h : Running) (time : ℕ) (tv : Val) (message : Bor (List ℕ)) (mv : Val) (line : Bor (List ℕ)) (is-s : Is session.type s (sv ∷ [])) (is-t : Is number.type time (tv ∷ [])) (is_m : Is (ShrSlice (named 1) κ₁ u8) message (mv ∷ [])) (is-l : Is (MutSlice (named 2) κ₂ u8) line (shr_slice_vals line)) where
@@ -90,13 +90,13 @@ module _ {M : Type 1} {𝓤 : Ura M} (𝓛 : Logic 𝓤) (mem : Memory → SProp
         -- [the running totals, lent; the other tokens; true; the line buffer's last bytes; true; _11 at 5, _10 at 7, _9 at 9, _8 at 11, _7 at 13, _6 at 15, _5 at 17, _4 at 19, _3 at 21, _2 at 23, _1 at 25, _0 at 27]
         sets ! 8 (addr ! (from ! (hop ! (look ! 26 refl) (stop !)))) refl (tt, tt) $ leaves mem run ! fm known-leave O'.mir {h = h} 5 15 7 refl refl refl refl refl (tt, tt) r.running is_x $
         -- [their last value; the tokens; true; the line buffer's last bytes; true; _11 at 7, _10 at 9, _9 at 11, _8 at 13, _7 at 15, _6 at 17, _5 at 19, _4 at 21, _3 at 23, _2 at 25, _1 at 27, _0 at 29]
-        sets ! 29 (of_opd ! (field-of ! O'.mir 17 at-received refl refl)) refl (typed 𝓛 received r.received _ is_y).0 $
+        sets ! 29 (of_opd ! (field_of_local ! O'.mir 17 at_received refl refl)) refl (typed 𝓛 received r.received _ is_y).0 $
         returns ! (look ! 29 refl) $ move ! (29 ∷ 30 ∷ 27 ∷ 28 ∷ 25 ∷ 26 ∷ 23 ∷ 24 ∷ 21 ∷ 22 ∷ 19 ∷ 20 ∷ 17 ∷ 18 ∷ 15 ∷ 16 ∷ 13 ∷ 14 ∷ 11 ∷ 12 ∷ 9 ∷ 10 ∷ 7 ∷ 8 ∷ []) $ gone ! $ gone ! $ gone ! $ gone ! $ gone ! $ gone ! $ gone ! $ gone ! $ gone ! $ gone ! $ gone ! $ gone ! $ free0 ! $ keep ! (0 ∷ 1 ∷ 2 ∷ 3 ∷ 5 ∷ []) $
         by ! (exits r.received y is_y r.running ws.1.1.1.1.0 l e))))))))))))))))))
 
-pub receive-spec : {M : Type 1} → stated.statement M
+pub receive_spec : {M : Type 1} → stated.statement M
 unfolding code.routine
-receive-spec 𝓤 𝓛 𝓜 𝓡 =
+receive_spec 𝓤 𝓛 𝓜 𝓡 =
     concluded 𝓛 𝓜 𝓡 code.env params (plain (λ _. received.type)) (in_place.clauses 𝓛 𝓜.mem 𝓡.run) #receive code.function (code.unfolded 𝓤 𝓛.H 𝓜 𝓡) (λ fm κs qs bounds a g are. premise 𝓤 (Sound a.0) (Carried Direction.receiving a.0 a.1.0.now) _
     (walk 𝓛 𝓜.mem 𝓡.run κs.0 κs.1.0 κs.1.1.0 qs.0 qs.1.0 qs.1.1.0 a.0 (only (session.spell a.0)) a.1.0.ref_ptr.0 a.1.0.ref_ptr.1 a.1.0.ghost_name a.1.0.now a.1.1.0 (only (number.spell a.1.1.0)) a.1.1.1.0 (only (mut_slice_vals a.1.1.1.0)) a.1.1.1.1.0 are.0 are.1.1.0 are.1.1.1.0 are.1.1.1.1.0 _ _
     (cited 𝓤 𝓛.H (triple_of 𝓛 step.signature (step.spec 𝓛 𝓜.mem 𝓡.run)) 𝓜 𝓡 code.env #step step-def.routine code.calls-receiving::receive::receive (step_thm.met 𝓤 𝓛 𝓜 𝓡))

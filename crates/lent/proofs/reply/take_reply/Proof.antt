@@ -7,11 +7,11 @@ use mathlib.Core.Option.{some as just}
 use prog.Memory.{field_of}
 use denote.Signature.{plain}
 use denote.Struct.Laws as LL
-use Rattle.session.specs.Reply.{takeReply}
+use Rattle.session.specs.Reply.{take_reply}
 use Rattle.session.specs.Premise.{KeptBeside}
 use Rattle.calls.specs.declared.called.Called.{Called}
 use Rattle.session.specs.Outcome.{held}
-use Rattle.calls.specs.Said.{calledSaid}
+use Rattle.calls.specs.Said.{called_said}
 use Rattle.calls.specs.contracts.called.Called as R
 use Rattle.calls.proofs.called.Called.TheLaws as R'
 use Rattle.presenting.specs.contracts.reply.ReplyOutcome as O
@@ -20,7 +20,7 @@ use Rattle.presenting.specs.contracts.reply.take_reply as step
 use Rattle.presenting.proofs.reply.take_reply.Symbol as step-def
 use Rattle.presenting.proofs.reply.take_reply.Symbol.{name as #step}
 use Rattle.presenting.proofs.reply.take_reply.Met as step_thm
-use Rattle.lent.proofs.InPlace.{u8, ℕ, ◌≡◌, refl, ap, List, [], ◌∷◌, Ura, named, Val, vptr, SProp, ent, id⊢, GName, Lft, Share, ftrue, flft, Memory, Routine, Calls, Loops, WpFn, Fun, FmC, ‵, raw, ◌⊛◌, ⋆, ◌$◌, ◌∵◌, !, qed, by, move, keep, drop, group, use1, split, split3, join, fsplit, fsplit3, fjoin, suffices, frame, done, look, init, stop, hop, from, addr, of_opd, and_then, no_more, returns, enter, alloc1, alloc0, params1, pass1, pass0, free0, owns, Is, RefT, MutRef, slice-vals, ShrSlice, shr_slice_Lawful, only, nothing, Contract, Triple, on_entry, triple_of, cited, says, walk_of, ends_at, Session, Running, Direction, Sound, Carried, Plain, declared, session, totals, totalsBytes, number, typed, Param, by_value, lent, shared, stays, all_said, premise, Settled, has, promised, gone, here, field-of, apart, hears, sets, into, reads, asks, Leave, leaves, concluded}
+use Rattle.lent.proofs.InPlace.{u8, ℕ, ◌≡◌, refl, ap, List, [], ◌∷◌, Ura, named, Val, vptr, SProp, ent, id⊢, GName, Lft, Share, ftrue, flft, Memory, Routine, Calls, Loops, WpFn, Fun, FmC, ‵, raw, ◌⊛◌, ⋆, ◌$◌, ◌∵◌, !, qed, by, move, keep, drop, group, use1, split, split3, join, fsplit, fsplit3, fjoin, suffices, frame, done, look, init, stop, hop, from, addr, of_opd, and_then, no_more, returns, enter, alloc1, alloc0, params1, pass1, pass0, free0, owns, Is, RefT, MutRef, slice-vals, ShrSlice, shr_slice_Lawful, only, nothing, Contract, Triple, on_entry, triple_of, cited, says, walk_of, ends_at, Session, Running, Direction, Sound, Carried, Plain, declared, session, totals, totals_bytes, number, typed, Param, by_value, lent, shared, stays, all_said, premise, Settled, has, promised, gone, here, field_of_local, apart, hears, sets, into, reads, asks, Leave, leaves, concluded}
 use Rattle.lent.proofs.leaving.leave.Symbol as leave-def
 use Rattle.lent.proofs.leaving.leave.Symbol.{name as #leave}
 use Rattle.lent.proofs.leaving.leave.Met as leave-thm
@@ -39,7 +39,7 @@ abbrev outcome : Plain
 outcome = declared O.the_type O'.the_laws O'.the_plain
 
 -- where the outcome by value has what the call gives beside the running totals
-at_called : field_of O'.mir 1 ≡ just (R'.mir, totalsBytes)
+at_called : field_of O'.mir 1 ≡ just (R'.mir, totals_bytes)
 at_called = refl
 
 module _ {M : Type 1} {𝓤 : Ura M} (𝓛 : Logic 𝓤) (mem : Memory → SProp 𝓤) (run : Routine → Fun 𝓤)
@@ -60,7 +60,7 @@ module _ {M : Type 1} {𝓤 : Ura M} (𝓛 : Logic 𝓤) (mem : Memory → SProp
 
   -- what the contract says of the result and of the last value
   abbrev Said : Called → Running → Type 0
-  Said r t = ((line : List ℕ) → calledSaid r t line ≡ takeReply time reply.now (held s h line)) × KeptBeside Direction.presenting s r.session t
+  Said r t = ((line : List ℕ) → called_said r t line ≡ take_reply time reply.now (held s h line)) × KeptBeside Direction.presenting s r.session t
 
   exits : (r : Called) (v : Val) → Is called.type r (v ∷ []) → (t : Running) → Said r t → ent 𝓤 (⋆ 𝓛 (Settled κ q γ t (‵ (flft κ₁ q₁) ∷ []))) (Post v)
   exits r v is t e =
@@ -90,12 +90,12 @@ module _ {M : Type 1} {𝓤 : Ura M} (𝓛 : Logic 𝓤) (mem : Memory → SProp
         -- [the running totals, lent; the reply's token; true; _8 at 2, _7 at 4, _6 at 6, _5 at 8, _4 at 10, _3 at 12, _2 at 14, _1 at 16, _0 at 18]
         sets ! 5 (addr ! (from ! (hop ! (look ! 17 refl) (stop !)))) refl (tt, tt) $ leaves mem run ! fm known-leave O'.mir {h = h} 2 8 4 refl refl refl refl refl (tt, tt) r.running is_x $
         -- [their last value; their token; the reply's; true; _8 at 4, _7 at 6, _6 at 8, _5 at 10, _4 at 12, _3 at 14, _2 at 16, _1 at 18, _0 at 20]
-        sets ! 20 (of_opd ! (field-of ! O'.mir 10 at_called refl refl)) refl (typed 𝓛 called r.called _ is_y).0 $
+        sets ! 20 (of_opd ! (field_of_local ! O'.mir 10 at_called refl refl)) refl (typed 𝓛 called r.called _ is_y).0 $
         returns ! (look ! 20 refl) $ move ! (20 ∷ 21 ∷ 18 ∷ 19 ∷ 16 ∷ 17 ∷ 14 ∷ 15 ∷ 12 ∷ 13 ∷ 10 ∷ 11 ∷ 8 ∷ 9 ∷ 6 ∷ 7 ∷ 4 ∷ 5 ∷ []) $ gone ! $ gone ! $ gone ! $ gone ! $ gone ! $ gone ! $ gone ! $ gone ! $ gone ! $ free0 ! $ keep ! (0 ∷ 1 ∷ 2 ∷ []) $ by ! (exits r.called y is_y r.running e))))))))))))))
 
-pub take-reply-spec : {M : Type 1} → stated.statement M
+pub take_reply_spec : {M : Type 1} → stated.statement M
 unfolding code.routine
-take-reply-spec 𝓤 𝓛 𝓜 𝓡 =
+take_reply_spec 𝓤 𝓛 𝓜 𝓡 =
     concluded 𝓛 𝓜 𝓡 code.env params (plain (λ _. called.type)) (take.clauses 𝓛 𝓜.mem 𝓡.run) #take code.function (code.unfolded 𝓤 𝓛.H 𝓜 𝓡) (λ fm κs qs bounds a g are. premise 𝓤 (Sound a.0) (Carried Direction.presenting a.0 a.1.0.now) _
     (walk 𝓛 𝓜.mem 𝓡.run κs.0 κs.1.0 qs.0 qs.1.0 a.0 (only (session.spell a.0)) a.1.0.ref_ptr.0 a.1.0.ref_ptr.1 a.1.0.ghost_name a.1.0.now a.1.1.0 (only (number.spell a.1.1.0)) a.1.1.1.0 (only (mut_slice_vals a.1.1.1.0)) are.0 are.1.1.0 are.1.1.1.0 _ _
     (cited 𝓤 𝓛.H (triple_of 𝓛 step.signature (step.spec 𝓛 𝓜.mem 𝓡.run)) 𝓜 𝓡 code.env #step step-def.routine code.calls-presenting::reply::take-reply (step_thm.met 𝓤 𝓛 𝓜 𝓡))

@@ -5,7 +5,7 @@ use native.Mathlib.Omega.{arith}
 use native.Mathlib.Numerals.{add-one}
 use lib.ListN.{set, length-set}
 use borrow.Author.Rules.{rules}
-use Rattle.lot_file.specs.Layout.{binaryBytes}
+use Rattle.lot_file.specs.Layout.{binary_bytes}
 use Rattle.lot_file.proofs.binary.put2.Statement.{statement}
 use Rattle.lot_file.proofs.binary.put2.Tie as tie
 
@@ -28,7 +28,7 @@ same_length : tie.Need-same-length
 same_length c = search rules
 
 returns : tie.Need-returns
-unfolding binaryBytes
+unfolding binary_bytes
 returns c =
     let a = c.args in
     let low : a.value % 256 ≡ a.value / 1 % 256 = omega arith in

@@ -4,8 +4,8 @@ use Prim.Native.Nat.{◌+◌, ◌/◌}
 use lib.Seq.{sets}
 use borrow.Author.Rules.{rules}
 use Rattle.packed.proofs.Laws.Writing.{sets_behind}
-use Rattle.lot_file.specs.Layout.{binaryBytes}
-use Rattle.lot_file.proofs.Laws.Binary.{four-split}
+use Rattle.lot_file.specs.Layout.{binary_bytes}
+use Rattle.lot_file.proofs.Laws.Binary.{four_split}
 use Rattle.lot_file.proofs.binary.put4.Statement.{statement}
 use Rattle.lot_file.proofs.binary.put4.Tie as tie
 
@@ -22,15 +22,15 @@ same_length : tie.Need-same-length
 same_length c = search rules
 
 returns : tie.Need-returns
-unfolding binaryBytes
+unfolding binary_bytes
 returns c =
     let second = c.before.before in
     let first = second.before.before.before.before in
     let a = first.before.before.before.args in
-    let high = binaryBytes 2 (a.value / 65536) in
+    let high = binary_bytes 2 (a.value / 65536) in
     second.put22.ensures
-    ∙ sets_behind high (binaryBytes 2 a.value) a.d.now first.put2.new.0 a.at (a.at + 2) first.put2.ensures refl
-    ∙ ap (sets a.d.now a.at) (sym (four-split a.value))
+    ∙ sets_behind high (binary_bytes 2 a.value) a.d.now first.put2.new.0 a.at (a.at + 2) first.put2.ensures refl
+    ∙ ap (sets a.d.now a.at) (sym (four_split a.value))
 
 pub put4-spec : {M : Type 1} → statement M
 put4-spec = tie.close (tie.spec put2-requires add-put2 put2-requires-2 same_length returns)

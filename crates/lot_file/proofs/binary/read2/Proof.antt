@@ -3,7 +3,7 @@ use mathlib.Core.Path.{sym}
 use Prim.Native.Nat.{◌+◌}
 use native.Mathlib.Omega.{arith}
 use borrow.Author.Rules.{rules}
-use Rattle.lot_file.proofs.Laws.Binary.{read-two}
+use Rattle.lot_file.proofs.Laws.Binary.{read_two}
 use Rattle.lot_file.proofs.binary.read2.Statement.{statement}
 use Rattle.lot_file.proofs.binary.read2.Tie as tie
 
@@ -31,7 +31,7 @@ add-result-2 c = omega (arith, c.before.shared-slice-known.given c.before.before
 returns : tie.Need-returns
 returns c =
     let a = c.before.before.args in
-    (sym (read-two a.at a.s.now c.before.before.requires), omega (arith, c.before.shared-slice-known.given a.at, c.shared-slice-known2.given (a.at + 1)))
+    (sym (read_two a.at a.s.now c.before.before.requires), omega (arith, c.before.shared-slice-known.given a.at, c.shared-slice-known2.given (a.at + 1)))
 
 pub read2-spec : {M : Type 1} → statement M
 read2-spec =

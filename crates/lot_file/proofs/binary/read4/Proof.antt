@@ -3,7 +3,7 @@ use mathlib.Core.Path.{sym, ◌∙◌}
 use Prim.Native.Nat.{◌+◌, ◌*◌}
 use native.Mathlib.Omega.{arith}
 use borrow.Author.Rules.{rules}
-use Rattle.lot_file.proofs.Laws.Binary.{read-four}
+use Rattle.lot_file.proofs.Laws.Binary.{read_four}
 use Rattle.lot_file.proofs.binary.read4.Statement.{statement}
 use Rattle.lot_file.proofs.binary.read4.Tie as tie
 
@@ -26,7 +26,7 @@ returns : tie.Need-returns
 returns c =
     let first = c.before in
     let a = first.before.before.args in
-    ((λ i. first.read2.ensures.0 i * 65536 + c.read22.ensures.0 i) ∙ sym (read-four a.at a.s.now first.before.before.requires), omega (arith, first.read2.ensures.1, c.read22.ensures.1))
+    ((λ i. first.read2.ensures.0 i * 65536 + c.read22.ensures.0 i) ∙ sym (read_four a.at a.s.now first.before.before.requires), omega (arith, first.read2.ensures.1, c.read22.ensures.1))
 
 pub read4-spec : {M : Type 1} → statement M
 read4-spec =

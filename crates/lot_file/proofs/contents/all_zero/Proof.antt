@@ -8,7 +8,7 @@ use lib.Dec.{eqb}
 use Rattle.packed.specs.Part.{part}
 use Rattle.packed.specs.Every.{every}
 use Rattle.packed.proofs.Laws.Part.{part_none, part_step}
-use Rattle.packed.proofs.Laws.Every.{every-none, every-step}
+use Rattle.packed.proofs.Laws.Every.{every_none, every_step}
 use Rattle.lot_file.proofs.contents.all_zero.Statement.{statement}
 use Rattle.lot_file.proofs.contents.all_zero.Tie as tie
 
@@ -38,14 +38,14 @@ loop-again c =
     let t = c.before.before in
     let a = t.before.args in (
       omega arith,
-      every-step is_zero t.loop.zero _ _ ∙ ap (λ (bs : List ℕ). t.loop.zero && every is_zero bs) (sym (part_step t.loop.i a.to a.file.now (omega arith) (omega arith))) ∙ t.loop.invariant.1,
+      every_step is_zero t.loop.zero _ _ ∙ ap (λ (bs : List ℕ). t.loop.zero && every is_zero bs) (sym (part_step t.loop.i a.to a.file.now (omega arith) (omega arith))) ∙ t.loop.invariant.1,
     )
 
 returns : tie.Need-returns invariant-loop decreases-loop
 returns c =
     let t = c.before in
     let a = t.before.args in
-    sym (every-none is_zero t.loop.zero)
+    sym (every_none is_zero t.loop.zero)
     ∙ ap (λ (bs : List ℕ). t.loop.zero && every is_zero bs) (sym (part_none t.loop.i a.to a.file.now (omega arith)))
     ∙ t.loop.invariant.1
 

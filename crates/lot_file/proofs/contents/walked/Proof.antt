@@ -7,8 +7,8 @@ use lib.Dec.{eqb}
 use borrow.Author.Rules.{rules}
 use Rattle.packed.specs.Every.{member}
 use Rattle.lot_file.specs.declared.row.Row.{Row}
-use Rattle.lot_file.specs.Good.{rowsIn, numbersOf, bodyBytes, rowGood}
-use Rattle.lot_file.proofs.Laws.Contents.{Sofar, at_first, one_more, at-unused, at_last, walked_all}
+use Rattle.lot_file.specs.Good.{rows_in, numbers_of, body_bytes, row_good}
+use Rattle.lot_file.proofs.Laws.Contents.{Sofar, at_first, one_more, at_unused, at_last, walked_all}
 use Rattle.lot_file.proofs.contents.walked.Statement.{statement}
 use Rattle.lot_file.proofs.contents.walked.Tie as tie
 
@@ -38,7 +38,7 @@ returns c =
     let p = t.before.before.requires.0 in
     let none = sym (ap (λ (r : Row). r.number) c.before.before.row_at.ensures.0) ∙ c.if1.true in
     walked_all a.rows a.most a.file.now t.loop.good t.loop.used t.loop.end t.loop.largest p f
-    (at-unused a.rows a.most a.file.now t.loop.good t.loop.used t.loop.end t.loop.largest p f c.before.before.before.loop-test.true none)
+    (at_unused a.rows a.most a.file.now t.loop.good t.loop.used t.loop.end t.loop.largest p f c.before.before.before.loop-test.true none)
 
 row-good-requires : tie.Need-row-good-requires invariant-loop decreases-loop
 row-good-requires c κs = search rules
@@ -70,10 +70,10 @@ loop-again c =
     let row = c.before.before.before.before.before.before.row_at.ensures.0 in
     let number = ap (λ (r : Row). r.number) row in
     let documents = ap (λ (r : Row). r.documents) row in
-    let good = c.before.before.before.row-good.ensures ∙ ap (λ (r : Row). rowGood a.most r && eqb r.start t.loop.end) row in
-    let twice = c.before.before.seen.ensures ∙ ap (λ (r : Row). member r.number (numbersOf (rowsIn t.loop.used s))) row in
+    let good = c.before.before.before.row-good.ensures ∙ ap (λ (r : Row). row_good a.most r && eqb r.start t.loop.end) row in
+    let twice = c.before.before.seen.ensures ∙ ap (λ (r : Row). member r.number (numbers_of (rows_in t.loop.used s))) row in
     subst (λ (P : Type 0). P)
-    (sym (λ i. Sofar a.rows a.most s (t.loop.good && (good i && not (twice i))) (t.loop.used + 1) (t.loop.end + bodyBytes (row i)) l))
+    (sym (λ i. Sofar a.rows a.most s (t.loop.good && (good i && not (twice i))) (t.loop.used + 1) (t.loop.end + body_bytes (row i)) l))
     (one_more a.rows a.most s t.loop.good t.loop.used t.loop.end t.loop.largest t.before.before.requires.0 t.loop.invariant l
     c.before.before.before.before.before.before.before.loop-test.true
     (λ z. c.before.before.before.before.if1.false (number ∙ z))

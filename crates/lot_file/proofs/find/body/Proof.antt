@@ -4,10 +4,10 @@ use Prim.Native.Nat.{ℕ, ◌+◌, ◌-◌, ◌*◌}
 use native.Mathlib.Omega.{arith}
 use borrow.Author.Rules.{rules}
 use Rattle.packed.specs.Part.{part}
-use Rattle.document.specs.Limits.{documentBytes}
-use Rattle.session.specs.Limits.{mostLots, mostLotDocuments}
+use Rattle.document.specs.Limits.{document_bytes}
+use Rattle.session.specs.Limits.{most_lots, most_lot_documents}
 use Rattle.lot_file.specs.declared.answers.FindShown.{FindShown}
-use Rattle.lot_file.proofs.Laws.Answers.{body-handed, body-inside}
+use Rattle.lot_file.proofs.Laws.Answers.{body_handed, body_inside}
 use Rattle.lot_file.proofs.find.body.Statement.{statement}
 use Rattle.lot_file.proofs.find.body.Tie as tie
 
@@ -25,7 +25,7 @@ mul-end c =
     let shown = f.find-shown.ensures ∙ f.before.find.ensures in
     let start = ap (λ (x : FindShown). x.start) shown in
     let documents = ap (λ (x : FindShown). x.documents) shown in
-    let inside = body-inside mostLots mostLotDocuments s a.number in
+    let inside = body_inside most_lots most_lot_documents s a.number in
     omega arith
 
 add-end : tie.Need-overflow-add-end
@@ -36,7 +36,7 @@ add-end c =
     let shown = f.find-shown.ensures ∙ f.before.find.ensures in
     let start = ap (λ (x : FindShown). x.start) shown in
     let documents = ap (λ (x : FindShown). x.documents) shown in
-    let inside = body-inside mostLots mostLotDocuments s a.number in
+    let inside = body_inside most_lots most_lot_documents s a.number in
     omega arith
 
 sub-result : tie.Need-overflow-sub-result
@@ -47,7 +47,7 @@ sub-result c =
     let shown = f.find-shown.ensures ∙ f.before.find.ensures in
     let start = ap (λ (x : FindShown). x.start) shown in
     let documents = ap (λ (x : FindShown). x.documents) shown in
-    let inside = body-inside mostLots mostLotDocuments s a.number in
+    let inside = body_inside most_lots most_lot_documents s a.number in
     omega arith
 
 part-result-start : tie.Need-slice-bounds-result-start
@@ -58,7 +58,7 @@ part-result-start c =
     let shown = f.find-shown.ensures ∙ f.before.find.ensures in
     let start = ap (λ (x : FindShown). x.start) shown in
     let documents = ap (λ (x : FindShown). x.documents) shown in
-    let inside = body-inside mostLots mostLotDocuments s a.number in
+    let inside = body_inside most_lots most_lot_documents s a.number in
     omega arith
 
 part-result-end : tie.Need-slice-bounds-result-end
@@ -69,7 +69,7 @@ part-result-end c =
     let shown = f.find-shown.ensures ∙ f.before.find.ensures in
     let start = ap (λ (x : FindShown). x.start) shown in
     let documents = ap (λ (x : FindShown). x.documents) shown in
-    let inside = body-inside mostLots mostLotDocuments s a.number in
+    let inside = body_inside most_lots most_lot_documents s a.number in
     omega arith
 
 returns : tie.Need-returns
@@ -80,11 +80,11 @@ returns c =
     let shown = f.find-shown.ensures ∙ f.before.find.ensures in
     let start = ap (λ (x : FindShown). x.start) shown in
     let documents = ap (λ (x : FindShown). x.documents) shown in
-    let inside = body-inside mostLots mostLotDocuments s a.number in
-    let count : f.find-shown.result.start + f.find-shown.result.documents * documentBytes - f.find-shown.result.start ≡ f.find-shown.result.documents * documentBytes = omega arith in
+    let inside = body_inside most_lots most_lot_documents s a.number in
+    let count : f.find-shown.result.start + f.find-shown.result.documents * document_bytes - f.find-shown.result.start ≡ f.find-shown.result.documents * document_bytes = omega arith in
     ap (λ (k : ℕ). part f.find-shown.result.start k s) count
-    ∙ ap (λ (x : FindShown). part x.start (x.documents * documentBytes) s) shown
-    ∙ body-handed mostLots mostLotDocuments s a.number
+    ∙ ap (λ (x : FindShown). part x.start (x.documents * document_bytes) s) shown
+    ∙ body_handed most_lots most_lot_documents s a.number
 
 pub body-spec : {M : Type 1} → statement M
 body-spec =

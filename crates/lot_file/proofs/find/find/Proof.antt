@@ -2,9 +2,9 @@
 use mathlib.Core.Path.{refl, ap, sym, ◌∙◌}
 use native.Mathlib.Omega.{arith}
 use borrow.Author.Rules.{rules}
-use Rattle.session.specs.Limits.{mostLots, mostLotDocuments}
-use Rattle.lot_file.specs.Reading.{absentRefusal}
-use Rattle.lot_file.proofs.Laws.Answers.{asked, unasked, refused-25, found-refused, found-row, answer-46, answer-0, row-found}
+use Rattle.session.specs.Limits.{most_lots, most_lot_documents}
+use Rattle.lot_file.specs.Reading.{absent_refusal}
+use Rattle.lot_file.proofs.Laws.Answers.{asked, unasked, refused_25, found_refused, found_row_lem, answer_46, answer_0, row_found}
 use Rattle.lot_file.proofs.find.find.Statement.{statement}
 use Rattle.lot_file.proofs.find.find.Tie as tie
 
@@ -20,7 +20,7 @@ place-of-requires c κs =
     let o = c.before.before.order-number in
     let s = c.before.before.before.before.before.args.file.now in
     let n = c.before.before.before.before.before.args.number in
-    let a = asked mostLots mostLotDocuments s j.contents-of.result n o.result j.contents-of.ensures o.ensures c.if1.true in
+    let a = asked most_lots most_lot_documents s j.contents-of.result n o.result j.contents-of.ensures o.ensures c.if1.true in
     a.table
 
 mul-row-at : tie.Need-overflow-mul-row-at
@@ -29,7 +29,7 @@ mul-row-at c =
     let o = c.before.before.before.before.before.order-number in
     let s = c.before.before.before.before.before.before.before.before.args.file.now in
     let n = c.before.before.before.before.before.before.before.before.args.number in
-    let a = asked mostLots mostLotDocuments s j.contents-of.result n o.result j.contents-of.ensures o.ensures c.before.before.before.if1.true in
+    let a = asked most_lots most_lot_documents s j.contents-of.result n o.result j.contents-of.ensures o.ensures c.before.before.before.if1.true in
     omega (arith, a.few)
 
 row-at-requires : tie.Need-row-at-requires
@@ -38,7 +38,7 @@ row-at-requires c κs =
     let o = c.before.before.before.before.before.order-number in
     let s = c.before.before.before.before.before.before.before.before.args.file.now in
     let n = c.before.before.before.before.before.before.before.before.args.number in
-    let a = asked mostLots mostLotDocuments s j.contents-of.result n o.result j.contents-of.ensures o.ensures c.before.before.before.if1.true in
+    let a = asked most_lots most_lot_documents s j.contents-of.result n o.result j.contents-of.ensures o.ensures c.before.before.before.if1.true in
     omega (arith, a.table)
 
 returns : tie.Need-returns
@@ -47,10 +47,10 @@ returns c =
     let o = c.before.before.before.before.before.before.order-number in
     let s = c.before.before.before.before.before.before.before.before.before.args.file.now in
     let n = c.before.before.before.before.before.before.before.before.before.args.number in
-    let a = asked mostLots mostLotDocuments s j.contents-of.result n o.result j.contents-of.ensures o.ensures c.before.before.before.before.if1.true in
-    let place = c.before.before.before.place-of in
-    let row = c.row_at.ensures.0 ∙ row-found mostLots mostLotDocuments s j.contents-of.result n place.result a place.ensures c.before.if2.true in
-    found-row mostLots mostLotDocuments s n c.row_at.result row (answer-0 mostLots mostLotDocuments s j.contents-of.result n place.result a place.ensures c.before.if2.true)
+    let a = asked most_lots most_lot_documents s j.contents-of.result n o.result j.contents-of.ensures o.ensures c.before.before.before.before.if1.true in
+    let place = c.before.before.before.place_of in
+    let row = c.row_at.ensures.0 ∙ row_found most_lots most_lot_documents s j.contents-of.result n place.result a place.ensures c.before.if2.true in
+    found_row_lem most_lots most_lot_documents s n c.row_at.result row (answer_0 most_lots most_lot_documents s j.contents-of.result n place.result a place.ensures c.before.if2.true)
 
 returns-2 : tie.Need-returns-2
 returns-2 c =
@@ -58,9 +58,9 @@ returns-2 c =
     let o = c.before.before.before.before.before.order-number in
     let s = c.before.before.before.before.before.before.before.before.args.file.now in
     let n = c.before.before.before.before.before.before.before.before.args.number in
-    let a = asked mostLots mostLotDocuments s j.contents-of.result n o.result j.contents-of.ensures o.ensures c.before.before.before.if1.true in
-    let place = c.before.before.place-of in
-    found-refused mostLots mostLotDocuments s n 46 refl (answer-46 mostLots mostLotDocuments s j.contents-of.result n place.result a place.ensures (omega (arith, c.if2.false)))
+    let a = asked most_lots most_lot_documents s j.contents-of.result n o.result j.contents-of.ensures o.ensures c.before.before.before.if1.true in
+    let place = c.before.before.place_of in
+    found_refused most_lots most_lot_documents s n 46 refl (answer_46 most_lots most_lot_documents s j.contents-of.result n place.result a place.ensures (omega (arith, c.if2.false)))
 
 returns-3 : tie.Need-returns-3
 returns-3 c =
@@ -68,8 +68,8 @@ returns-3 c =
     let o = c.before.before.order-number in
     let s = c.before.before.before.before.before.args.file.now in
     let n = c.before.before.before.before.before.args.number in
-    let e = unasked mostLots mostLotDocuments s j.contents-of.result n o.result j.contents-of.ensures o.ensures c.if1.false in
-    found-refused mostLots mostLotDocuments s n 25 refl (refused-25 mostLots mostLotDocuments s n e)
+    let e = unasked most_lots most_lot_documents s j.contents-of.result n o.result j.contents-of.ensures o.ensures c.if1.false in
+    found_refused most_lots most_lot_documents s n 25 refl (refused_25 most_lots most_lot_documents s n e)
 
 pub find_spec : {M : Type 1} → statement M
 find_spec =

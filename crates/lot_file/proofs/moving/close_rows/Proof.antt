@@ -5,20 +5,20 @@ use Prim.Native.Nat.{◌+◌, ◌-◌, ◌*◌, ◌≤◌, ◌<◌}
 use native.Mathlib.Omega.{arith}
 use lib.ListN.{length}
 use lib.Seq.{sets}
-use Rattle.lot_file.specs.Layout.{tableBytes}
-use Rattle.lot_file.specs.Inner.Moving.{tableClosed}
-use Rattle.lot_file.proofs.Laws.Moving.{toCome, rows-down, row-cleared}
+use Rattle.lot_file.specs.Layout.{table_bytes}
+use Rattle.lot_file.specs.Inner.Moving.{table_closed}
+use Rattle.lot_file.proofs.Laws.Moving.{to_come, rows_down, row_cleared}
 use Rattle.lot_file.proofs.moving.close_rows.Statement.{statement}
 use Rattle.lot_file.proofs.moving.close_rows.Tie as tie
 
 abbrev invariant-loop : tie.invariant-loop
-invariant-loop file₀ place used start next₀ i₀ file next i = (i < used) × (length file ≡ length file₀) × (next ≤ start + i * 219043332045) × (sets file (tableBytes i) (toCome file i used next) ≡ tableClosed place used start file₀)
+invariant-loop file₀ place used start next₀ i₀ file next i = (i < used) × (length file ≡ length file₀) × (next ≤ start + i * 219043332045) × (sets file (table_bytes i) (to_come file i used next) ≡ table_closed place used start file₀)
 
 abbrev decreases-loop : tie.decreases-loop
 decreases-loop file₀ place used start next₀ i₀ file next i = used - i
 
 loop-holds : tie.Need-loop-init invariant-loop decreases-loop
-unfolding tableClosed
+unfolding table_closed
 loop-holds c = (omega arith, refl, omega arith, refl)
 
 add-loop : tie.Need-overflow-add-loop invariant-loop decreases-loop
@@ -61,7 +61,7 @@ loop-again c =
       omega arith,
       p.auto.0 ∙ l.invariant.1,
       omega (arith, row.1.1),
-      rows-down l.file p.new.0 c.before.before.before.before.before.row_at.result l.i a.used l.next c.before.before.before.before.before.before.before.loop-test.true (omega arith) row.0 p.ensures ∙ l.invariant.3,
+      rows_down l.file p.new.0 c.before.before.before.before.before.row_at.result l.i a.used l.next c.before.before.before.before.before.before.before.loop-test.true (omega arith) row.0 p.ensures ∙ l.invariant.3,
     )
 
 mul-put-row-2 : tie.Need-overflow-mul-put-row-2 invariant-loop decreases-loop
@@ -77,7 +77,7 @@ returns : tie.Need-returns invariant-loop decreases-loop
 returns c =
     let t = c.before.before.before.before.before in
     let a = t.before.before.args in
-    row-cleared t.loop.file c.before.before.put-row2.new.0 t.loop.i a.used t.loop.next (omega arith) c.before.before.put-row2.ensures ∙ t.loop.invariant.3
+    row_cleared t.loop.file c.before.before.put-row2.new.0 t.loop.i a.used t.loop.next (omega arith) c.before.before.put-row2.ensures ∙ t.loop.invariant.3
 
 pub close-rows-spec : {M : Type 1} → statement M
 close-rows-spec =

@@ -6,7 +6,7 @@ use native.Mathlib.Omega.{arith}
 use lib.ListN.{length, length-set}
 use lib.Seq.{sets, length-sets}
 use Rattle.packed.specs.Part.{part}
-use Rattle.lot_file.proofs.Laws.Moving.{down_step, down-all}
+use Rattle.lot_file.proofs.Laws.Moving.{down_step, down_all}
 use Rattle.lot_file.proofs.moving.move_down.Statement.{statement}
 use Rattle.lot_file.proofs.moving.move_down.Tie as tie
 
@@ -56,7 +56,7 @@ returns : tie.Need-returns invariant-loop decreases-loop
 returns c =
     let t = c.before in
     let a = t.before.args in
-    t.loop.invariant.2 ∙ down-all a.file.now a.to a.from t.loop.i (a.end - a.from) (omega arith)
+    t.loop.invariant.2 ∙ down_all a.file.now a.to a.from t.loop.i (a.end - a.from) (omega arith)
 
 pub move_down_spec : {M : Type 1} → statement M
 move_down_spec =

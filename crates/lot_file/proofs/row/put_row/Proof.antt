@@ -4,7 +4,7 @@ use mathlib.Core.List.{◌++◌}
 use Prim.Native.Nat.{◌+◌}
 use borrow.Author.Rules.{rules}
 use Rattle.packed.proofs.Laws.Writing.{sets_behind}
-use Rattle.lot_file.specs.Layout.{binaryBytes, bytes_of}
+use Rattle.lot_file.specs.Layout.{binary_bytes, bytes_of}
 use Rattle.lot_file.proofs.row.put_row.Statement.{statement}
 use Rattle.lot_file.proofs.row.put_row.Tie as tie
 
@@ -27,15 +27,15 @@ same_length : tie.Need-same-length
 same_length c = search rules
 
 returns : tie.Need-returns
-unfolding bytes_of binaryBytes
+unfolding bytes_of binary_bytes
 returns c =
     let third = c.before.before in
     let second = third.before.before.before.before in
     let first = second.before.before.before.before in
     let a = first.before.before.before.args in
-    let number = binaryBytes 2 a.row.number in
-    let start = binaryBytes 4 a.row.start in
-    let documents = binaryBytes 4 a.row.documents in
+    let number = binary_bytes 2 a.row.number in
+    let start = binary_bytes 4 a.row.start in
+    let documents = binary_bytes 4 a.row.documents in
     let two = second.put4.ensures ∙ sets_behind number start a.file.now first.put2.new.0 a.at (a.at + 2) first.put2.ensures refl in
     third.put42.ensures ∙ sets_behind (number ++ start) documents a.file.now second.put4.new.0 a.at (a.at + 6) two refl
 

@@ -1,7 +1,7 @@
 -- `row_at`: the three numbers, each at its place.
 use mathlib.Core.Path.{sym, ◌∙◌}
 use borrow.Author.Rules.{rules}
-use Rattle.lot_file.proofs.Laws.Rows.{row-fields}
+use Rattle.lot_file.proofs.Laws.Rows.{row_fields}
 use Rattle.lot_file.proofs.row.row_at.Statement.{statement}
 use Rattle.lot_file.proofs.row.row_at.Tie as tie
 
@@ -26,7 +26,7 @@ returns c =
     let start = c.before.read4.ensures in
     let documents = c.read42.ensures in
     let a = c.before.before.before.before.args in (
-      (λ i. record { number = number i; start = start.0 i; documents = documents.0 i }) ∙ sym (row-fields a.at a.file.now),
+      (λ i. record { number = number i; start = start.0 i; documents = documents.0 i }) ∙ sym (row_fields a.at a.file.now),
       (start.1, documents.1),
     )
 

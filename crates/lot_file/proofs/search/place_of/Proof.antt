@@ -6,16 +6,16 @@ use native.Mathlib.Omega.{arith}
 use native.Mathlib.Nat.{zero-add, sub-zero}
 use lib.ListN.{drop}
 use Rattle.lot_file.specs.declared.row.Row.{Row}
-use Rattle.lot_file.specs.Layout.{tableBytes}
-use Rattle.lot_file.specs.Good.{rowsIn, numbersOf}
+use Rattle.lot_file.specs.Layout.{table_bytes}
+use Rattle.lot_file.specs.Good.{rows_in, numbers_of}
 use Rattle.lot_file.specs.Inner.Search.{place_of}
-use Rattle.lot_file.proofs.Laws.Rows.{row-fields}
-use Rattle.lot_file.proofs.Laws.Search.{place_here, place-past, place_none}
+use Rattle.lot_file.proofs.Laws.Rows.{row_fields}
+use Rattle.lot_file.proofs.Laws.Search.{place_here, place_past, place_none}
 use Rattle.lot_file.proofs.search.place_of.Statement.{statement}
 use Rattle.lot_file.proofs.search.place_of.Tie as tie
 
 abbrev invariant-loop : tie.invariant-loop
-invariant-loop file rows number place₀ place = (place ≤ rows) × (place + place_of number (numbersOf (rowsIn (rows - place) (drop (tableBytes place) file))) ≡ place_of number (numbersOf (rowsIn rows file)))
+invariant-loop file rows number place₀ place = (place ≤ rows) × (place + place_of number (numbers_of (rows_in (rows - place) (drop (table_bytes place) file))) ≡ place_of number (numbers_of (rows_in rows file)))
 
 abbrev decreases-loop : tie.decreases-loop
 decreases-loop file rows number place₀ place = rows - place
@@ -36,7 +36,7 @@ returns c =
     let a = t.before.before.args in
     let s = a.file.now in
     let p = t.loop.place in
-    let e = ap (λ (x : Row). x.number) (row-fields (tableBytes p) s) ∙ sym r.read2.ensures.0 ∙ c.if1.true in
+    let e = ap (λ (x : Row). x.number) (row_fields (table_bytes p) s) ∙ sym r.read2.ensures.0 ∙ c.if1.true in
     sym (place_here p a.rows a.number s r.before.loop-test.true t.before.before.requires e) ∙ t.loop.invariant.1
 
 add-place : tie.Need-overflow-add-place invariant-loop decreases-loop
@@ -52,8 +52,8 @@ loop-again c =
     let a = t.before.before.args in
     let s = a.file.now in
     let p = t.loop.place in
-    let number = r.read2.ensures.0 ∙ sym (ap (λ (x : Row). x.number) (row-fields (tableBytes p) s)) in
-    (omega arith, sym (place-past p a.rows a.number s r.before.loop-test.true t.before.before.requires (λ e. c.if1.false (number ∙ e))) ∙ t.loop.invariant.1)
+    let number = r.read2.ensures.0 ∙ sym (ap (λ (x : Row). x.number) (row_fields (table_bytes p) s)) in
+    (omega arith, sym (place_past p a.rows a.number s r.before.loop-test.true t.before.before.requires (λ e. c.if1.false (number ∙ e))) ∙ t.loop.invariant.1)
 
 returns-2 : tie.Need-returns-2 invariant-loop decreases-loop
 returns-2 c =

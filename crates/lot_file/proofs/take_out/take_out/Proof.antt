@@ -3,9 +3,9 @@ use mathlib.Core.Path.{refl, sym, ◌∙◌}
 use native.Mathlib.Omega.{arith}
 use lib.Dec.{lit≤}
 use borrow.Author.Rules.{rules}
-use Rattle.session.specs.Limits.{mostLots, mostLotDocuments}
+use Rattle.session.specs.Limits.{most_lots, most_lot_documents}
 use Rattle.lot_file.proofs.Laws.Binary.{Bytes}
-use Rattle.lot_file.proofs.Laws.Answers.{asked, unasked, refused-25, nothing-taken, answer-46, answer-0, closable, closed-taken}
+use Rattle.lot_file.proofs.Laws.Answers.{asked, unasked, refused_25, nothing_taken, answer_46, answer_0, closable, closed_taken}
 use Rattle.lot_file.proofs.take_out.take_out.Statement.{statement}
 use Rattle.lot_file.proofs.take_out.take_out.Tie as tie
 
@@ -21,7 +21,7 @@ place-of-requires c κs =
     let o = c.before.before.before.order-number in
     let s = c.before.before.before.before.before.before.before.args.file.now in
     let n = c.before.before.before.before.before.before.before.args.number in
-    let a = asked mostLots mostLotDocuments s j.contents-of.result n o.result j.contents-of.ensures o.ensures c.before.if1.true in
+    let a = asked most_lots most_lot_documents s j.contents-of.result n o.result j.contents-of.ensures o.ensures c.before.if1.true in
     a.table
 
 close-requires : tie.Need-close-requires
@@ -30,9 +30,9 @@ close-requires c κs =
     let o = c.before.before.before.before.before.before.before.order-number in
     let s = c.before.before.before.before.before.before.before.before.before.before.before.args.file.now in
     let n = c.before.before.before.before.before.before.before.before.before.before.before.args.number in
-    let a = asked mostLots mostLotDocuments s j.contents-of.result n o.result j.contents-of.ensures o.ensures c.before.before.before.before.before.if1.true in
-    let place = c.before.before.before.place-of in
-    closable mostLots mostLotDocuments s j.contents-of.result n place.result a place.ensures c.before.if2.true (lit≤ tt)
+    let a = asked most_lots most_lot_documents s j.contents-of.result n o.result j.contents-of.ensures o.ensures c.before.before.before.before.before.if1.true in
+    let place = c.before.before.before.place_of in
+    closable most_lots most_lot_documents s j.contents-of.result n place.result a place.ensures c.before.if2.true (lit≤ tt)
 
 same_length : tie.Need-same-length
 same_length c = search rules
@@ -43,12 +43,12 @@ returns c =
     let o = c.before.before.before.before.before.before.before.before.before.before.order-number in
     let s = c.before.before.before.before.before.before.before.before.before.before.before.before.before.before.args.file.now in
     let n = c.before.before.before.before.before.before.before.before.before.before.before.before.before.before.args.number in
-    let a = asked mostLots mostLotDocuments s j.contents-of.result n o.result j.contents-of.ensures o.ensures c.before.before.before.before.before.before.before.before.if1.true in
-    let place = c.before.before.before.before.before.before.place-of in
+    let a = asked most_lots most_lot_documents s j.contents-of.result n o.result j.contents-of.ensures o.ensures c.before.before.before.before.before.before.before.before.if1.true in
+    let place = c.before.before.before.before.before.before.place_of in
     let taken = c.before.before.before.before.if2.true in
     let bytes : Bytes s = λ i. (c.before.before.before.before.before.before.before.before.before.before.before.before.before.slice-known.given i).fits in (
-      sym (answer-0 mostLots mostLotDocuments s j.contents-of.result n place.result a place.ensures taken),
-      c.before.before.close.ensures ∙ closed-taken mostLots mostLotDocuments s j.contents-of.result n place.result a place.ensures taken bytes,
+      sym (answer_0 most_lots most_lot_documents s j.contents-of.result n place.result a place.ensures taken),
+      c.before.before.close.ensures ∙ closed_taken most_lots most_lot_documents s j.contents-of.result n place.result a place.ensures taken bytes,
     )
 
 same-length-2 : tie.Need-same-length-2
@@ -60,10 +60,10 @@ returns-2 c =
     let o = c.before.before.before.before.before.before.order-number in
     let s = c.before.before.before.before.before.before.before.before.before.before.args.file.now in
     let n = c.before.before.before.before.before.before.before.before.before.before.args.number in
-    let a = asked mostLots mostLotDocuments s j.contents-of.result n o.result j.contents-of.ensures o.ensures c.before.before.before.before.if1.true in
-    let place = c.before.before.place-of in
-    let absent = answer-46 mostLots mostLotDocuments s j.contents-of.result n place.result a place.ensures (omega (arith, c.if2.false)) in
-    (sym absent, nothing-taken mostLots mostLotDocuments s n 46 refl absent)
+    let a = asked most_lots most_lot_documents s j.contents-of.result n o.result j.contents-of.ensures o.ensures c.before.before.before.before.if1.true in
+    let place = c.before.before.place_of in
+    let absent = answer_46 most_lots most_lot_documents s j.contents-of.result n place.result a place.ensures (omega (arith, c.if2.false)) in
+    (sym absent, nothing_taken most_lots most_lot_documents s n 46 refl absent)
 
 same-length-3 : tie.Need-same-length-3
 same-length-3 c = search rules
@@ -74,9 +74,9 @@ returns-3 c =
     let o = c.before.before.order-number in
     let s = c.before.before.before.before.before.before.args.file.now in
     let n = c.before.before.before.before.before.before.args.number in
-    let e = unasked mostLots mostLotDocuments s j.contents-of.result n o.result j.contents-of.ensures o.ensures c.if1.false in
-    let wrong = refused-25 mostLots mostLotDocuments s n e in
-    (sym wrong, nothing-taken mostLots mostLotDocuments s n 25 refl wrong)
+    let e = unasked most_lots most_lot_documents s j.contents-of.result n o.result j.contents-of.ensures o.ensures c.if1.false in
+    let wrong = refused_25 most_lots most_lot_documents s n e in
+    (sym wrong, nothing_taken most_lots most_lot_documents s n 25 refl wrong)
 
 pub take-out-spec : {M : Type 1} → statement M
 take-out-spec =

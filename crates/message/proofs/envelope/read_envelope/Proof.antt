@@ -9,14 +9,14 @@ use lib.Dec.{eqb, lit<}
 use lib.ListN.{length}
 use Rattle.packed.specs.Part.{byte_at}
 use Rattle.codes.specs.Chain.{◌when◌}
-use Rattle.codes.specs.Field.{between, tableNumbers}
-use Rattle.message.specs.Limits.{envelopeBytes, largestSerial}
+use Rattle.codes.specs.Field.{between, table_numbers}
+use Rattle.message.specs.Limits.{envelope_bytes, largest_serial}
 use Rattle.message.specs.declared.envelope.Kind.{Kind}
 use Rattle.message.specs.declared.envelope.Envelope.{Envelope}
 use Rattle.message.specs.Reading.{reading}
-use Rattle.message.specs.Envelope.{lengthGood, envelopeFields, envelopeValues, envelopeGood, readEnvelope}
-use Rattle.message.proofs.Laws.Reading.{said-values, said-number}
-use Rattle.message.proofs.Laws.Envelope.{long, tests-decide}
+use Rattle.message.specs.Envelope.{length_good, envelope_fields, envelope_values, envelope_good, read_envelope}
+use Rattle.message.proofs.Laws.Reading.{said_values, said_number}
+use Rattle.message.proofs.Laws.Envelope.{long, tests_decide}
 use Rattle.message.proofs.envelope.read_envelope.Statement.{statement}
 use Rattle.message.proofs.envelope.read_envelope.Tie as tie
 
@@ -27,10 +27,10 @@ abbrev start : tie.Then1 → tie.Start
 start t = t.before.before.before
 
 -- past the test of the length
-passed : (t : tie.Then1) → let a = (start t).args in lengthGood a.kind (length a.bytes.now) ≡ true
+passed : (t : tie.Then1) → let a = (start t).args in length_good a.kind (length a.bytes.now) ≡ true
 passed t = sym t.before.length-good.ensures ∙ t.if1.true
 
-enough : (t : tie.Then1) → envelopeBytes ≤ length (start t).args.bytes.now
+enough : (t : tie.Then1) → envelope_bytes ≤ length (start t).args.bytes.now
 enough t = let a = (start t).args in long a.kind (length a.bytes.now) (passed t)
 
 fields-of-requires : tie.Need-fields-of-requires
@@ -51,28 +51,28 @@ read t = t.before.before.before.before.before
 
 -- kind, digits and serial decide
 abbrev tests : tie.After-struct-known2 → Bool
-tests t = eqb (byte_at 1 (start (read t).before).args.bytes.now) t.before.before.before.kind-byte.result && t.before.before.are-digits.result && between 1 largestSerial (read t).fields-of.result.serial
+tests t = eqb (byte_at 1 (start (read t).before).args.bytes.now) t.before.before.before.kind-byte.result && t.before.before.are-digits.result && between 1 largest_serial (read t).fields-of.result.serial
 
-tested : (t : tie.After-struct-known2) (b : Bool) → tests t ≡ b → let a = (start (read t).before).args in envelopeGood a.kind a.bytes.now ≡ b
-unfolding envelopeFields
+tested : (t : tie.After-struct-known2) (b : Bool) → tests t ≡ b → let a = (start (read t).before).args in envelope_good a.kind a.bytes.now ≡ b
+unfolding envelope_fields
 tested t b e =
     let fields = (read t).fields-of in
     let a = (start (read t).before).args in
     let kind = t.before.before.before.kind-byte in
     let digits = t.before.before.are-digits in
-    tests-decide a.kind a.bytes.now kind.result fields.result.serial digits.result b (passed (read t).before) kind.ensures digits.ensures (ap (λ (x : Envelope). x.serial) fields.ensures) e
+    tests_decide a.kind a.bytes.now kind.result fields.result.serial digits.result b (passed (read t).before) kind.ensures digits.ensures (ap (λ (x : Envelope). x.serial) fields.ensures) e
 
 returns : tie.Need-returns
-unfolding envelopeFields ◌when◌
+unfolding envelope_fields ◌when◌
 returns c =
     let k = read c.before in
     let a = (start k.before).args in
-    said-values (21 when not (envelopeGood a.kind a.bytes.now)) (tableNumbers 1 envelopeFields a.bytes.now) (envelopeValues k.fields-of.result) (ap (λ (b : Bool). 21 when not b) (tested c.before true c.if2.true)) (ap envelopeValues k.fields-of.ensures)
+    said_values (21 when not (envelope_good a.kind a.bytes.now)) (table_numbers 1 envelope_fields a.bytes.now) (envelope_values k.fields-of.result) (ap (λ (b : Bool). 21 when not b) (tested c.before true c.if2.true)) (ap envelope_values k.fields-of.ensures)
 
 -- a test that fails is 21
-refused : (kind : Kind) (bytes : List ℕ) → envelopeGood kind bytes ≡ false → reading 21 [] ≡ readEnvelope kind bytes
+refused : (kind : Kind) (bytes : List ℕ) → envelope_good kind bytes ≡ false → reading 21 [] ≡ read_envelope kind bytes
 unfolding ◌when◌
-refused kind bytes e = said-number (21 when not (envelopeGood kind bytes)) 21 (tableNumbers 1 envelopeFields bytes) (lit< tt) (ap (λ (b : Bool). 21 when not b) e)
+refused kind bytes e = said_number (21 when not (envelope_good kind bytes)) 21 (table_numbers 1 envelope_fields bytes) (lit< tt) (ap (λ (b : Bool). 21 when not b) e)
 
 returns-2 : tie.Need-returns-2
 returns-2 c =
@@ -80,10 +80,10 @@ returns-2 c =
     refused a.kind a.bytes.now (tested c.before false c.if2.false)
 
 returns-3 : tie.Need-returns-3
-unfolding envelopeGood
+unfolding envelope_good
 returns-3 c =
     let a = c.before.before.before.args in
-    let short : lengthGood a.kind (length a.bytes.now) ≡ false = sym c.before.length-good.ensures ∙ c.if1.false in
+    let short : length_good a.kind (length a.bytes.now) ≡ false = sym c.before.length-good.ensures ∙ c.if1.false in
     refused a.kind a.bytes.now (rw short)
 
 pub read-envelope-spec : {M : Type 1} → statement M

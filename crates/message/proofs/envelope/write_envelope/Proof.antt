@@ -6,10 +6,10 @@ use native.Mathlib.Omega.{arith}
 use borrow.Author.Rules.{rules}
 use lib.ListN.{set, length-set}
 use lib.Seq.{sets}
-use Rattle.packed.specs.Writing.{packedBytes}
-use Rattle.codes.specs.Field.{tableWritten}
-use Rattle.message.specs.Inner.Route.{writtenRoute}
-use Rattle.message.specs.Envelope.{envelopeFields}
+use Rattle.packed.specs.Writing.{packed_bytes}
+use Rattle.codes.specs.Field.{table_written}
+use Rattle.message.specs.Inner.Route.{written_route}
+use Rattle.message.specs.Envelope.{envelope_fields}
 use Rattle.message.proofs.envelope.write_envelope.Statement.{statement}
 use Rattle.message.proofs.envelope.write_envelope.Tie as tie
 
@@ -32,13 +32,13 @@ same_length : tie.Need-same-length
 same_length c = c.before.before.put.auto.0 ∙ c.before.before.before.before.before.before.before.write-route.auto.0 ∙ simp length-set
 
 returns : tie.Need-returns
-unfolding packedBytes tableWritten envelopeFields
+unfolding packed_bytes table_written envelope_fields
 returns c =
     let second = c.before.before in
     let first = second.before.before.before.before.before in
     let a = first.before.before.before.before.before.args in
     second.put.ensures
-    ∙ ap (λ (d : List ℕ). sets d 8 (packedBytes 4 a.e.serial)) (first.write-route.ensures ∙ ap (λ (k : ℕ). sets (set a.line.now 0 k) 1 (writtenRoute a.e.route)) first.before.before.kind-byte.ensures)
+    ∙ ap (λ (d : List ℕ). sets d 8 (packed_bytes 4 a.e.serial)) (first.write-route.ensures ∙ ap (λ (k : ℕ). sets (set a.line.now 0 k) 1 (written_route a.e.route)) first.before.before.kind-byte.ensures)
 
 pub write-envelope-spec : {M : Type 1} → statement M
 write-envelope-spec =

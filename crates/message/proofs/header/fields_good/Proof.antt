@@ -4,8 +4,8 @@ use mathlib.Core.Bool.{◌&&◌}
 use Rattle.codes.specs.Field.{exactly}
 use Rattle.message.specs.declared.header.Header.{Header}
 use Rattle.message.specs.declared.route.Route.{Route}
-use Rattle.message.specs.Route.{sameRoute}
-use Rattle.message.specs.Header.{timeOfDay, orderNumber}
+use Rattle.message.specs.Route.{same_route}
+use Rattle.message.specs.Header.{time_of_day, order_number}
 use Rattle.message.proofs.Laws.Header.{fields_split}
 use borrow.Author.Rules.{rules}
 use Rattle.message.proofs.header.fields_good.Statement.{statement}
@@ -33,9 +33,9 @@ returns : tie.Need-returns
 returns c =
     let a = c.before.before.before.before.before.before.before.args in
     let read = c.before.before.before.before.before.before.before.requires.1 in
-    let time = c.before.before.before.before.time-of-day.ensures ∙ ap (λ (h : Header). timeOfDay h.time) read in
-    let route = c.before.before.same_route.ensures ∙ ap (λ (r : Route). sameRoute r a.route) c.before.before.before.read-route.ensures in
-    let number = c.before.order-number.ensures ∙ ap (λ (h : Header). orderNumber h.number) read in
+    let time = c.before.before.before.before.time-of-day.ensures ∙ ap (λ (h : Header). time_of_day h.time) read in
+    let route = c.before.before.same_route.ensures ∙ ap (λ (r : Route). same_route r a.route) c.before.before.before.read-route.ensures in
+    let number = c.before.order-number.ensures ∙ ap (λ (h : Header). order_number h.number) read in
     (λ i. c.before.before.before.before.before.are-digits.ensures i && time i && route i && number i && exactly 0 (c.number.ensures.0 i)) ∙ sym (fields_split a.route a.body.now)
 
 pub fields-good-spec : {M : Type 1} → statement M

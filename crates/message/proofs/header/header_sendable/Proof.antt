@@ -2,8 +2,8 @@
 use mathlib.Core.Bool.{◌&&◌}
 use borrow.Author.Rules.{rules}
 use lib.Dec.{leb}
-use Rattle.message.specs.Limits.{largestCentre}
-use Rattle.message.specs.Header.{headerSendable}
+use Rattle.message.specs.Limits.{largest_centre}
+use Rattle.message.specs.Header.{header_sendable}
 use Rattle.message.proofs.header.header_sendable.Statement.{statement}
 use Rattle.message.proofs.header.header_sendable.Tie as tie
 
@@ -14,8 +14,8 @@ order-number-requires : tie.Need-order-number-requires
 order-number-requires c κs = search rules
 
 returns : tie.Need-returns
-unfolding headerSendable
-returns c = λ i. c.before.time-of-day.ensures i && leb c.before.before.args.centre largestCentre && c.order-number.ensures i
+unfolding header_sendable
+returns c = λ i. c.before.time-of-day.ensures i && leb c.before.before.args.centre largest_centre && c.order-number.ensures i
 
 pub header-sendable-spec : {M : Type 1} → statement M
 header-sendable-spec = tie.close (tie.spec time-of-day-requires order-number-requires returns)

@@ -4,10 +4,10 @@ use mathlib.Core.List.{List}
 use Prim.Native.Nat.{ℕ}
 use borrow.Author.Rules.{rules}
 use lib.Seq.{sets}
-use Rattle.packed.specs.Writing.{packedBytes}
-use Rattle.codes.specs.Field.{tableWritten}
-use Rattle.message.specs.Inner.Route.{writtenRoute}
-use Rattle.message.specs.Header.{headerFields}
+use Rattle.packed.specs.Writing.{packed_bytes}
+use Rattle.codes.specs.Field.{table_written}
+use Rattle.message.specs.Inner.Route.{written_route}
+use Rattle.message.specs.Header.{header_fields}
 use Rattle.message.proofs.header.write_header.Statement.{statement}
 use Rattle.message.proofs.header.write_header.Tie as tie
 
@@ -42,7 +42,7 @@ same_length : tie.Need-same-length
 same_length c = search rules
 
 returns : tie.Need-returns
-unfolding packedBytes tableWritten headerFields
+unfolding packed_bytes table_written header_fields
 returns c =
     let fifth = c.before.before in
     let fourth = fifth.before.before.before.before in
@@ -52,11 +52,11 @@ returns c =
     let head = first.before.before.before.before.before in
     let a = head.before.before.before.args in
     fifth.put4.ensures
-    ∙ ap (λ (d : List ℕ). sets d 18 (packedBytes 1 0)) (fourth.put3.ensures
-    ∙ ap (λ (d : List ℕ). sets d 16 (packedBytes 2 a.h.number)) (third.put2.ensures
-    ∙ ap (λ (d : List ℕ). sets d 14 (packedBytes 2 a.h.centre)) (second.write-route.ensures
-    ∙ ap (λ (d : List ℕ). sets d 7 (writtenRoute a.route)) (first.put.ensures
-    ∙ ap (λ (d : List ℕ). sets d 3 (packedBytes 4 a.h.time)) head.write-head.ensures))))
+    ∙ ap (λ (d : List ℕ). sets d 18 (packed_bytes 1 0)) (fourth.put3.ensures
+    ∙ ap (λ (d : List ℕ). sets d 16 (packed_bytes 2 a.h.number)) (third.put2.ensures
+    ∙ ap (λ (d : List ℕ). sets d 14 (packed_bytes 2 a.h.centre)) (second.write-route.ensures
+    ∙ ap (λ (d : List ℕ). sets d 7 (written_route a.route)) (first.put.ensures
+    ∙ ap (λ (d : List ℕ). sets d 3 (packed_bytes 4 a.h.time)) head.write-head.ensures))))
 
 pub write-header-spec : {M : Type 1} → statement M
 write-header-spec =

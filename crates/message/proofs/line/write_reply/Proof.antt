@@ -2,13 +2,13 @@
 use mathlib.Core.Path.{refl}
 use borrow.Author.Rules.{rules}
 use native.Mathlib.Omega.{arith}
-use Rattle.packed.specs.Writing.{packedBytes}
-use Rattle.codes.specs.Field.{tableWritten}
-use Rattle.message.specs.Limits.{envelopeBytes}
+use Rattle.packed.specs.Writing.{packed_bytes}
+use Rattle.codes.specs.Field.{table_written}
+use Rattle.message.specs.Limits.{envelope_bytes}
 use Rattle.message.specs.declared.envelope.Kind.{Kind}
-use Rattle.message.specs.Envelope.{envelopeFields, writtenEnvelope}
-use Rattle.message.specs.Reply.{writtenReplyBody}
-use Rattle.message.proofs.Laws.Buffer.{both-written}
+use Rattle.message.specs.Envelope.{envelope_fields, written_envelope}
+use Rattle.message.specs.Reply.{written_reply_body}
+use Rattle.message.proofs.Laws.Buffer.{both_written}
 use Rattle.message.proofs.line.write_reply.Statement.{statement}
 use Rattle.message.proofs.line.write_reply.Tie as tie
 
@@ -31,12 +31,12 @@ same_length : tie.Need-same-length
 same_length c = search rules
 
 returns : tie.Need-returns
-unfolding tableWritten envelopeFields packedBytes
+unfolding table_written envelope_fields packed_bytes
 returns c =
     let tail = c.before.before in
     let first = tail.before.before.before.before in
     let a = first.before.before.before.args in
-    both-written a.line.now first.write-envelope.new.0 tail.write-reply-body.new.0 (writtenEnvelope Kind.Reply a.e) (writtenReplyBody a.r) envelopeBytes refl (omega (arith, first.before.before.before.requires)) first.write-envelope.ensures tail.write-reply-body.ensures
+    both_written a.line.now first.write-envelope.new.0 tail.write-reply-body.new.0 (written_envelope Kind.Reply a.e) (written_reply_body a.r) envelope_bytes refl (omega (arith, first.before.before.before.requires)) first.write-envelope.ensures tail.write-reply-body.ensures
 
 pub write-reply-spec : {M : Type 1} → statement M
 write-reply-spec =

@@ -1,8 +1,8 @@
 -- `operation_byte`: the number, packed.
 use mathlib.Core.Path.{ap, ◌∙◌}
 use borrow.Author.Rules.{rules}
-use Rattle.packed.specs.Writing.{packedByte}
-use Rattle.message.specs.Reply.{operationByte}
+use Rattle.packed.specs.Writing.{packed_byte}
+use Rattle.message.specs.Reply.{operation_byte}
 use Rattle.message.proofs.reply.operation_byte.Statement.{statement}
 use Rattle.message.proofs.reply.operation_byte.Tie as tie
 
@@ -16,8 +16,8 @@ packed-byte-requires : tie.Need-packed-byte-requires
 packed-byte-requires c κs = search rules
 
 returns : tie.Need-returns
-unfolding operationByte
-returns c = c.packed_byte.ensures ∙ ap packedByte c.before.operation-number.ensures
+unfolding operation_byte
+returns c = c.packed_byte.ensures ∙ ap packed_byte c.before.operation-number.ensures
 
 pub operation-byte-spec : {M : Type 1} → statement M
 operation-byte-spec =

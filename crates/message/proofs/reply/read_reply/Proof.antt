@@ -5,9 +5,9 @@ use borrow.Author.Rules.{rules}
 use lib.ListN.{length}
 use Rattle.packed.specs.Part.{byte_at}
 use Rattle.codes.specs.Body.{mark}
-use Rattle.message.specs.Limits.{replyBytes}
-use Rattle.message.specs.Reply.{replyGood}
-use Rattle.message.proofs.Laws.Reply.{refused, code-unknown, code-known}
+use Rattle.message.specs.Limits.{reply_bytes}
+use Rattle.message.specs.Reply.{reply_good}
+use Rattle.message.proofs.Laws.Reply.{refused, code_unknown, code_known}
 use Rattle.message.proofs.reply.read_reply.Statement.{statement}
 use Rattle.message.proofs.reply.read_reply.Tie as tie
 
@@ -36,22 +36,22 @@ returns : tie.Need-returns
 returns c =
     let t = c.before.before.before.before.before in
     let body = t.before.before.before.before.before.before.args.body.now in
-    c.answered.ensures ∙ code-known body t.before.before.before.before.if1.true t.before.before.if2.true c.before.before.before.code.given.0.0 (sym t.read-code.ensures ∙ c.before.before.before.code.given.1)
+    c.answered.ensures ∙ code_known body t.before.before.before.before.if1.true t.before.before.if2.true c.before.before.before.code.given.0.0 (sym t.read-code.ensures ∙ c.before.before.before.code.given.1)
 
 returns-2 : tie.Need-returns-2
 returns-2 c =
     let body = c.before.before.before.before.before.before.before.before.args.body.now in
-    refused body (code-unknown body c.before.before.before.before.before.before.if1.true c.before.before.before.before.if2.true (sym c.before.before.read-code.ensures ∙ c.enum_told.given.1))
+    refused body (code_unknown body c.before.before.before.before.before.before.if1.true c.before.before.before.before.if2.true (sym c.before.before.read-code.ensures ∙ c.enum_told.given.1))
 
 returns-3 : tie.Need-returns-3
-unfolding replyGood
+unfolding reply_good
 returns-3 c =
     let body = c.before.before.before.before.args.body.now in
-    refused body (rw (eq-eqb (length body) replyBytes c.before.before.if1.true, ne_eqb (byte_at 2 body) mark c.if2.false))
+    refused body (rw (eq-eqb (length body) reply_bytes c.before.before.if1.true, ne_eqb (byte_at 2 body) mark c.if2.false))
 
 returns-4 : tie.Need-returns-4
-unfolding replyGood
-returns-4 c = let body = c.before.before.args.body.now in refused body (rw (ne_eqb (length body) replyBytes c.if1.false))
+unfolding reply_good
+returns-4 c = let body = c.before.before.args.body.now in refused body (rw (ne_eqb (length body) reply_bytes c.if1.false))
 
 pub read-reply-spec : {M : Type 1} → statement M
 read-reply-spec =

@@ -28,7 +28,7 @@ returns : tie.Need-returns
 returns c =
     let head = c.before.before.before in
     let a = head.before.before.before.before.args in
-    λ i. set ((head.write-head.ensures ∙ ap (λ (o : ℕ). sets a.out.now 0 (free ∷ mark ∷ o ∷ [])) head.before.operation-byte.ensures) i) 3 (c.code-byte.ensures i)
+    λ i. set ((head.write-head.ensures ∙ ap (λ (o : ℕ). sets a.out.now 0 (free ∷ mark ∷ o ∷ [])) head.before.operation_byte_lem.ensures) i) 3 (c.code-byte.ensures i)
 
 pub write-reply-body-spec : {M : Type 1} → statement M
 write-reply-body-spec =

@@ -3,7 +3,7 @@ use mathlib.Core.Path.{refl, ◌∙◌}
 use mathlib.Core.List.{◌++◌}
 use Prim.Native.Nat.{◌+◌}
 use borrow.Author.Rules.{rules}
-use Rattle.packed.specs.Writing.{packedBytes}
+use Rattle.packed.specs.Writing.{packed_bytes}
 use Rattle.packed.proofs.Laws.Writing.{sets_behind}
 use Rattle.message.proofs.route.write_route.Statement.{statement}
 use Rattle.message.proofs.route.write_route.Tie as tie
@@ -36,15 +36,15 @@ same_length : tie.Need-same-length
 same_length c = search rules
 
 returns : tie.Need-returns
-unfolding packedBytes
+unfolding packed_bytes
 returns c =
     let third = c.before.before in
     let second = third.before.before.before.before.before in
     let first = second.before.before.before.before.before in
     let a = first.before.before.before.before.args in
-    let date = packedBytes 3 a.r.date in
-    let presenting = packedBytes 2 a.r.presenting in
-    let receiving = packedBytes 2 a.r.receiving in
+    let date = packed_bytes 3 a.r.date in
+    let presenting = packed_bytes 2 a.r.presenting in
+    let receiving = packed_bytes 2 a.r.receiving in
     let two = second.put2.ensures ∙ sets_behind date presenting a.out.now first.put.new.0 a.at (a.at + 3) first.put.ensures refl in
     third.put3.ensures ∙ sets_behind (date ++ presenting) receiving a.out.now second.put2.new.0 a.at (a.at + 5) two refl
 

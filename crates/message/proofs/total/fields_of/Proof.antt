@@ -5,8 +5,8 @@ use borrow.Author.Rules.{rules}
 use Rattle.packed.specs.Part.{part}
 use Rattle.packed.specs.Number.{number}
 use Rattle.amounts.specs.Totals.{totals}
-use Rattle.message.specs.Inner.Widths.{totalFields}
-use Rattle.message.proofs.Laws.Total.{nominal-at, commission-at}
+use Rattle.message.specs.Inner.Widths.{total_fields}
+use Rattle.message.proofs.Laws.Total.{nominal_at, commission_at}
 use Rattle.message.proofs.total.fields_of.Statement.{statement}
 use Rattle.message.proofs.total.fields_of.Tie as tie
 
@@ -29,12 +29,12 @@ number-requires-2 : tie.Need-number-requires-2
 number-requires-2 c κs = search rules
 
 returns : tie.Need-returns
-unfolding totalFields
+unfolding total_fields
 returns c =
     let a = c.before.before.before.before.before.args in
     let at : ℕ → ℕ → ℕ = λ (width place : ℕ). number (part place width a.body.now) in
-    let nominal = c.before.number.ensures.0 ∙ ap (at a.nominal) (sym (nominal-at a.documents a.nominal a.commission)) in
-    let commission = c.number3.ensures.0 ∙ ap (at a.commission) (sym (commission-at a.documents a.nominal a.commission)) in
+    let nominal = c.before.number.ensures.0 ∙ ap (at a.nominal) (sym (nominal_at a.documents a.nominal a.commission)) in
+    let commission = c.number3.ensures.0 ∙ ap (at a.commission) (sym (commission_at a.documents a.nominal a.commission)) in
     λ i. record { number = c.before.before.before.number2.ensures i; stated = totals (c.before.before.documents-of.ensures i) (nominal i) (commission i) }
 
 pub fields-of-spec : {M : Type 1} → statement M

@@ -1,7 +1,7 @@
 -- `read_session_total`: the printed table is that of these widths.
 use borrow.Author.Rules.{rules}
-use Rattle.message.specs.Inner.Widths.{totalFields}
-use Rattle.message.specs.Total.{sessionTotalFields}
+use Rattle.message.specs.Inner.Widths.{total_fields}
+use Rattle.message.specs.Total.{session_total_fields}
 use Rattle.message.proofs.total.read_session_total.Statement.{statement}
 use Rattle.message.proofs.total.read_session_total.Tie as tie
 
@@ -9,7 +9,7 @@ read-total-requires : tie.Need-read-total-requires
 read-total-requires c κs = search rules
 
 returns : tie.Need-returns
-unfolding totalFields sessionTotalFields
+unfolding total_fields session_total_fields
 returns c = c.read-total.ensures
 
 pub read-session-total-spec : {M : Type 1} → statement M

@@ -1,7 +1,7 @@
 -- `write_lot_total`: the printed table is that of these widths.
 use borrow.Author.Rules.{rules}
-use Rattle.message.specs.Inner.Widths.{totalFields}
-use Rattle.message.specs.Total.{lotTotalFields}
+use Rattle.message.specs.Inner.Widths.{total_fields}
+use Rattle.message.specs.Total.{lot_total_fields}
 use Rattle.message.proofs.total.write_lot_total.Statement.{statement}
 use Rattle.message.proofs.total.write_lot_total.Tie as tie
 
@@ -12,7 +12,7 @@ same_length : tie.Need-same-length
 same_length c = search rules
 
 returns : tie.Need-returns
-unfolding totalFields lotTotalFields
+unfolding total_fields lot_total_fields
 returns c = c.before.before.write-total.ensures
 
 pub write-lot-total-spec : {M : Type 1} → statement M

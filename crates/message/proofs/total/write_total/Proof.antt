@@ -6,11 +6,11 @@ use native.Mathlib.Omega.{arith}
 use borrow.Author.Rules.{rules}
 use lib.ListN.{length, length-append}
 use lib.Seq.{sets}
-use Rattle.packed.specs.Writing.{packedBytes}
-use Rattle.packed.proofs.Laws.Writing.{packed-length, sets_behind}
+use Rattle.packed.specs.Writing.{packed_bytes}
+use Rattle.packed.proofs.Laws.Writing.{packed_length, sets_behind}
 use Rattle.codes.specs.Body.{free, mark}
-use Rattle.codes.specs.Field.{tableWritten}
-use Rattle.message.specs.Inner.Widths.{totalFields}
+use Rattle.codes.specs.Field.{table_written}
+use Rattle.message.specs.Inner.Widths.{total_fields}
 use Rattle.message.proofs.total.write_total.Statement.{statement}
 use Rattle.message.proofs.total.write_total.Tie as tie
 
@@ -42,7 +42,7 @@ same_length : tie.Need-same-length
 same_length c = search rules
 
 returns : tie.Need-returns
-unfolding packedBytes tableWritten totalFields
+unfolding packed_bytes table_written total_fields
 returns c =
     let fourth = c.before.before in
     let third = fourth.before.before.before.before in
@@ -51,13 +51,13 @@ returns c =
     let head = first.before.before.before.before.before in
     let a = head.before.before.before.args in
     let out = a.out.now in
-    let counted = free ∷ mark ∷ a.operation ∷ packedBytes 2 a.t.number in
-    let documents = packedBytes a.documents a.t.stated.documents.0 in
-    let nominal = packedBytes a.nominal a.t.stated.nominal.0 in
-    let commission = packedBytes a.commission a.t.stated.commission.0 in
-    let two-long : 0 + length (counted ++ documents) ≡ 5 + a.documents = omega (arith, packed-length a.documents a.t.stated.documents.0) in
-    let three-long : 0 + length (counted ++ documents ++ nominal) ≡ 5 + a.documents + a.nominal = omega (arith, length-append (counted ++ documents) nominal, two-long, packed-length a.nominal a.t.stated.nominal.0) in
-    let one = first.put.ensures ∙ ap (λ (d : List ℕ). sets d 3 (packedBytes 2 a.t.number)) head.write-head.ensures in
+    let counted = free ∷ mark ∷ a.operation ∷ packed_bytes 2 a.t.number in
+    let documents = packed_bytes a.documents a.t.stated.documents.0 in
+    let nominal = packed_bytes a.nominal a.t.stated.nominal.0 in
+    let commission = packed_bytes a.commission a.t.stated.commission.0 in
+    let two-long : 0 + length (counted ++ documents) ≡ 5 + a.documents = omega (arith, packed_length a.documents a.t.stated.documents.0) in
+    let three-long : 0 + length (counted ++ documents ++ nominal) ≡ 5 + a.documents + a.nominal = omega (arith, length-append (counted ++ documents) nominal, two-long, packed_length a.nominal a.t.stated.nominal.0) in
+    let one = first.put.ensures ∙ ap (λ (d : List ℕ). sets d 3 (packed_bytes 2 a.t.number)) head.write-head.ensures in
     let two = second.put2.ensures ∙ sets_behind counted documents out first.put.new.0 0 5 one refl in
     let three = third.put3.ensures ∙ sets_behind (counted ++ documents) nominal out second.put2.new.0 0 (5 + a.documents) two two-long in
     fourth.put4.ensures

@@ -8,23 +8,23 @@ use native.Mathlib.Omega.{arith}
 use borrow.Author.Rules.{rules}
 use lib.ListN.{length, take, get_or, set, length-set}
 use lib.Seq.{take_all}
-use Rattle.packed.proofs.Laws.Writing.{part-sets}
+use Rattle.packed.proofs.Laws.Writing.{part_sets}
 use Rattle.decimal.specs.Decimal.{decimal}
-use Rattle.decimal.proofs.Laws.Text.{Put, put-behind}
-use Rattle.next_days.specs.Text.{lineFeed, tableText, mostLineBytes}
+use Rattle.decimal.proofs.Laws.Text.{Put, put_behind}
+use Rattle.next_days.specs.Text.{line_feed, table_text, most_line_bytes}
 use Rattle.next_days.proofs.Lines.{one_line}
 use Rattle.next_days.proofs.text.write_table.Statement.{statement}
 use Rattle.next_days.proofs.text.write_table.Tie as tie
 
 abbrev invariant-loop : tie.invariant-loop
 invariant-loop table text₀ at₀ i₀ text at i =
-    (i ≤ length table) × (length text ≡ length text₀) × Put text₀ (tableText (take i table)) text at × (at ≤ i * mostLineBytes)
+    (i ≤ length table) × (length text ≡ length text₀) × Put text₀ (table_text (take i table)) text at × (at ≤ i * most_line_bytes)
 
 abbrev decreases-loop : tie.decreases-loop
 decreases-loop table text₀ at₀ i₀ text at i = length table - i
 
 loop-holds : tie.Need-loop-init invariant-loop decreases-loop
-unfolding tableText
+unfolding table_text
 loop-holds c = (omega arith, refl, record { written = refl; place = refl }, omega arith)
 
 mul-entry : tie.Need-overflow-mul-entry invariant-loop decreases-loop
@@ -60,11 +60,11 @@ loop-again c =
     let t = c.before.before.before.before.before.before in
     let table = t.before.before.before.args.table.now in
     let i = t.loop.i in
-    let number = put-behind t.loop.invariant.2 (decimal (get_or table i 0)) w.ensures.0 w.ensures.1.0 in
-    let line = put-behind number (lineFeed ∷ []) {after = set w.new.0 w.result lineFeed} refl refl in (
+    let number = put_behind t.loop.invariant.2 (decimal (get_or table i 0)) w.ensures.0 w.ensures.1.0 in
+    let line = put_behind number (line_feed ∷ []) {after = set w.new.0 w.result line_feed} refl refl in (
       omega arith,
-      length-set w.new.0 w.result lineFeed ∙ w.auto.0 ∙ t.loop.invariant.1,
-      rw add-one (subst (λ (text : List ℕ). Put t.before.before.before.args.text.now text (set w.new.0 w.result lineFeed) (w.result + 1)) (one_line table i (omega arith)) line),
+      length-set w.new.0 w.result line_feed ∙ w.auto.0 ∙ t.loop.invariant.1,
+      rw add-one (subst (λ (text : List ℕ). Put t.before.before.before.args.text.now text (set w.new.0 w.result line_feed) (w.result + 1)) (one_line table i (omega arith)) line),
       omega (arith, w.ensures.1.1, t.loop.invariant.3),
     )
 
@@ -79,11 +79,11 @@ returns c =
     let all = take_all t.loop.i table (omega arith) in
     let put = t.loop.invariant.2 in
     let fits : t.loop.at ≤ length s.args.text.now = omega (arith, t.loop.invariant.3, s.requires) in
-    let text : take t.loop.at t.loop.text ≡ tableText table =
+    let text : take t.loop.at t.loop.text ≡ table_text table =
     ap (take t.loop.at) put.written
-    ∙ part-sets (tableText (take t.loop.i table)) s.args.text.now 0 t.loop.at (sym put.place) (omega arith)
-    ∙ ap tableText all in
-    ((omega (arith, t.loop.invariant.1), put.place ∙ ap length (ap tableText all ∙ sym text)), text)
+    ∙ part_sets (table_text (take t.loop.i table)) s.args.text.now 0 t.loop.at (sym put.place) (omega arith)
+    ∙ ap table_text all in
+    ((omega (arith, t.loop.invariant.1), put.place ∙ ap length (ap table_text all ∙ sym text)), text)
 
 pub write-table-spec : {M : Type 1} → statement M
 write-table-spec =

@@ -7,14 +7,14 @@ use Prim.Native.Nat.{ℕ, ◌+◌, ◌-◌, ◌≤◌}
 use native.Mathlib.Omega.{arith}
 use borrow.Author.Rules.{rules}
 use Rattle.packed.specs.Part.{part}
-use Rattle.packed.specs.Digits.{isDigits, areDigits}
-use Rattle.packed.proofs.Laws.Part.{part-all, part_none, part_step}
-use Rattle.packed.proofs.Laws.Every.{every-none, every-step}
+use Rattle.packed.specs.Digits.{is_digits, are_digits}
+use Rattle.packed.proofs.Laws.Part.{part_all, part_none, part_step}
+use Rattle.packed.proofs.Laws.Every.{every_none, every_step}
 use Rattle.packed.proofs.digits.are_digits.Statement.{statement}
 use Rattle.packed.proofs.digits.are_digits.Tie as tie
 
 abbrev invariant-loop : tie.invariant-loop
-invariant-loop s at n end ok₀ i₀ ok i = (i ≤ end) × ((ok && areDigits (part i (end - i) s)) ≡ areDigits (part at n s))
+invariant-loop s at n end ok₀ i₀ ok i = (i ≤ end) × ((ok && are_digits (part i (end - i) s)) ≡ are_digits (part at n s))
 
 abbrev decreases-loop : tie.decreases-loop
 decreases-loop s at n end ok₀ i₀ ok i = end - i
@@ -23,7 +23,7 @@ add-end : tie.Need-overflow-add-end invariant-loop decreases-loop
 add-end c = omega arith
 
 loop-holds : tie.Need-loop-init invariant-loop decreases-loop
-loop-holds c = let a = c.before.args in (omega arith, ap areDigits (part-all a.at a.n a.s.now))
+loop-holds c = let a = c.before.args in (omega arith, ap are_digits (part_all a.at a.n a.s.now))
 
 shared-slice-read-is-digits : tie.Need-shared-slice-read-is-digits invariant-loop decreases-loop
 shared-slice-read-is-digits c = omega arith
@@ -44,15 +44,15 @@ loop-again c =
     let end = a.at + a.n in (
       omega arith,
       rw c.is-digits.ensures
-          (every-step isDigits t.loop.ok _ _ ∙ ap (λ (bs : List ℕ). t.loop.ok && areDigits bs) (sym (part_step t.loop.i end a.s.now (omega arith) (omega arith))) ∙ t.loop.invariant.1),
+          (every_step is_digits t.loop.ok _ _ ∙ ap (λ (bs : List ℕ). t.loop.ok && are_digits bs) (sym (part_step t.loop.i end a.s.now (omega arith) (omega arith))) ∙ t.loop.invariant.1),
     )
 
 returns : tie.Need-returns invariant-loop decreases-loop
 returns c =
     let t = c.before in
     let a = t.before.before.args in
-    sym (every-none isDigits t.loop.ok)
-    ∙ ap (λ (bs : List ℕ). t.loop.ok && areDigits bs) (sym (part_none t.loop.i (a.at + a.n) a.s.now (omega arith)))
+    sym (every_none is_digits t.loop.ok)
+    ∙ ap (λ (bs : List ℕ). t.loop.ok && are_digits bs) (sym (part_none t.loop.i (a.at + a.n) a.s.now (omega arith)))
     ∙ t.loop.invariant.1
 
 pub are-digits-spec : {M : Type 1} → statement M

@@ -5,7 +5,7 @@ use native.Mathlib.Omega.{arith}
 use borrow.Author.Rules.{rules}
 use Rattle.packed.specs.Part.{part}
 use Rattle.packed.specs.Number.{number}
-use Rattle.packed.proofs.Laws.Number.{number_step, number-grown, grown-eight}
+use Rattle.packed.proofs.Laws.Number.{number_step, number_grown, grown_eight}
 use Rattle.packed.proofs.number.number.Statement.{statement}
 use Rattle.packed.proofs.number.number.Tie as tie
 
@@ -27,8 +27,8 @@ eight : (c : tie.In-loop invariant-loop decreases-loop) → c.before.loop.value 
 eight c =
     let a = c.before.before.before.args in
     let k = c.before.loop.i - a.at in
-    let grown = number-grown a.at k a.s.now (λ (i : ℕ). (c.before.before.shared-slice-known.given i).fits) (omega arith) in
-    omega (arith, c.before.loop.invariant.2, grown-eight k (number (part a.at k a.s.now)) (omega arith) grown)
+    let grown = number_grown a.at k a.s.now (λ (i : ℕ). (c.before.before.shared-slice-known.given i).fits) (omega arith) in
+    omega (arith, c.before.loop.invariant.2, grown_eight k (number (part a.at k a.s.now)) (omega arith) grown)
 
 mul-value : tie.Need-overflow-mul-value invariant-loop decreases-loop
 mul-value c = omega (arith, eight c)
@@ -65,7 +65,7 @@ returns c =
     let t = c.before in
     let a = t.before.before.args in
     let all : t.loop.i - a.at ≡ a.n = omega arith in
-    let grown = number-grown a.at a.n a.s.now (λ (i : ℕ). (t.before.shared-slice-known.given i).fits) (omega arith) in
+    let grown = number_grown a.at a.n a.s.now (λ (i : ℕ). (t.before.shared-slice-known.given i).fits) (omega arith) in
     (rw all at t.loop.invariant.2, omega (arith, rw all at t.loop.invariant.2, grown))
 
 pub number-spec : {M : Type 1} → statement M

@@ -4,8 +4,8 @@ use Prim.Native.Nat.{ℕ, ◌+◌, ◌*◌, ◌<◌}
 use native.Mathlib.Omega.{arith}
 use borrow.Author.Rules.{rules}
 use lib.ListN.{get_or}
-use Rattle.packed.specs.Number.{byteValue}
-use Rattle.packed.proofs.Laws.Number.{number-one, number_step, two_bytes}
+use Rattle.packed.specs.Number.{byte_value}
+use Rattle.packed.proofs.Laws.Number.{number_one, number_step, two_bytes}
 use Rattle.packed.proofs.number.number2.Statement.{statement}
 use Rattle.packed.proofs.number.number2.Tie as tie
 
@@ -61,7 +61,7 @@ returns c =
     let high = get_or a.s.now a.at 0 in
     let low = get_or a.s.now (a.at + 1) 0 in
     two_bytes high low (second c)
-    ∙ ap (λ (v : ℕ). v * 100 + byteValue low) (sym (number-one a.at a.s.now (omega arith)))
+    ∙ ap (λ (v : ℕ). v * 100 + byte_value low) (sym (number_one a.at a.s.now (omega arith)))
     ∙ sym (number_step a.at 1 a.s.now (omega arith))
 
 pub number2-spec : {M : Type 1} → statement M

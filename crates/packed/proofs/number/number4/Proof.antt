@@ -1,7 +1,7 @@
 -- `number4` reads one byte after the other, each a step further.
 use native.Mathlib.Omega.{arith}
 use borrow.Author.Rules.{rules}
-use Rattle.packed.proofs.Laws.Number.{number-one, number_step}
+use Rattle.packed.proofs.Laws.Number.{number_one, number_step}
 use Rattle.packed.proofs.number.number4.Statement.{statement}
 use Rattle.packed.proofs.number.number4.Tie as tie
 
@@ -61,7 +61,7 @@ returns c =
     let a = c.before.before.before.before.before.before.before.before.before.args in
     omega (
       arith,
-      number-one a.at a.s.now (omega arith),
+      number_one a.at a.s.now (omega arith),
       number_step a.at 1 a.s.now (omega arith),
       number_step a.at 2 a.s.now (omega arith),
       number_step a.at 3 a.s.now (omega arith),

@@ -5,7 +5,7 @@ use native.Mathlib.Omega.{arith}
 use borrow.Author.Rules.{rules}
 use lib.ListN.{take, drop, length-drop, drop_of_length-le}
 use lib.Seq.{take_all, take-nil}
-use Rattle.packed.proofs.Laws.Part.{part-all, part-tail}
+use Rattle.packed.proofs.Laws.Part.{part_all, part_tail}
 use Rattle.packed.proofs.pieces.piece_at.Statement.{statement}
 use Rattle.packed.proofs.pieces.piece_at.Tie as tie
 
@@ -32,7 +32,7 @@ part-result-end c = search rules
 returns-2 : tie.Need-returns-2
 returns-2 c =
     let a = c.before.before.before.args in
-    part-tail a.at a.s.now ∙ sym (take_all a.k (drop a.at a.s.now) (simp length-drop (omega arith)))
+    part_tail a.at a.s.now ∙ sym (take_all a.k (drop a.at a.s.now) (simp length-drop (omega arith)))
 
 add-end : tie.Need-overflow-add-end
 add-end c = search rules
@@ -47,7 +47,7 @@ part-result-end-2 : tie.Need-slice-bounds-result-end-2
 part-result-end-2 c = search rules
 
 returns-3 : tie.Need-returns-3
-returns-3 c = let a = c.before.before.before.args in part-all a.at a.k a.s.now
+returns-3 c = let a = c.before.before.before.args in part_all a.at a.k a.s.now
 
 pub piece-at-spec : {M : Type 1} → statement M
 piece-at-spec =

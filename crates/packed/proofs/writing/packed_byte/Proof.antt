@@ -1,7 +1,7 @@
 -- `packed_byte` adds six for each ten of the last two digits.
 use native.Mathlib.Omega.{arith}
 use borrow.Author.Rules.{rules}
-use Rattle.packed.specs.Writing.{packedByte}
+use Rattle.packed.specs.Writing.{packed_byte}
 use Rattle.packed.proofs.writing.packed_byte.Statement.{statement}
 use Rattle.packed.proofs.writing.packed_byte.Tie as tie
 
@@ -15,7 +15,7 @@ cast-result : tie.Need-overflow-cast-result
 cast-result c = search rules
 
 returns : tie.Need-returns
-unfolding packedByte
+unfolding packed_byte
 returns c = omega arith
 
 pub packed-byte-spec : {M : Type 1} → statement M

@@ -6,14 +6,14 @@ use native.Mathlib.Omega.{arith}
 use borrow.Author.Rules.{rules}
 use lib.ListN.{length, set, length-set}
 use lib.Seq.{sets}
-use Rattle.packed.specs.Writing.{packedByte, packedBytes}
+use Rattle.packed.specs.Writing.{packed_byte, packed_bytes}
 use Rattle.packed.proofs.Laws.Writing.{put_step}
 use Rattle.packed.proofs.writing.put.Statement.{statement}
 use Rattle.packed.proofs.writing.put.Tie as tie
 
 abbrev invariant-loop : tie.invariant-loop
 invariant-loop d₀ at n value rest₀ i₀ d rest i =
-    (at ≤ i) × (i ≤ at + n) × (length d ≡ length d₀) × (sets d at (packedBytes (i - at) rest) ≡ sets d₀ at (packedBytes n value))
+    (at ≤ i) × (i ≤ at + n) × (length d ≡ length d₀) × (sets d at (packed_bytes (i - at) rest) ≡ sets d₀ at (packed_bytes n value))
 
 abbrev decreases-loop : tie.decreases-loop
 decreases-loop d₀ at n value rest₀ i₀ d rest i = i - at
@@ -50,9 +50,9 @@ loop-again c =
       omega arith,
       simp length-set t.loop.invariant.2,
       rw c.packed_byte.ensures
-          (ap (λ (j : ℕ). sets (set t.loop.d j (packedByte t.loop.rest)) at (packedBytes (i - 1 - at) (t.loop.rest / 100))) place
+          (ap (λ (j : ℕ). sets (set t.loop.d j (packed_byte t.loop.rest)) at (packed_bytes (i - 1 - at) (t.loop.rest / 100))) place
           ∙ put_step t.loop.d at (i - 1 - at) t.loop.rest
-          ∙ ap (λ (m : ℕ). sets t.loop.d at (packedBytes m t.loop.rest)) width
+          ∙ ap (λ (m : ℕ). sets t.loop.d at (packed_bytes m t.loop.rest)) width
           ∙ t.loop.invariant.3),
     )
 
@@ -60,7 +60,7 @@ same_length : tie.Need-same-length invariant-loop decreases-loop
 same_length c = c.before.loop.invariant.2
 
 returns : tie.Need-returns invariant-loop decreases-loop
-unfolding packedBytes
+unfolding packed_bytes
 returns c =
     let t = c.before in
     let none : t.loop.i - t.before.before.args.at ≡ 0 = omega arith in

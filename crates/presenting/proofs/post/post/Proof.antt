@@ -4,7 +4,7 @@ use Prim.Native.Nat.{suc, ◌+◌}
 use native.Mathlib.Omega.{arith}
 use lib.Seq.{sets}
 use Rattle.message.specs.declared.envelope.Kind.{Kind}
-use Rattle.message.specs.Envelope.{writtenEnvelope}
+use Rattle.message.specs.Envelope.{written_envelope}
 use borrow.Author.Rules.{rules}
 use Rattle.presenting.proofs.post.post.Statement.{statement}
 use Rattle.presenting.proofs.post.post.Tie as tie
@@ -29,7 +29,7 @@ returns c =
     let t = c.before.before.before.before.before in
     let a = t.before.before.before.before.args in
     let one_more : a.session.presenting.serial + 1 ≡ suc a.session.presenting.serial = omega arith in
-    (c.sent.ensures, c.before.before.before.write-envelope.ensures ∙ λ i. sets a.line.now 0 (writtenEnvelope Kind.Message (record { route = t.presenting-route.ensures i; serial = one_more i })))
+    (c.sent.ensures, c.before.before.before.write-envelope.ensures ∙ λ i. sets a.line.now 0 (written_envelope Kind.Message (record { route = t.presenting-route.ensures i; serial = one_more i })))
 
 pub post-spec : {M : Type 1} → statement M
 post-spec =

@@ -1,5 +1,5 @@
 -- `is_awaited` is the definition's own test.
-use Rattle.session.specs.Reply.{isAwaited}
+use Rattle.session.specs.Reply.{is_awaited}
 use borrow.Author.Rules.{rules}
 use Rattle.presenting.proofs.reply.is_awaited.Statement.{statement}
 use Rattle.presenting.proofs.reply.is_awaited.Tie as tie
@@ -17,7 +17,7 @@ operation-byte-requires-2 : tie.Need-operation-byte-requires-2
 operation-byte-requires-2 c κs = search rules
 
 returns : tie.Need-returns
-unfolding isAwaited
+unfolding is_awaited
 returns c = cc
 
 pub is-awaited-spec : {M : Type 1} → statement M

@@ -5,20 +5,20 @@ use mathlib.Core.List.{List}
 use Prim.Native.Nat.{ℕ}
 use lib.Dec.{eqb}
 use Rattle.packed.specs.Part.{byte_at}
-use Rattle.packed.specs.Number.{byteValue}
-use Rattle.packed.proofs.Laws.Part.{part-tail}
+use Rattle.packed.specs.Number.{byte_value}
+use Rattle.packed.proofs.Laws.Part.{part_tail}
 use Rattle.codes.specs.declared.refusal.Refusal.{Refusal}
 use Rattle.message.specs.declared.envelope.Kind.{Kind}
 use Rattle.message.specs.declared.envelope.Envelope.{Envelope}
-use Rattle.message.specs.Limits.{envelopeBytes}
-use Rattle.message.specs.Route.{sameRoute}
-use Rattle.message.specs.Envelope.{envelopeOf, envelopeGood, envelopeSaid, body_of}
-use Rattle.message.proofs.Laws.Envelope.{read_told, wrong-told, enough}
-use Rattle.session.specs.Reply.{isAccepted}
+use Rattle.message.specs.Limits.{envelope_bytes}
+use Rattle.message.specs.Route.{same_route}
+use Rattle.message.specs.Envelope.{envelope_of, envelope_good, envelope_said, body_of}
+use Rattle.message.proofs.Laws.Envelope.{read_told, wrong_told, enough}
+use Rattle.session.specs.Reply.{is_accepted}
 use Rattle.calls.specs.Inner.Arrival.{Told}
-use Rattle.calls.proofs.Laws.Arrival.{told-past}
-use Rattle.presenting.proofs.Laws.Arrival.{refused-so}
-use Rattle.presenting.specs.Inner.Order.{ofBody}
+use Rattle.calls.proofs.Laws.Arrival.{told_past}
+use Rattle.presenting.proofs.Laws.Arrival.{refused_so}
+use Rattle.presenting.specs.Inner.Order.{of_body}
 use borrow.Author.Rules.{rules}
 use Rattle.presenting.proofs.reply.read_whole.Statement.{statement}
 use Rattle.presenting.proofs.reply.read_whole.Tie as tie
@@ -36,13 +36,13 @@ abbrev start : tie.After-same-route → tie.Start
 start k = k.before.before.before.before.before.before.before
 
 -- what the envelope tells, and the way it goes
-read : (k : tie.After-same-route) → let bytes = (start k).args.reply.now in (envelopeGood Kind.Reply bytes ≡ true) × (k.before.before.before.e.given.0.0 ≡ envelopeOf bytes)
+read : (k : tie.After-same-route) → let bytes = (start k).args.reply.now in (envelope_good Kind.Reply bytes ≡ true) × (k.before.before.before.e.given.0.0 ≡ envelope_of bytes)
 read k =
     let m = k.before.before.before in
-    read_told Kind.Reply (start k).args.reply.now m.e.given.0.0 (ap envelopeSaid (sym m.e.given.1) ∙ m.before.before.read-envelope.ensures)
+    read_told Kind.Reply (start k).args.reply.now m.e.given.0.0 (ap envelope_said (sym m.e.given.1) ∙ m.before.before.read-envelope.ensures)
 
-way : (k : tie.After-same-route) → let a = (start k).args in sameRoute (envelopeOf a.reply.now).route a.route ≡ k.same_route.result
-way k = ap (λ (e : Envelope). sameRoute e.route (start k).args.route) (sym (read k).1) ∙ sym k.same_route.ensures
+way : (k : tie.After-same-route) → let a = (start k).args in same_route (envelope_of a.reply.now).route a.route ≡ k.same_route.result
+way k = ap (λ (e : Envelope). same_route e.route (start k).args.route) (sym (read k).1) ∙ sym k.same_route.ensures
 
 sub-read-body : tie.Need-overflow-sub-read-body
 sub-read-body c = enough Kind.Reply (start c.before).args.reply.now (read c.before).0
@@ -61,11 +61,11 @@ returns c =
     let k = c.before.before.before in
     let a = (start k).args in
     let bytes = a.reply.now in
-    let of-body : List ℕ → Envelope → Type 0 = λ (b : List ℕ) (e : Envelope). Told (ofBody b e.serial a.p) (eqb (byteValue (byte_at 4 b)) 0) c.read-body.result.answer c.read-body.result.accepted in
-    told-past 21 (envelopeGood Kind.Reply bytes) _ _ _ _ (read k).0
-    (told-past 33 (sameRoute (envelopeOf bytes).route a.route) _ _ _ _ (way k ∙ c.before.before.if1.true)
+    let of-body : List ℕ → Envelope → Type 0 = λ (b : List ℕ) (e : Envelope). Told (of_body b e.serial a.p) (eqb (byte_value (byte_at 4 b)) 0) c.read-body.result.answer c.read-body.result.accepted in
+    told_past 21 (envelope_good Kind.Reply bytes) _ _ _ _ (read k).0
+    (told_past 33 (same_route (envelope_of bytes).route a.route) _ _ _ _ (way k ∙ c.before.before.if1.true)
     (subst (of-body (body_of bytes)) (read k).1
-    (subst (λ (b : List ℕ). of-body b k.before.before.before.e.given.0.0) (part-tail envelopeBytes bytes) c.read-body.ensures)))
+    (subst (λ (b : List ℕ). of-body b k.before.before.before.e.given.0.0) (part_tail envelope_bytes bytes) c.read-body.ensures)))
 
 refused-requires : tie.Need-refused-requires
 refused-requires c κs = search rules
@@ -81,15 +81,15 @@ returns-2 c =
     let k = c.before.before in
     let a = (start k).args in
     let bytes = a.reply.now in
-    told-past 21 (envelopeGood Kind.Reply bytes) _ _ _ _ (read k).0
-    (refused-so Refusal.OtherSession (sameRoute (envelopeOf bytes).route a.route) _ (isAccepted bytes) c.refused.result c.refused.ensures (way k ∙ c.before.if1.false))
+    told_past 21 (envelope_good Kind.Reply bytes) _ _ _ _ (read k).0
+    (refused_so Refusal.OtherSession (same_route (envelope_of bytes).route a.route) _ (is_accepted bytes) c.refused.result c.refused.ensures (way k ∙ c.before.if1.false))
 
 returns-3 : tie.Need-returns-3
 returns-3 c =
     let t = c.before.before.before in
     let bytes = t.before.before.args.reply.now in
-    let wrong = wrong-told Kind.Reply bytes (ap envelopeSaid (sym c.before.enum_told.given.1) ∙ t.read-envelope.ensures) in
-    refused-so Refusal.WrongEnvelope (envelopeGood Kind.Reply bytes) _ (isAccepted bytes) c.refused2.result c.refused2.ensures wrong
+    let wrong = wrong_told Kind.Reply bytes (ap envelope_said (sym c.before.enum_told.given.1) ∙ t.read-envelope.ensures) in
+    refused_so Refusal.WrongEnvelope (envelope_good Kind.Reply bytes) _ (is_accepted bytes) c.refused2.result c.refused2.ensures wrong
 
 pub read-whole-spec : {M : Type 1} → statement M
 read-whole-spec =

@@ -7,14 +7,14 @@ use Rattle.codes.specs.Chain.{◌orelse◌}
 use Rattle.codes.proofs.Laws.Chain.{none_both}
 use Rattle.message.specs.declared.route.Route.{Route}
 use Rattle.session.specs.Parties.{Direction}
-use Rattle.session.specs.Outcome.{answerNumber, silent, held}
-use Rattle.session.specs.Time.{timeRefusal}
-use Rattle.session.specs.Reply.{isAccepted, replyOrder, replyRefusal, replied, takeReply}
+use Rattle.session.specs.Outcome.{answer_number, silent, held}
+use Rattle.session.specs.Time.{time_refusal}
+use Rattle.session.specs.Reply.{is_accepted, reply_order, reply_refusal, replied, take_reply}
 use Rattle.session.specs.Engine.{Call, meaning}
-use Rattle.session.proofs.Laws.EveryCall.{kept-beside}
+use Rattle.session.proofs.Laws.EveryCall.{kept_beside}
 use Rattle.calls.specs.Inner.Arrival.{Told}
-use Rattle.calls.specs.Said.{calledSaid}
-use Rattle.calls.proofs.Laws.Said.{said-done, said-refused, so-kept-beside}
+use Rattle.calls.specs.Said.{called_said}
+use Rattle.calls.proofs.Laws.Said.{said_done, said_refused, so_kept_beside}
 use borrow.Author.Rules.{rules}
 use Rattle.presenting.proofs.reply.take_reply.Statement.{statement}
 use Rattle.presenting.proofs.reply.take_reply.Tie as tie
@@ -38,18 +38,18 @@ replied-requires : tie.Need-replied-requires
 replied-requires c κs = search rules
 
 -- the chain, and what a reply that it lets pass brings
-arrived : (w : tie.After-or-refused) → let a = w.before.before.before.before.before.before.before.args in let answer = answerNumber w.or-refused.result in (answer ≡ replyRefusal a.time a.reply.now a.session) × (answer ≡ 0 → w.before.before.read_whole.result.accepted ≡ isAccepted a.reply.now)
-unfolding replyRefusal
+arrived : (w : tie.After-or-refused) → let a = w.before.before.before.before.before.before.before.args in let answer = answer_number w.or-refused.result in (answer ≡ reply_refusal a.time a.reply.now a.session) × (answer ≡ 0 → w.before.before.read_whole.result.accepted ≡ is_accepted a.reply.now)
+unfolding reply_refusal
 arrived w =
     let a = w.before.before.before.before.before.before.before.args in
     let bytes = a.reply.now in
     let r = w.before.before.read_whole.result in
-    let told = subst (λ (route : Route). Told (replyOrder bytes route a.session.presenting) (isAccepted bytes) r.answer r.accepted) w.before.before.before.presenting-route.ensures w.before.before.read_whole.ensures in
+    let told = subst (λ (route : Route). Told (reply_order bytes route a.session.presenting) (is_accepted bytes) r.answer r.accepted) w.before.before.before.presenting-route.ensures w.before.before.read_whole.ensures in
     let chain = w.or-refused.ensures ∙ (λ i. w.before.time-refusal.ensures i orelse told.number i) in
-    (chain, λ (e : answerNumber w.or-refused.result ≡ 0). told.finding (none_both (timeRefusal a.time a.session.seen a.session.close) _ (sym chain ∙ e)).1)
+    (chain, λ (e : answer_number w.or-refused.result ≡ 0). told.finding (none_both (time_refusal a.time a.session.seen a.session.close) _ (sym chain ∙ e)).1)
 
 returns : tie.Need-returns
-unfolding takeReply meaning
+unfolding take_reply meaning
 returns c =
     let w = c.before.before.before in
     let t = w.before.before.before.before.before.before.before in
@@ -58,11 +58,11 @@ returns c =
     let time = t.args.time in
     let bytes = t.args.reply.now in
     let none = sym c.before.before.answer-number.ensures ∙ c.before.if1.true in
-    let said : (line : List ℕ) → calledSaid c.replied.result.called c.replied.result.running line ≡ takeReply time bytes (lent line) = λ (line : List ℕ). c.replied.ensures line ∙ ap (λ (b : Bool). silent (replied time b (lent line))) ((arrived w).1 none) ∙ said-done (answerNumber w.or-refused.result) (replyRefusal time bytes s) (lent line) (silent (replied time (isAccepted bytes) (lent line))) (arrived w).0 none in
-    (said, so-kept-beside s _ _ (said []) Direction.presenting (kept-beside (Call.reply time bytes) (lent []) (record { sound = t.requires.0; carried = t.requires.1 })))
+    let said : (line : List ℕ) → called_said c.replied.result.called c.replied.result.running line ≡ take_reply time bytes (lent line) = λ (line : List ℕ). c.replied.ensures line ∙ ap (λ (b : Bool). silent (replied time b (lent line))) ((arrived w).1 none) ∙ said_done (answer_number w.or-refused.result) (reply_refusal time bytes s) (lent line) (silent (replied time (is_accepted bytes) (lent line))) (arrived w).0 none in
+    (said, so_kept_beside s _ _ (said []) Direction.presenting (kept_beside (Call.reply time bytes) (lent []) (record { sound = t.requires.0; carried = t.requires.1 })))
 
 returns-2 : tie.Need-returns-2
-unfolding takeReply meaning
+unfolding take_reply meaning
 returns-2 c =
     let w = c.before.before in
     let t = w.before.before.before.before.before.before.before in
@@ -70,13 +70,13 @@ returns-2 c =
     let lent = held s t.args.running in
     let time = t.args.time in
     let bytes = t.args.reply.now in
-    let answer = answerNumber w.or-refused.result in
+    let answer = answer_number w.or-refused.result in
     let some : answer ≡ 0 → ⊥ = λ (e : answer ≡ 0). c.if1.false (c.before.answer-number.ensures ∙ e) in
-    let said : (line : List ℕ) → record { number = answer; written = 0; left = lent line } ≡ takeReply time bytes (lent line) = λ (line : List ℕ). said-refused answer (replyRefusal time bytes s) (lent line) (silent (replied time (isAccepted bytes) (lent line))) (arrived w).0 some in
-    (said, so-kept-beside s _ _ (said []) Direction.presenting (kept-beside (Call.reply time bytes) (lent []) (record { sound = t.requires.0; carried = t.requires.1 })))
+    let said : (line : List ℕ) → record { number = answer; written = 0; left = lent line } ≡ take_reply time bytes (lent line) = λ (line : List ℕ). said_refused answer (reply_refusal time bytes s) (lent line) (silent (replied time (is_accepted bytes) (lent line))) (arrived w).0 some in
+    (said, so_kept_beside s _ _ (said []) Direction.presenting (kept_beside (Call.reply time bytes) (lent []) (record { sound = t.requires.0; carried = t.requires.1 })))
 
-pub take-reply-spec : {M : Type 1} → statement M
-take-reply-spec =
+pub take_reply_spec : {M : Type 1} → statement M
+take_reply_spec =
     tie.close
     (tie.spec
     presenting-route-requires

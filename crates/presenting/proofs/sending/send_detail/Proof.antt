@@ -7,19 +7,19 @@ use native.Mathlib.Omega.{arith}
 use lib.ListN.{length}
 use lib.Seq.{sets}
 use borrow.Rule.Slice.PartMut.{mid_of}
-use Rattle.packed.specs.Writing.{packedByte}
+use Rattle.packed.specs.Writing.{packed_byte}
 use Rattle.codes.proofs.Laws.Chain.{none_both}
-use Rattle.detail.specs.Codes.{presenterCode}
-use Rattle.detail.specs.Writing.{writtenDetail}
-use Rattle.detail.proofs.Laws.Codes.{sendable-part, accepted-part}
+use Rattle.detail.specs.Codes.{presenter_code}
+use Rattle.detail.specs.Writing.{written_detail}
+use Rattle.detail.proofs.Laws.Codes.{sendable_part, accepted_part}
 use Rattle.message.specs.declared.envelope.Kind.{Kind}
-use Rattle.message.specs.Limits.{envelopeBytes}
+use Rattle.message.specs.Limits.{envelope_bytes}
 use Rattle.message.proofs.Laws.Envelope.{whole_length}
 use Rattle.session.specs.declared.effect.Effect.{Effect}
 use Rattle.session.specs.Outcome.{held}
-use Rattle.session.specs.Sending.{nextEnvelope, detailStop, Send}
+use Rattle.session.specs.Sending.{next_envelope, detail_stop, Send}
 use Rattle.presenting.specs.Inner.Begun.{unstopped}
-use Rattle.presenting.proofs.Laws.Send.{Sending, bodyIn, Beginning, unposted, tail, rest-room, posted-so, kept-said}
+use Rattle.presenting.proofs.Laws.Send.{Sending, body_in, Beginning, unposted, tail, rest_room, posted_so, kept_said}
 use borrow.Author.Rules.{rules}
 use Rattle.presenting.proofs.sending.send_detail.Statement.{statement}
 use Rattle.presenting.proofs.sending.send_detail.Tie as tie
@@ -31,7 +31,7 @@ written-bytes-requires : tie.Need-written-bytes-requires
 written-bytes-requires c κs = search rules
 
 add-bytes : tie.Need-overflow-add-bytes
-add-bytes c = let h = c.written-bytes.ensures.1 in search rules
+add-bytes c = let h = c.written_bytes_lem.ensures.1 in search rules
 
 begin-requires : tie.Need-begin-requires
 begin-requires c κs = search rules
@@ -50,22 +50,22 @@ abbrev sending : tie.After-is-unstopped → Sending
 sending k = let a = (start k).args in record { time = a.time; message = Send.detail a.operation a.part.now; lent = held a.session a.running a.line.now }
 
 known : (k : tie.After-is-unstopped) → Beginning (sending k) (first k) k.before.before.before.begin.result
-unfolding detailStop
+unfolding detail_stop
 known k =
     let a = (start k).args in
-    let size = k.before.before.before.before.before.written-bytes in
+    let size = k.before.before.before.before.before.written_bytes_lem in
     let stop = k.before.before.before.before.before.before.before.detail-stop in
     let partner = a.session.parties.partner in
     record {
       code = _;
-      bytes = envelopeBytes + size.result;
+      bytes = envelope_bytes + size.result;
       effect = Effect.Detail stop.result.adds;
       begun = k.before.before.before.begin.ensures;
       same = stop.ensures.0;
       size =
           λ e.
-          let may = sendable-part a.operation a.part.now (accepted-part a.operation partner a.part.now (none_both (presenterCode a.operation partner a.part.now) _ e).0).0 in
-          sym (whole_length Kind.Message (nextEnvelope a.session) (bodyIn (sending k)) ∙ ap (λ (n : ℕ). envelopeBytes + n) (sym (size.ensures.0 (omega (arith, may.whole, may.most)) (packedByte a.operation))));
+          let may = sendable_part a.operation a.part.now (accepted_part a.operation partner a.part.now (none_both (presenter_code a.operation partner a.part.now) _ e).0).0 in
+          sym (whole_length Kind.Message (next_envelope a.session) (body_in (sending k)) ∙ ap (λ (n : ℕ). envelope_bytes + n) (sym (size.ensures.0 (omega (arith, may.whole, may.most)) (packed_byte a.operation))));
       awaits = λ e. ap Effect.Detail (stop.ensures.1 (stop.ensures.0 ∙ e));
     }
 
@@ -88,7 +88,7 @@ write-detail-requires : tie.Need-write-detail-requires
 write-detail-requires c κs =
     let t = c.before.before in
     let k = t.before in
-    omega (arith, rest-room (sending k) _ _ (known k) (some t), ap (λ (o : ℕ). length (writtenDetail o (start k).args.part.now)) c.packed_byte.ensures)
+    omega (arith, rest_room (sending k) _ _ (known k) (some t), ap (λ (o : ℕ). length (written_detail o (start k).args.part.now)) c.packed_byte.ensures)
 
 same_length : tie.Need-same-length
 same_length c = search rules
@@ -98,8 +98,8 @@ returns c =
     let t = c.before.before.before.before.before in
     let k = t.before in
     let w = c.before.before.write-detail in
-    let body = w.ensures.1 ∙ ap (λ (o : ℕ). sets (mid_of envelopeBytes (length (first k) - envelopeBytes) (first k)) 0 (writtenDetail o (start k).args.part.now)) c.before.before.before.packed_byte.ensures in
-    kept-said (sending k) k.before.before.before.begin.result _ (start k).requires.0 (start k).requires.1 (posted-so (sending k) _ _ (known k) (some t) w.new.0 body)
+    let body = w.ensures.1 ∙ ap (λ (o : ℕ). sets (mid_of envelope_bytes (length (first k) - envelope_bytes) (first k)) 0 (written_detail o (start k).args.part.now)) c.before.before.before.packed_byte.ensures in
+    kept_said (sending k) k.before.before.before.begin.result _ (start k).requires.0 (start k).requires.1 (posted_so (sending k) _ _ (known k) (some t) w.new.0 body)
 
 same-length-2 : tie.Need-same-length-2
 same-length-2 c = search rules
@@ -107,7 +107,7 @@ same-length-2 c = search rules
 returns-2 : tie.Need-returns-2
 returns-2 c =
     let k = c.before in
-    kept-said (sending k) k.before.before.before.begin.result _ (start k).requires.0 (start k).requires.1 (unposted (sending k) _ _ (known k) (sym k.is-unstopped.ensures ∙ c.if1.false))
+    kept_said (sending k) k.before.before.before.begin.result _ (start k).requires.0 (start k).requires.1 (unposted (sending k) _ _ (known k) (sym k.is-unstopped.ensures ∙ c.if1.false))
 
 pub send-detail-spec : {M : Type 1} → statement M
 send-detail-spec =

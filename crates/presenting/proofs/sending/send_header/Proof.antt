@@ -8,18 +8,18 @@ use lib.ListN.{length}
 use lib.Seq.{sets}
 use borrow.Rule.Slice.PartMut.{mid_of}
 use Rattle.message.specs.declared.route.Route.{Route}
-use Rattle.message.specs.Limits.{envelopeBytes, headerBytes}
-use Rattle.message.specs.Line.{Body, bodyBytes}
-use Rattle.message.proofs.Laws.Line.{body-length}
+use Rattle.message.specs.Limits.{envelope_bytes, header_bytes}
+use Rattle.message.specs.Line.{Body, body_bytes}
+use Rattle.message.proofs.Laws.Line.{body_length}
 use Rattle.session.specs.declared.effect.Effect.{Effect}
 use Rattle.session.specs.declared.running.Running.{Running}
-use Rattle.session.specs.Parties.{presentingRoute}
+use Rattle.session.specs.Parties.{presenting_route}
 use Rattle.session.specs.Running.{empty}
 use Rattle.session.specs.Outcome.{held}
-use Rattle.session.specs.Sending.{headerBody, Send}
-use Rattle.session.proofs.Laws.Allowed.{header-sound}
+use Rattle.session.specs.Sending.{header_body, Send}
+use Rattle.session.proofs.Laws.Allowed.{header_sound}
 use Rattle.presenting.specs.Inner.Begun.{unstopped}
-use Rattle.presenting.proofs.Laws.Send.{Sending, Beginning, fixed-size, unposted, tail, rest-room, posted-so, kept-unlent}
+use Rattle.presenting.proofs.Laws.Send.{Sending, Beginning, fixed_size, unposted, tail, rest_room, posted_so, kept_unlent}
 use borrow.Author.Rules.{rules}
 use Rattle.presenting.proofs.sending.send_header.Statement.{statement}
 use Rattle.presenting.proofs.sending.send_header.Tie as tie
@@ -40,7 +40,7 @@ abbrev start : tie.After-is-unstopped → tie.Start
 start k = k.before.before.before.before.before.before.before.before.before
 
 abbrev content : tie.After-is-unstopped → Body
-content k = let a = (start k).args in headerBody a.moment a.centre a.number
+content k = let a = (start k).args in header_body a.moment a.centre a.number
 
 -- what the line buffer holds once the send has begun
 abbrev first : tie.After-is-unstopped → List ℕ
@@ -53,11 +53,11 @@ known : (k : tie.After-is-unstopped) (u : Running) → Beginning (sending k u) (
 known k u =
     record {
       code = _;
-      bytes = envelopeBytes + headerBytes;
+      bytes = envelope_bytes + header_bytes;
       effect = Effect.Header (start k).args.number;
       begun = k.before.before.before.begin.ensures;
       same = k.before.before.before.before.before.header-stop.ensures;
-      size = λ e. fixed-size (start k).args.session (content k);
+      size = λ e. fixed_size (start k).args.session (content k);
       awaits = λ e. refl;
     }
 
@@ -80,21 +80,21 @@ write-header-requires : tie.Need-write-header-requires
 write-header-requires c κs =
     let t = c.before.before in
     let k = t.before in
-    omega (arith, rest-room (sending k empty) _ _ (known k empty) (some t), body-length (presentingRoute (start k).args.session.parties) (content k))
+    omega (arith, rest_room (sending k empty) _ _ (known k empty) (some t), body_length (presenting_route (start k).args.session.parties) (content k))
 
 same_length : tie.Need-same-length
 same_length c = search rules
 
 returns : tie.Need-returns
-unfolding bodyBytes
+unfolding body_bytes
 returns c =
     let t = c.before.before.before.before.before in
     let k = t.before in
     let a = (start k).args in
     let w = c.before.before.write-header in
-    let body = w.ensures ∙ ap (λ (r : Route). sets (mid_of envelopeBytes (length (first k) - envelopeBytes) (first k)) 0 (bodyBytes r (content k))) c.before.before.before.presenting-route.ensures in
-    kept-unlent (sending k) k.before.before.before.begin.result _ (header-sound a.time a.moment a.centre a.number a.session.presenting) (λ (t : Running). tt) (start k).requires
-    (λ (u : Running). posted-so (sending k u) _ _ (known k u) (some t) w.new.0 body)
+    let body = w.ensures ∙ ap (λ (r : Route). sets (mid_of envelope_bytes (length (first k) - envelope_bytes) (first k)) 0 (body_bytes r (content k))) c.before.before.before.presenting-route.ensures in
+    kept_unlent (sending k) k.before.before.before.begin.result _ (header_sound a.time a.moment a.centre a.number a.session.presenting) (λ (t : Running). tt) (start k).requires
+    (λ (u : Running). posted_so (sending k u) _ _ (known k u) (some t) w.new.0 body)
 
 same-length-2 : tie.Need-same-length-2
 same-length-2 c = search rules
@@ -103,7 +103,7 @@ returns-2 : tie.Need-returns-2
 returns-2 c =
     let k = c.before in
     let a = (start k).args in
-    kept-unlent (sending k) k.before.before.before.begin.result _ (header-sound a.time a.moment a.centre a.number a.session.presenting) (λ (t : Running). tt) (start k).requires
+    kept_unlent (sending k) k.before.before.before.begin.result _ (header_sound a.time a.moment a.centre a.number a.session.presenting) (λ (t : Running). tt) (start k).requires
     (λ (u : Running). unposted (sending k u) _ _ (known k u) (sym k.is-unstopped.ensures ∙ c.if1.false))
 
 pub send-header-spec : {M : Type 1} → statement M

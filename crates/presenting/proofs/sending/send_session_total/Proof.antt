@@ -8,17 +8,17 @@ use lib.ListN.{length}
 use lib.Seq.{sets}
 use borrow.Rule.Slice.PartMut.{mid_of}
 use Rattle.amounts.specs.declared.Totals.{Totals}
-use Rattle.message.specs.Limits.{envelopeBytes, sessionTotalBytes}
-use Rattle.message.specs.Line.{Body, bodyBytes}
-use Rattle.message.proofs.Laws.Line.{body-length}
+use Rattle.message.specs.Limits.{envelope_bytes, session_total_bytes}
+use Rattle.message.specs.Line.{Body, body_bytes}
+use Rattle.message.proofs.Laws.Line.{body_length}
 use Rattle.session.specs.declared.effect.Effect.{Effect}
 use Rattle.session.specs.declared.running.Running.{Running}
-use Rattle.session.specs.Parties.{presentingRoute}
+use Rattle.session.specs.Parties.{presenting_route}
 use Rattle.session.specs.Running.{empty}
 use Rattle.session.specs.Outcome.{held}
-use Rattle.session.specs.Sending.{sessionTotalStop, sessionTotalBody, Send}
+use Rattle.session.specs.Sending.{session_total_stop, session_total_body, Send}
 use Rattle.presenting.specs.Inner.Begun.{unstopped}
-use Rattle.presenting.proofs.Laws.Send.{Sending, Beginning, fixed-size, unposted, tail, rest-room, posted-so, kept-unlent}
+use Rattle.presenting.proofs.Laws.Send.{Sending, Beginning, fixed_size, unposted, tail, rest_room, posted_so, kept_unlent}
 use borrow.Author.Rules.{rules}
 use Rattle.presenting.proofs.sending.send_session_total.Statement.{statement}
 use Rattle.presenting.proofs.sending.send_session_total.Tie as tie
@@ -39,25 +39,25 @@ abbrev start : tie.After-is-unstopped → tie.Start
 start k = k.before.before.before.before.before.before.before.before.before.before
 
 abbrev content : tie.After-is-unstopped → Body
-content k = sessionTotalBody (start k).args.session.presenting.counters
+content k = session_total_body (start k).args.session.presenting.counters
 
 -- what the line buffer holds once the send has begun
 abbrev first : tie.After-is-unstopped → List ℕ
 first k = k.before.before.before.begin.new.1.1.1.1.1.0
 
 abbrev sending : tie.After-is-unstopped → Running → Sending
-sending k u = let a = (start k).args in record { time = a.time; message = Send.sessionTotal; lent = held a.session u a.line.now }
+sending k u = let a = (start k).args in record { time = a.time; message = Send.session_total; lent = held a.session u a.line.now }
 
 known : (k : tie.After-is-unstopped) (u : Running) → Beginning (sending k u) (first k) k.before.before.before.begin.result
-unfolding sessionTotalStop
+unfolding session_total_stop
 known k u =
     record {
       code = _;
-      bytes = envelopeBytes + sessionTotalBytes;
+      bytes = envelope_bytes + session_total_bytes;
       effect = Effect.SessionTotal;
       begun = k.before.before.before.begin.ensures;
       same = k.before.before.before.before.before.session-total-sequence.ensures;
-      size = λ e. fixed-size (start k).args.session (content k);
+      size = λ e. fixed_size (start k).args.session (content k);
       awaits = λ e. refl;
     }
 
@@ -83,21 +83,21 @@ write-session-total-requires : tie.Need-write-session-total-requires
 write-session-total-requires c κs =
     let t = c.before.before.before in
     let k = t.before in
-    omega (arith, rest-room (sending k empty) _ _ (known k empty) (some t), body-length (presentingRoute (start k).args.session.parties) (content k))
+    omega (arith, rest_room (sending k empty) _ _ (known k empty) (some t), body_length (presenting_route (start k).args.session.parties) (content k))
 
 same_length : tie.Need-same-length
 same_length c = search rules
 
 returns : tie.Need-returns
-unfolding bodyBytes
+unfolding body_bytes
 returns c =
     let t = c.before.before.before.before.before.before in
     let k = t.before in
     let counters = (start k).args.session.presenting.counters in
     let w = c.before.before.write-session-total in
-    let body = w.ensures ∙ ap (λ (x : Totals). sets (mid_of envelopeBytes (length (first k) - envelopeBytes) (first k)) 0 (bodyBytes (presentingRoute (start k).args.session.parties) (Body.sessionEnding (record { number = counters.lots; stated = x })))) c.before.before.before.before.stated.ensures in
-    kept-unlent (sending k) k.before.before.before.begin.result _ (λ e. tt) (λ (t : Running). tt) (start k).requires
-    (λ (u : Running). posted-so (sending k u) _ _ (known k u) (some t) w.new.0 body)
+    let body = w.ensures ∙ ap (λ (x : Totals). sets (mid_of envelope_bytes (length (first k) - envelope_bytes) (first k)) 0 (body_bytes (presenting_route (start k).args.session.parties) (Body.session_ending (record { number = counters.lots; stated = x })))) c.before.before.before.before.stated.ensures in
+    kept_unlent (sending k) k.before.before.before.begin.result _ (λ e. tt) (λ (t : Running). tt) (start k).requires
+    (λ (u : Running). posted_so (sending k u) _ _ (known k u) (some t) w.new.0 body)
 
 same-length-2 : tie.Need-same-length-2
 same-length-2 c = search rules
@@ -105,7 +105,7 @@ same-length-2 c = search rules
 returns-2 : tie.Need-returns-2
 returns-2 c =
     let k = c.before in
-    kept-unlent (sending k) k.before.before.before.begin.result _ (λ e. tt) (λ (t : Running). tt) (start k).requires
+    kept_unlent (sending k) k.before.before.before.begin.result _ (λ e. tt) (λ (t : Running). tt) (start k).requires
     (λ (u : Running). unposted (sending k u) _ _ (known k u) (sym k.is-unstopped.ensures ∙ c.if1.false))
 
 pub send-session-total-spec : {M : Type 1} → statement M

@@ -2,7 +2,7 @@
 use mathlib.Core.Path.{◌∙◌}
 use mathlib.Core.Bool.{not}
 use Rattle.codes.specs.Chain.{◌when◌, ◌orelse◌}
-use Rattle.session.specs.Sending.{headerStop}
+use Rattle.session.specs.Sending.{header_stop}
 use borrow.Author.Rules.{rules}
 use Rattle.presenting.proofs.stops.header_stop.Statement.{statement}
 use Rattle.presenting.proofs.stops.header_stop.Tie as tie
@@ -38,7 +38,7 @@ or-else-requires-3 : tie.Need-or-else-requires-3
 or-else-requires-3 c κs = search rules
 
 returns : tie.Need-returns
-unfolding headerStop
+unfolding header_stop
 returns c =
     let last = c.before.before in
     let used = last.before.before in

@@ -3,7 +3,7 @@ use mathlib.Core.Path.{◌≡◌, ap, sym, ◌∙◌}
 use mathlib.Core.Bool.{true}
 use Rattle.session.specs.declared.effect.Effect.{Effect}
 use Rattle.session.specs.Course.{kept}
-use Rattle.receiving.specs.Inner.Earned.{endsLot}
+use Rattle.receiving.specs.Inner.Earned.{ends_lot}
 use borrow.Author.Rules.{rules}
 use Rattle.receiving.proofs.accepted.kept.Statement.{statement}
 use Rattle.receiving.proofs.accepted.kept.Tie as tie
@@ -12,7 +12,7 @@ enum-known-effect : tie.Need-enum-known-effect
 enum-known-effect c = search rules
 
 stored-requires : tie.Need-stored-requires
-stored-requires c κs = let t = c.before.before.before in λ (e : t.args.accepted ≡ true). t.requires e (ap endsLot c.before.effect.given.1)
+stored-requires c κs = let t = c.before.before.before in λ (e : t.args.accepted ≡ true). t.requires e (ap ends_lot c.before.effect.given.1)
 
 enum_told : tie.Need-enum-told
 enum_told c = search rules

@@ -11,14 +11,14 @@ use Rattle.amounts.specs.declared.Totals.{Totals}
 use Rattle.amounts.specs.Totals.{same as same-totals}
 use Rattle.session.specs.declared.counters.Lot.{Lot}
 use Rattle.session.specs.Running.{empty, stated}
-use Rattle.session.specs.Receiving.{numberUsed, totalsUsed}
+use Rattle.session.specs.Receiving.{number_used, totals_used}
 use Rattle.receiving.proofs.Laws.Accepted.{any_next}
 use Rattle.receiving.proofs.accepted.look_up.Statement.{statement}
 use Rattle.receiving.proofs.accepted.look_up.Tie as tie
 
 abbrev invariant-loop : tie.invariant-loop
 invariant-loop number totals count lots by-number₀ by-totals₀ i₀ by_number by-totals i =
-    (i ≤ count) × (by_number ≡ numberUsed number (take i lots)) × (by-totals ≡ totalsUsed totals (take i lots))
+    (i ≤ count) × (by_number ≡ number_used number (take i lots)) × (by-totals ≡ totals_used totals (take i lots))
 
 abbrev decreases-loop : tie.decreases-loop
 decreases-loop number totals count lots by-number₀ by-totals₀ i₀ by_number by-totals i = count - i
@@ -55,8 +55,8 @@ loop-again c =
     let more : i + 1 ≡ suc i = omega arith in
     let same = c.same.ensures ∙ ap (λ (x : Totals). same-totals x a.totals) c.before.stated.ensures in (
       omega arith,
-      (λ k. t.loop.invariant.1 k || eqb a.number (get_or a.t4 i d).number) ∙ sym (any_next (λ (l : Lot). eqb a.number l.number) d i a.t4 here) ∙ sym (ap (λ (n : ℕ). numberUsed a.number (take n a.t4)) more),
-      (λ k. t.loop.invariant.2 k || same k) ∙ sym (any_next (λ (l : Lot). same-totals (stated l.gathered) a.totals) d i a.t4 here) ∙ sym (ap (λ (n : ℕ). totalsUsed a.totals (take n a.t4)) more),
+      (λ k. t.loop.invariant.1 k || eqb a.number (get_or a.t4 i d).number) ∙ sym (any_next (λ (l : Lot). eqb a.number l.number) d i a.t4 here) ∙ sym (ap (λ (n : ℕ). number_used a.number (take n a.t4)) more),
+      (λ k. t.loop.invariant.2 k || same k) ∙ sym (any_next (λ (l : Lot). same-totals (stated l.gathered) a.totals) d i a.t4 here) ∙ sym (ap (λ (n : ℕ). totals_used a.totals (take n a.t4)) more),
     )
 
 returns : tie.Need-returns invariant-loop decreases-loop
@@ -64,7 +64,7 @@ returns c =
     let t = c.before in
     let a = t.before.args in
     let all : t.loop.i ≡ a.count = omega (arith, t.loop.invariant.0, c.loop-test.false) in
-    (t.loop.invariant.1 ∙ ap (λ (n : ℕ). numberUsed a.number (take n a.t4)) all, t.loop.invariant.2 ∙ ap (λ (n : ℕ). totalsUsed a.totals (take n a.t4)) all)
+    (t.loop.invariant.1 ∙ ap (λ (n : ℕ). number_used a.number (take n a.t4)) all, t.loop.invariant.2 ∙ ap (λ (n : ℕ). totals_used a.totals (take n a.t4)) all)
 
 pub look-up-spec : {M : Type 1} → statement M
 look-up-spec =

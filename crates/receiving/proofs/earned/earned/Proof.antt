@@ -1,7 +1,7 @@
 -- `earned`: each content has its own chain; an unknown one is 01.
 use mathlib.Core.Path.{refl, sym, subst}
 use Rattle.message.specs.declared.content.Content.{Content}
-use Rattle.session.specs.Receiving.{receivedCode, receivedEffect}
+use Rattle.session.specs.Receiving.{received_code, received_effect}
 use Rattle.receiving.specs.Inner.Earned.{Earns}
 use borrow.Author.Rules.{rules}
 use Rattle.receiving.proofs.earned.earned.Statement.{statement}
@@ -55,7 +55,7 @@ returns-4 c =
     subst (λ (x : Content). Earns x a.time a.body.now a.p a.running a.r c.of-session-total.result) (sym c.before.enum-told4.given.1) c.of-session-total.ensures
 
 returns-5 : tie.Need-returns-5
-unfolding receivedCode receivedEffect
+unfolding received_code received_effect
 returns-5 c =
     let a = c.before.before.before.args in
     subst (λ (x : Content). Earns x a.time a.body.now a.p a.running a.r _) (sym c.enum-told5.given.1) (record { code = refl; effect = refl })

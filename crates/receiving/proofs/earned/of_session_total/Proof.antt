@@ -4,20 +4,20 @@ use mathlib.Core.Bool.{Bool, not, ◌&&◌}
 use Prim.Native.Nat.{ℕ}
 use lib.Dec.{eqb}
 use Rattle.codes.specs.Chain.{◌when◌, ◌orelse◌}
-use Rattle.codes.specs.Code.{codeNumber}
-use Rattle.codes.specs.Field.{tableNumbers}
+use Rattle.codes.specs.Code.{code_number}
+use Rattle.codes.specs.Field.{table_numbers}
 use Rattle.amounts.specs.declared.Totals.{Totals}
 use Rattle.amounts.specs.Totals.{same}
 use Rattle.message.specs.declared.total.Total.{Total}
-use Rattle.message.specs.Layout.{bodyCode}
-use Rattle.message.specs.Total.{sessionTotal, sessionTotalFields, total_of, totalValues, totalSaid}
+use Rattle.message.specs.Layout.{body_code}
+use Rattle.message.specs.Total.{session_total, session_total_fields, total_of, total_values, total_said}
 use Rattle.message.proofs.Laws.Reading.{told}
 use Rattle.message.proofs.Laws.Total.{read_told}
 use Rattle.session.specs.declared.effect.Effect.{Effect}
 use Rattle.session.specs.Running.{stated}
-use Rattle.session.specs.Sequence.{sessionTotalSequence}
-use Rattle.session.specs.Receiving.{sessionTotalCode, receivedCode, receivedEffect}
-use Rattle.receiving.proofs.Laws.Earned.{read-earns, stands-if, wrong-read, wrong-ends}
+use Rattle.session.specs.Sequence.{session_total_sequence}
+use Rattle.session.specs.Receiving.{session_total_code, received_code, received_effect}
+use Rattle.receiving.proofs.Laws.Earned.{read_earns, stands_if, wrong_read, wrong_ends}
 use borrow.Author.Rules.{rules}
 use Rattle.receiving.proofs.earned.of_session_total.Statement.{statement}
 use Rattle.receiving.proofs.earned.of_session_total.Tie as tie
@@ -50,31 +50,31 @@ enum-known-code : tie.Need-enum-known-code
 enum-known-code c = search rules
 
 returns : tie.Need-returns
-unfolding receivedCode sessionTotalCode receivedEffect
+unfolding received_code session_total_code received_effect
 returns c =
     let m = c.before.before.before.before.before.before.before.before.before.before.before in
     let t = m.before.before in
     let a = t.before.before.args in
     let body = a.body.now in
     let x = m.t.given.0.0 in
-    let read = ap totalSaid (sym m.t.given.1) ∙ t.read-session-total.ensures in
-    let good = (told (bodyCode sessionTotal body) (tableNumbers 1 sessionTotalFields body) (totalValues x) read).0 in
-    let late : Total → ℕ = λ (y : Total). sessionTotalSequence a.r.ended a.r.counters.current orelse 8 when not (eqb a.r.counters.lots y.number && same (stated a.r.counters.gathered) y.stated) in
+    let read = ap total_said (sym m.t.given.1) ∙ t.read-session-total.ensures in
+    let good = (told (body_code session_total body) (table_numbers 1 session_total_fields body) (total_values x) read).0 in
+    let late : Total → ℕ = λ (y : Total). session_total_sequence a.r.ended a.r.counters.current orelse 8 when not (eqb a.r.counters.lots y.number && same (stated a.r.counters.gathered) y.stated) in
     let amounts = c.before.before.same.ensures ∙ ap (λ (y : Totals). same y x.stated) c.before.before.before.stated.ensures in
     let differ = c.before.when.ensures ∙ ap (λ (z : Bool). 8 when not (eqb a.r.counters.lots x.number && z)) amounts in
-    let chain : codeNumber c.or_else.result ≡ late x = c.or_else.ensures ∙ (λ i. c.before.before.before.before.before.before.session-total-sequence.ensures i orelse differ i) in
-    let earns = read-earns late (λ (y : Total). Effect.SessionTotal) x (total_of sessionTotalFields body) (bodyCode sessionTotal body) (codeNumber c.or_else.result) (read_told sessionTotal x body read) good chain in
+    let chain : code_number c.or_else.result ≡ late x = c.or_else.ensures ∙ (λ i. c.before.before.before.before.before.before.session-total-sequence.ensures i orelse differ i) in
+    let earns = read_earns late (λ (y : Total). Effect.SessionTotal) x (total_of session_total_fields body) (body_code session_total body) (code_number c.or_else.result) (read_told session_total x body read) good chain in
     record { code = earns.0; effect = earns.1 }
 
 returns-2 : tie.Need-returns-2
-unfolding receivedCode sessionTotalCode receivedEffect sessionTotalFields
+unfolding received_code session_total_code received_effect session_total_fields
 returns-2 c =
     let t = c.before.before.before in
     let a = t.before.before.args in
     let body = a.body.now in
     let x = c.before.code.given.0.0 in
-    let wrong = wrong-read x (bodyCode sessionTotal body) _ _ (ap totalSaid (sym c.before.code.given.1) ∙ t.read-session-total.ensures) in
-    record { code = wrong-ends (bodyCode sessionTotal body) (codeNumber x) _ wrong; effect = stands-if (codeNumber x) (Effect.SessionTotal) _ (λ (e : codeNumber x ≡ 0). absurd (wrong.1 e)) refl }
+    let wrong = wrong_read x (body_code session_total body) _ _ (ap total_said (sym c.before.code.given.1) ∙ t.read-session-total.ensures) in
+    record { code = wrong_ends (body_code session_total body) (code_number x) _ wrong; effect = stands_if (code_number x) (Effect.SessionTotal) _ (λ (e : code_number x ≡ 0). absurd (wrong.1 e)) refl }
 
 pub of-session-total-spec : {M : Type 1} → statement M
 of-session-total-spec =

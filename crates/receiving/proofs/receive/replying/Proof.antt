@@ -2,7 +2,7 @@
 use mathlib.Core.Path.{refl, ap, ◌∙◌}
 use lib.Seq.{sets}
 use Rattle.message.specs.declared.route.Route.{Route}
-use Rattle.message.specs.Line.{wholeReply}
+use Rattle.message.specs.Line.{whole_reply}
 use borrow.Author.Rules.{rules}
 use Rattle.receiving.proofs.receive.replying.Statement.{statement}
 use Rattle.receiving.proofs.receive.replying.Tie as tie
@@ -21,7 +21,7 @@ returns c =
     let t = c.before.before.before.before in
     let a = t.before.before.before.before.before.before.before.args in
     let after = a.after.receiving in
-    (refl, c.before.before.write-reply.ensures ∙ ap (λ (x : Route). sets a.line.now 0 (wholeReply (record { route = x; serial = after.serial }) after.reply)) t.receiving-route.ensures)
+    (refl, c.before.before.write-reply.ensures ∙ ap (λ (x : Route). sets a.line.now 0 (whole_reply (record { route = x; serial = after.serial }) after.reply)) t.receiving-route.ensures)
 
 pub replying-spec : {M : Type 1} → statement M
 replying-spec =

@@ -2,8 +2,8 @@
 use mathlib.Core.Path.{refl, ap, ◌∙◌}
 use lib.ListN.{length, length-set}
 use lib.Seq.{length-sets}
-use Rattle.text.specs.Hex.{hexText}
-use Rattle.script.proofs.Laws.Answer.{all-behind}
+use Rattle.text.specs.Hex.{hex_text}
+use Rattle.script.proofs.Laws.Answer.{all_behind}
 use borrow.Author.Rules.{rules}
 use Rattle.script.proofs.answer.write_words.Statement.{statement}
 use Rattle.script.proofs.answer.write_words.Tie as tie
@@ -31,12 +31,12 @@ same_length c =
     let a = c.before.before.before.before.before.before.before.before.before.before.before.args in
     let first = c.before.before.before.before.before.before.copy in
     simp length-set
-    (ap length c.before.before.write-hex.ensures ∙ length-sets first.new.0 (length a.words.now) (hexText a.shown.now) ∙ ap length first.ensures ∙ length-sets a.output.now 0 a.words.now)
+    (ap length c.before.before.write-hex.ensures ∙ length-sets first.new.0 (length a.words.now) (hex_text a.shown.now) ∙ ap length first.ensures ∙ length-sets a.output.now 0 a.words.now)
 
 returns : tie.Need-returns
 returns c =
     let a = c.before.before.before.before.before.before.before.before.before.before.before.args in
-    (refl, all-behind a.words.now a.shown.now a.output.now _ _ _ c.before.before.before.before.before.before.copy.ensures c.before.before.write-hex.ensures refl c.before.before.before.before.before.before.before.before.before.before.before.requires)
+    (refl, all_behind a.words.now a.shown.now a.output.now _ _ _ c.before.before.before.before.before.before.copy.ensures c.before.before.write-hex.ensures refl c.before.before.before.before.before.before.before.before.before.before.before.requires)
 
 pub write-words-spec : {M : Type 1} → statement M
 write-words-spec =

@@ -1,6 +1,6 @@
 -- `answer_at`: what is done at the seat, and the sizes of its answer.
 use mathlib.Core.Path.{◌∙◌}
-use Rattle.script.proofs.Laws.Play.{least-taken}
+use Rattle.script.proofs.Laws.Play.{least_taken}
 use borrow.Author.Rules.{rules}
 use native.Mathlib.Omega.{arith}
 use Rattle.script.proofs.play.answer_at.Statement.{statement}
@@ -28,7 +28,7 @@ returns : tie.Need-returns
 returns c =
     let done = c.before.before.before.before.before.before.before.before.before.act in
     let least = c.before.before.before.before.before.least.ensures in
-    (done.ensures.0, (done.ensures.1.0, (c.before.before.put-answer.ensures, omega (arith, least, done.auto.1.1.1.0), least-taken _ _ _ least.2 ∙ done.ensures.1.1)))
+    (done.ensures.0, (done.ensures.1.0, (c.before.before.put-answer.ensures, omega (arith, least, done.auto.1.1.1.0), least_taken _ _ _ least.2 ∙ done.ensures.1.1)))
 
 pub answer-at-spec : {M : Type 1} → statement M
 answer-at-spec =

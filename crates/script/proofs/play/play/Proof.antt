@@ -4,7 +4,7 @@ use Prim.Native.Nat.{◌-◌, ◌≤◌}
 use lib.ListN.{length, drop}
 use Rattle.script.specs.declared.play.Stop.{Stop}
 use Rattle.script.specs.Player.{ReadyPlayer}
-use Rattle.script.proofs.Laws.Play.{further, stops, not-all}
+use Rattle.script.proofs.Laws.Play.{further, stops, not_all}
 use borrow.Author.Rules.{rules}
 use native.Mathlib.Omega.{arith}
 use Rattle.script.proofs.play.play.Statement.{statement}
@@ -37,7 +37,7 @@ same-length-2 c = search rules
 returns : tie.Need-returns invariant-loop decreases-loop
 returns c =
     let inv = c.before.before.before.before.before.loop.invariant in
-    stops _ _ _ Stop.Unfinished c.before.before.before.before.before.before.before.before.before.before.args.text.now c.before.before.before.before.before.before.before.before.before.before.args.output.now c.before.before.before.before.before.loop.output c.stopped.result c.stopped.ensures inv.0 (not-all Stop.Unfinished _ _ refl) (omega (arith, inv.1, inv.2)) inv.4 inv.5
+    stops _ _ _ Stop.Unfinished c.before.before.before.before.before.before.before.before.before.before.args.text.now c.before.before.before.before.before.before.before.before.before.before.args.output.now c.before.before.before.before.before.loop.output c.stopped.result c.stopped.ensures inv.0 (not_all Stop.Unfinished _ _ refl) (omega (arith, inv.1, inv.2)) inv.4 inv.5
 
 sub-play-behind : tie.Need-overflow-sub-play-behind invariant-loop decreases-loop
 sub-play-behind c = search rules
@@ -70,7 +70,7 @@ returns-2 : tie.Need-returns-2 invariant-loop decreases-loop
 returns-2 c =
     let inv = c.before.before.before.before.before.before.before.before.before.before.before.before.before.before.before.before.before.before.loop.invariant in
     let said = c.before.before.before.before.before.before.before.before.before.play-behind.ensures in
-    stops _ _ _ Stop.Full c.before.before.before.before.before.before.before.before.before.before.before.before.before.before.before.before.before.before.before.before.before.before.before.args.text.now c.before.before.before.before.before.before.before.before.before.before.before.before.before.before.before.before.before.before.before.before.before.before.before.args.output.now _ c.stopped2.result c.stopped2.ensures inv.0 (not-all Stop.Full _ _ refl) (omega (arith, said.written, inv.2)) (said.kept ∙ further _ _ c.before.before.before.before.before.before.before.before.before.before.before.before.before.before.before.before.before.before.loop.count _ inv.4) said.ready
+    stops _ _ _ Stop.Full c.before.before.before.before.before.before.before.before.before.before.before.before.before.before.before.before.before.before.before.before.before.before.before.args.text.now c.before.before.before.before.before.before.before.before.before.before.before.before.before.before.before.before.before.before.before.before.before.before.before.args.output.now _ c.stopped2.result c.stopped2.ensures inv.0 (not_all Stop.Full _ _ refl) (omega (arith, said.written, inv.2)) (said.kept ∙ further _ _ c.before.before.before.before.before.before.before.before.before.before.before.before.before.before.before.before.before.before.loop.count _ inv.4) said.ready
 
 with-skipping-requires : tie.Need-with-skipping-requires invariant-loop decreases-loop
 with-skipping-requires c κs = search rules

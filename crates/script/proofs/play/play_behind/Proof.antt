@@ -3,8 +3,8 @@ use mathlib.Core.Path.{◌≡◌, ap, ◌∙◌}
 use Prim.Native.Nat.{◌-◌}
 use borrow.Rule.Slice.PartMut.{mid_of}
 use lib.ListN.{length, length-drop}
-use Rattle.packed.proofs.Laws.Part.{part-tail}
-use Rattle.script.proofs.Laws.Play.{behind-tail}
+use Rattle.packed.proofs.Laws.Part.{part_tail}
+use Rattle.script.proofs.Laws.Play.{behind_tail}
 use borrow.Author.Rules.{rules}
 use native.Mathlib.Omega.{arith}
 use Rattle.script.proofs.play.play_behind.Statement.{statement}
@@ -36,11 +36,11 @@ returns c =
     let s = c.before.before.before.before.before.before.before.before.before.before.before.before.before.before in
     let said = c.before.before.before.before.before.before.play-line.ensures.0 in
     let output = s.args.output.now in
-    let size : length (mid_of s.args.count (length output - s.args.count) output) ≡ length output - s.args.count = ap length (part-tail s.args.count output) ∙ length-drop s.args.count output in
+    let size : length (mid_of s.args.count (length output - s.args.count) output) ≡ length output - s.args.count = ap length (part_tail s.args.count output) ∙ length-drop s.args.count output in
     record {
       written = omega (arith, said.written, size, s.requires.1);
       fits = omega (arith, said.written, size, s.requires.1);
-      kept = behind-tail output _ s.args.count _ s.requires.1 said.kept;
+      kept = behind_tail output _ s.args.count _ s.requires.1 said.kept;
       ready = said.ready;
     }
 

@@ -4,7 +4,7 @@ use lib.ListN.{length, take}
 use lib.Seq.{length-take-le}
 use native.Mathlib.Omega.{arith}
 use Rattle.script.specs.Reading.{meant}
-use Rattle.script.proofs.Laws.Play.{told, remembers-told}
+use Rattle.script.proofs.Laws.Play.{told, remembers_told}
 use borrow.Author.Rules.{rules}
 use Rattle.script.proofs.play.play_line.Statement.{statement}
 use Rattle.script.proofs.play.play_line.Tie as tie
@@ -50,7 +50,7 @@ returns c =
     let said = c.before.before.before.before.before.play-reading.ensures in
     let a = c.before.before.before.before.before.before.before.before.before.before.before.before.before.before.before.before.before.before.before.before.before.args in
     let fill = c.before.before.before.before.before.before.before.before.before.before.filled.ensures.0 in
-    (told _ c.before.before.before.before.before.before.before.before.before.before.before.reading-of.result _ _ _ _ _ _ (c.before.before.before.before.before.before.before.before.before.before.before.reading-of.ensures.0 _ ∙ ap meant c.before.before.before.before.before.before.before.before.before.before.before.before.before.before.read-line.ensures.0) fill said.0, remembers-told a.player c.before.before.before.before.before.before.before.before.before.before.before.reading-of.result _ _ _ a.wire.now _ (length a.wire.now) c.before.before.before.before.before.play-reading.result (c.before.before.before.before.before.before.before.before.before.before.before.reading-of.ensures.0 _ ∙ ap meant c.before.before.before.before.before.before.before.before.before.before.before.before.before.before.read-line.ensures.0) fill said.1)
+    (told _ c.before.before.before.before.before.before.before.before.before.before.before.reading-of.result _ _ _ _ _ _ (c.before.before.before.before.before.before.before.before.before.before.before.reading-of.ensures.0 _ ∙ ap meant c.before.before.before.before.before.before.before.before.before.before.before.before.before.before.read-line.ensures.0) fill said.0, remembers_told a.player c.before.before.before.before.before.before.before.before.before.before.before.reading-of.result _ _ _ a.wire.now _ (length a.wire.now) c.before.before.before.before.before.play-reading.result (c.before.before.before.before.before.before.before.before.before.before.before.reading-of.ensures.0 _ ∙ ap meant c.before.before.before.before.before.before.before.before.before.before.before.before.before.before.read-line.ensures.0) fill said.1)
 
 pub play-line-spec : {M : Type 1} → statement M
 play-line-spec =

@@ -3,8 +3,8 @@ use mathlib.Core.Path.{refl, ap, sym, ◌∙◌}
 use mathlib.Core.Bool.{false≢true}
 use lib.Seq.{length-take-le}
 use Rattle.script.specs.Reading.{named_by}
-use Rattle.script.specs.Player.{Seated, endsOf, done, wrote, withSeat}
-use Rattle.script.proofs.Laws.Play.{held-as}
+use Rattle.script.specs.Player.{Seated, ends_of, done, wrote, with_seat}
+use Rattle.script.proofs.Laws.Play.{held_as}
 use borrow.Author.Rules.{rules}
 use native.Mathlib.Omega.{arith}
 use Rattle.script.proofs.play.play_reading.Statement.{statement}
@@ -77,19 +77,19 @@ returns-2 : tie.Need-returns-2
 returns-2 c =
     let s = c.before.before.before.before.before.before.before.before.before.before.before.before.before.before.before.before.before.before.before.before.before.before.before.before.before.before.before in
     let near = s.args.reading.near in
-    let ends = endsOf s.args.player in
+    let ends = ends_of s.args.player in
     let there = c.before.before.before.before.before.before.before.before.before.before.before.before.before.before.before.before.before.before.before.before.before.seat-at.ensures.0 in
     let after = c.before.before.before.before.before.before.before.before.before.before.before.before.before.before.before.before.before.answer_at.ensures.0 in
     let said = c.before.before.before.before.before.before.before.before.before.emit.ensures in
     let kept = c.with-seat.ensures in (
       record {
-        ends = kept.0 ∙ ap (λ (x : Seated). withSeat near x ends) (after ∙ ap (λ (x : Seated). done (named_by s.args.reading.asked s.args.reading s.args.bytes.now) s.args.line.now x) there);
+        ends = kept.0 ∙ ap (λ (x : Seated). with_seat near x ends) (after ∙ ap (λ (x : Seated). done (named_by s.args.reading.asked s.args.reading s.args.bytes.now) s.args.line.now x) there);
         full = λ e. absurd (false≢true e);
         written = said.0;
         kept = said.1.0;
         ready = kept.1.0;
       },
-      held-as s.args.player.memory _ _ _ _ _ _ _ (c.before.before.before.before.before.before.before.before.before.before.before.before.before.before.before.before.before.answer_at.ensures.1.1.2 ∙ ap (λ (x : Seated). wrote (named_by s.args.reading.asked s.args.reading s.args.bytes.now) s.args.line.now x) there) kept.1.1 c.before.before.before.after-writing.ensures,
+      held_as s.args.player.memory _ _ _ _ _ _ _ (c.before.before.before.before.before.before.before.before.before.before.before.before.before.before.before.before.before.answer_at.ensures.1.1.2 ∙ ap (λ (x : Seated). wrote (named_by s.args.reading.asked s.args.reading s.args.bytes.now) s.args.line.now x) there) kept.1.1 c.before.before.before.after-writing.ensures,
     )
 
 pub play-reading-spec : {M : Type 1} → statement M

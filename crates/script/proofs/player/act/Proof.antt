@@ -3,7 +3,7 @@ use mathlib.Core.Path.{ap, sym, subst, ◌∙◌}
 use Prim.Native.Nat.{ℕ}
 use lib.ListN.{take}
 use lib.Seq.{length-take-le}
-use Rattle.script.specs.Player.{seatOf, ReadySeat}
+use Rattle.script.specs.Player.{seat_of, ReadySeat}
 use Rattle.script.proofs.Laws.Player.{asks, writes}
 use borrow.Author.Rules.{rules}
 use Rattle.script.proofs.player.act.Statement.{statement}
@@ -36,13 +36,13 @@ call-at-requires c κs = search rules
 returns : tie.Need-returns
 returns c =
     let s = c.before.before.before.before.before.before in
-    (ap seatOf c.untouched.ensures.0 ∙ asks s.args.reading s.args.bytes.now s.args.line.now (seatOf s.args.seat) c.before.enum_told.given.1, (subst ReadySeat (sym c.untouched.ensures.0) s.requires.0, ap (λ (n : ℕ). take n s.args.line.now) c.untouched.ensures.1 ∙ writes s.args.reading s.args.bytes.now s.args.line.now (seatOf s.args.seat) c.before.enum_told.given.1))
+    (ap seat_of c.untouched.ensures.0 ∙ asks s.args.reading s.args.bytes.now s.args.line.now (seat_of s.args.seat) c.before.enum_told.given.1, (subst ReadySeat (sym c.untouched.ensures.0) s.requires.0, ap (λ (n : ℕ). take n s.args.line.now) c.untouched.ensures.1 ∙ writes s.args.reading s.args.bytes.now s.args.line.now (seat_of s.args.seat) c.before.enum_told.given.1))
 
 returns-2 : tie.Need-returns-2
 returns-2 c =
     let s = c.before.before.before.before.before.before.before.before in
     let said = c.start-at.ensures in
-    (said.0 ∙ asks s.args.reading s.args.bytes.now s.args.line.now (seatOf s.args.seat) c.before.before.before.asked.given.1, (said.1.0, ap (λ (n : ℕ). take n s.args.line.now) said.1.1 ∙ writes s.args.reading s.args.bytes.now s.args.line.now (seatOf s.args.seat) c.before.before.before.asked.given.1))
+    (said.0 ∙ asks s.args.reading s.args.bytes.now s.args.line.now (seat_of s.args.seat) c.before.before.before.asked.given.1, (said.1.0, ap (λ (n : ℕ). take n s.args.line.now) said.1.1 ∙ writes s.args.reading s.args.bytes.now s.args.line.now (seat_of s.args.seat) c.before.before.before.asked.given.1))
 
 same_length : tie.Need-same-length
 same_length c = search rules
@@ -51,7 +51,7 @@ returns-3 : tie.Need-returns-3
 returns-3 c =
     let s = c.before.before.before.before.before.before.before.before.before.before in
     let said = c.before.before.call_at.ensures in
-    (said.0 ∙ asks s.args.reading s.args.bytes.now s.args.line.now (seatOf s.args.seat) c.before.before.before.before.before.asked2.given.1, (said.1.0, said.1.1 ∙ writes s.args.reading s.args.bytes.now s.args.line.now (seatOf s.args.seat) c.before.before.before.before.before.asked2.given.1))
+    (said.0 ∙ asks s.args.reading s.args.bytes.now s.args.line.now (seat_of s.args.seat) c.before.before.before.before.before.asked2.given.1, (said.1.0, said.1.1 ∙ writes s.args.reading s.args.bytes.now s.args.line.now (seat_of s.args.seat) c.before.before.before.before.before.asked2.given.1))
 
 pub act-spec : {M : Type 1} → statement M
 act-spec =

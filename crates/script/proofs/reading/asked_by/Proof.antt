@@ -3,7 +3,7 @@ use mathlib.Core.Path.{ap, sym, ◌∙◌}
 use Rattle.text.specs.declared.kind.Kind.{Kind}
 use Rattle.centre.specs.declared.call.Order.{Order}
 use Rattle.script.specs.declared.reading.Asked.{Asked}
-use Rattle.script.specs.Reading.{askedBy}
+use Rattle.script.specs.Reading.{asked_by}
 use borrow.Author.Rules.{rules}
 use Rattle.script.proofs.reading.asked_by.Statement.{statement}
 use Rattle.script.proofs.reading.asked_by.Tie as tie
@@ -84,48 +84,48 @@ enum-told-11 : tie.Need-enum-told-11
 enum-told-11 c = search rules
 
 returns : tie.Need-returns
-unfolding askedBy
-returns c = (λ t. Asked.Start (c.before.before.before.before.to-u32.ensures t) (c.before.to-u16.ensures t) (c.to-u162.ensures t)) ∙ ap (λ (kind : Kind). askedBy kind c.before.before.before.before.before.args.t2) (sym c.before.before.enum_told.given.1)
+unfolding asked_by
+returns c = (λ t. Asked.Start (c.before.before.before.before.to-u32.ensures t) (c.before.to-u16.ensures t) (c.to-u162.ensures t)) ∙ ap (λ (kind : Kind). asked_by kind c.before.before.before.before.before.args.t2) (sym c.before.before.enum_told.given.1)
 
 returns-2 : tie.Need-returns-2
-unfolding askedBy
-returns-2 c = (λ t. Asked.Call (Order.Header (c.before.before.before.before.before.to-u32.ensures t) (c.before.before.to-u322.ensures t) (c.before.to-u163.ensures t) (c.to-u164.ensures t))) ∙ ap (λ (kind : Kind). askedBy kind c.before.before.before.before.before.before.args.t2) (sym c.before.before.before.enum-told2.given.1)
+unfolding asked_by
+returns-2 c = (λ t. Asked.Call (Order.Header (c.before.before.before.before.before.to-u32.ensures t) (c.before.before.to-u322.ensures t) (c.before.to-u163.ensures t) (c.to-u164.ensures t))) ∙ ap (λ (kind : Kind). asked_by kind c.before.before.before.before.before.before.args.t2) (sym c.before.before.before.enum-told2.given.1)
 
 returns-3 : tie.Need-returns-3
-unfolding askedBy
-returns-3 c = (λ t. Asked.Call (Order.Detail (c.before.before.before.to-u32.ensures t) (c.to-u8.ensures t))) ∙ ap (λ (kind : Kind). askedBy kind c.before.before.before.before.args.t2) (sym c.before.enum-told3.given.1)
+unfolding asked_by
+returns-3 c = (λ t. Asked.Call (Order.Detail (c.before.before.before.to-u32.ensures t) (c.to-u8.ensures t))) ∙ ap (λ (kind : Kind). asked_by kind c.before.before.before.before.args.t2) (sym c.before.enum-told3.given.1)
 
 returns-4 : tie.Need-returns-4
-unfolding askedBy
-returns-4 c = (λ t. Asked.Call (Order.LotTotal (c.before.before.to-u32.ensures t))) ∙ ap (λ (kind : Kind). askedBy kind c.before.before.before.args.t2) (sym c.enum-told4.given.1)
+unfolding asked_by
+returns-4 c = (λ t. Asked.Call (Order.LotTotal (c.before.before.to-u32.ensures t))) ∙ ap (λ (kind : Kind). asked_by kind c.before.before.before.args.t2) (sym c.enum-told4.given.1)
 
 returns-5 : tie.Need-returns-5
-unfolding askedBy
-returns-5 c = (λ t. Asked.Call (Order.SessionTotal (c.before.before.to-u32.ensures t))) ∙ ap (λ (kind : Kind). askedBy kind c.before.before.before.args.t2) (sym c.enum-told5.given.1)
+unfolding asked_by
+returns-5 c = (λ t. Asked.Call (Order.SessionTotal (c.before.before.to-u32.ensures t))) ∙ ap (λ (kind : Kind). asked_by kind c.before.before.before.args.t2) (sym c.enum-told5.given.1)
 
 returns-6 : tie.Need-returns-6
-unfolding askedBy
-returns-6 c = (λ t. Asked.Call (Order.Receive (c.before.before.to-u32.ensures t))) ∙ ap (λ (kind : Kind). askedBy kind c.before.before.before.args.t2) (sym c.enum-told6.given.1)
+unfolding asked_by
+returns-6 c = (λ t. Asked.Call (Order.Receive (c.before.before.to-u32.ensures t))) ∙ ap (λ (kind : Kind). asked_by kind c.before.before.before.args.t2) (sym c.enum-told6.given.1)
 
 returns-7 : tie.Need-returns-7
-unfolding askedBy
-returns-7 c = (λ t. Asked.Call (Order.Reply (c.before.before.to-u32.ensures t))) ∙ ap (λ (kind : Kind). askedBy kind c.before.before.before.args.t2) (sym c.enum-told7.given.1)
+unfolding asked_by
+returns-7 c = (λ t. Asked.Call (Order.Reply (c.before.before.to-u32.ensures t))) ∙ ap (λ (kind : Kind). asked_by kind c.before.before.before.args.t2) (sym c.enum-told7.given.1)
 
 returns-8 : tie.Need-returns-8
-unfolding askedBy
-returns-8 c = (λ t. Asked.Call (Order.Clock (c.before.before.to-u32.ensures t))) ∙ ap (λ (kind : Kind). askedBy kind c.before.before.before.args.t2) (sym c.enum-told8.given.1)
+unfolding asked_by
+returns-8 c = (λ t. Asked.Call (Order.Clock (c.before.before.to-u32.ensures t))) ∙ ap (λ (kind : Kind). asked_by kind c.before.before.before.args.t2) (sym c.enum-told8.given.1)
 
 returns-9 : tie.Need-returns-9
-unfolding askedBy
-returns-9 c = ap (λ (kind : Kind). askedBy kind c.before.before.before.args.t2) (sym c.enum-told9.given.1)
+unfolding asked_by
+returns-9 c = ap (λ (kind : Kind). asked_by kind c.before.before.before.args.t2) (sym c.enum-told9.given.1)
 
 returns-10 : tie.Need-returns-10
-unfolding askedBy
-returns-10 c = ap (λ (kind : Kind). askedBy kind c.before.before.before.args.t2) (sym c.enum-told10.given.1)
+unfolding asked_by
+returns-10 c = ap (λ (kind : Kind). asked_by kind c.before.before.before.args.t2) (sym c.enum-told10.given.1)
 
 returns-11 : tie.Need-returns-11
-unfolding askedBy
-returns-11 c = ap (λ (kind : Kind). askedBy kind c.before.before.before.args.t2) (sym c.enum-told11.given.1)
+unfolding asked_by
+returns-11 c = ap (λ (kind : Kind). asked_by kind c.before.before.before.args.t2) (sym c.enum-told11.given.1)
 
 pub asked-by-spec : {M : Type 1} → statement M
 asked-by-spec =

@@ -7,7 +7,7 @@ use mathlib.Core.List.{map}
 use lib.Seq.{sets}
 use native.Mathlib.Omega.{arith}
 use Rattle.script.specs.Reading.{u16}
-use Rattle.script.proofs.Laws.Reading.{entities-on, entities-all}
+use Rattle.script.proofs.Laws.Reading.{entities_on, entities_all}
 use borrow.Author.Rules.{rules}
 use Rattle.script.proofs.reading.entities_of.Statement.{statement}
 use Rattle.script.proofs.reading.entities_of.Tie as tie
@@ -49,13 +49,13 @@ loop-again : tie.Need-loop-preserved invariant-loop decreases-loop
 loop-again c =
     let t = c.before.before in
     let s = t.before in
-    (omega arith, t.loop.invariant.1 ∙ sym (length-set t.loop.all t.loop.i _), entities-on t.loop.all s.args.t1 t.loop.i _ (omega (arith, s.requires)) c.to-u16.ensures ∙ t.loop.invariant.2)
+    (omega arith, t.loop.invariant.1 ∙ sym (length-set t.loop.all t.loop.i _), entities_on t.loop.all s.args.t1 t.loop.i _ (omega (arith, s.requires)) c.to-u16.ensures ∙ t.loop.invariant.2)
 
 returns : tie.Need-returns invariant-loop decreases-loop
 returns c =
     let t = c.before in
     let s = t.before in
-    entities-all _ t.loop.all s.args.t1 t.loop.i refl s.requires (omega arith) t.loop.invariant.2
+    entities_all _ t.loop.all s.args.t1 t.loop.i refl s.requires (omega arith) t.loop.invariant.2
 
 pub entities-of-spec : {M : Type 1} → statement M
 entities-of-spec =

@@ -3,7 +3,7 @@ use mathlib.Core.Path.{refl, ap, ◌∙◌}
 use lib.ListN.{length, drop, length-map, length-drop}
 use native.Mathlib.Omega.{arith}
 use Rattle.script.specs.Reading.{u16}
-use Rattle.script.proofs.Laws.Reading.{reading-means}
+use Rattle.script.proofs.Laws.Reading.{reading_means}
 use borrow.Author.Rules.{rules}
 use Rattle.script.proofs.reading.reading_of.Statement.{statement}
 use Rattle.script.proofs.reading.reading_of.Tie as tie
@@ -23,7 +23,7 @@ returns c =
     let line = s.args.line in
     let entities = c.before.entities-of.ensures in
     let size = ap length entities ∙ length-map (drop 3 line.numbers) u16 ∙ length-drop 3 line.numbers in
-    (reading-means line _ _ _ c.before.before.asked_by.ensures entities c.behind-three.ensures s.requires.1.0, (omega (arith, size, c.behind-three.ensures, s.requires), (refl, refl)))
+    (reading_means line _ _ _ c.before.before.asked_by.ensures entities c.behind-three.ensures s.requires.1.0, (omega (arith, size, c.behind-three.ensures, s.requires), (refl, refl)))
 
 pub reading-of-spec : {M : Type 1} → statement M
 reading-of-spec =

@@ -8,12 +8,12 @@ use borrow.Author.Rules.{rules}
 use lib.ListN.{length, drop, length-set, drop_of_length-le}
 use lib.Seq.{sets, drop-cons}
 use Rattle.session.specs.Parties.{padded}
-use Rattle.document.specs.Limits.{mostRepresented}
+use Rattle.document.specs.Limits.{most_represented}
 use Rattle.session.proofs.parties.padded.Statement.{statement}
 use Rattle.session.proofs.parties.padded.Tie as tie
 
 abbrev invariant-loop : tie.invariant-loop
-invariant-loop represented places₀ i₀ places i = (i ≤ length represented) × (length places ≡ mostRepresented) × (sets places i (drop i represented) ≡ padded represented)
+invariant-loop represented places₀ i₀ places i = (i ≤ length represented) × (length places ≡ most_represented) × (sets places i (drop i represented) ≡ padded represented)
 
 abbrev decreases-loop : tie.decreases-loop
 decreases-loop represented places₀ i₀ places i = length represented - i

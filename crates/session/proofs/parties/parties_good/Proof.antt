@@ -1,5 +1,5 @@
 -- `parties_good` makes the tests of the definition, in its order.
-use Rattle.session.specs.Parties.{partiesGood}
+use Rattle.session.specs.Parties.{parties_good}
 use borrow.Author.Rules.{rules}
 use Rattle.session.proofs.parties.parties_good.Statement.{statement}
 use Rattle.session.proofs.parties.parties_good.Tie as tie
@@ -11,7 +11,7 @@ entities-good-requires : tie.Need-entities-good-requires
 entities-good-requires c κs = search rules
 
 returns : tie.Need-returns
-unfolding partiesGood
+unfolding parties_good
 returns c = cc
 
 pub parties-good-spec : {M : Type 1} → statement M

@@ -2,8 +2,8 @@
 use mathlib.Core.Path.{ap, ◌∙◌}
 use native.Mathlib.Omega.{arith}
 use borrow.Author.Rules.{rules}
-use Rattle.tariff.specs.Commission.{raisedTo, cut_to, byRow}
-use Rattle.tariff.proofs.Laws.Commission.{product-most}
+use Rattle.tariff.specs.Commission.{raised_to, cut_to, by_row}
+use Rattle.tariff.proofs.Laws.Commission.{product_most}
 use Rattle.tariff.proofs.due.by_row.Statement.{statement}
 use Rattle.tariff.proofs.due.by_row.Tie as tie
 
@@ -13,7 +13,7 @@ cast-product c = search rules
 mul-product : tie.Need-overflow-mul-product
 mul-product c =
     let s = c.before in
-    record { fits = omega (arith, product-most s.args.nominal s.args.row.rate s.requires.1 s.requires.0) }
+    record { fits = omega (arith, product_most s.args.nominal s.args.row.rate s.requires.1 s.requires.0) }
 
 cast-cut-to : tie.Need-overflow-cast-cut-to
 cast-cut-to c = search rules
@@ -24,7 +24,7 @@ cast-raised-to c = search rules
 rounded-requires : tie.Need-rounded-requires
 rounded-requires c κs =
     let s = c.before.before.before in
-    product-most s.args.nominal s.args.row.rate s.requires.1 s.requires.0
+    product_most s.args.nominal s.args.row.rate s.requires.1 s.requires.0
 
 raised-to-requires : tie.Need-raised-to-requires
 raised-to-requires c κs = search rules
@@ -33,11 +33,11 @@ cut-to-requires : tie.Need-cut-to-requires
 cut-to-requires c κs = search rules
 
 returns : tie.Need-returns
-unfolding byRow
+unfolding by_row
 returns c =
     let row = c.before.before.before.before.before.before.args.row in
     c.cut-to.ensures
-    ∙ ap (cut_to row.greatest) (c.before.raised-to.ensures ∙ ap (raisedTo row.least) c.before.before.rounded.ensures)
+    ∙ ap (cut_to row.greatest) (c.before.raised-to.ensures ∙ ap (raised_to row.least) c.before.before.rounded.ensures)
 
 pub by-row-spec : {M : Type 1} → statement M
 by-row-spec =

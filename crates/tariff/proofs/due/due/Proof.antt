@@ -3,9 +3,9 @@ use mathlib.Core.Path.{ap, sym, subst, ◌∙◌}
 use Prim.Native.Nat.{◌≤◌}
 use borrow.Author.Rules.{rules}
 use Rattle.tariff.specs.declared.search.Rule.{Rule}
-use Rattle.tariff.specs.Tariff.{largestRate}
+use Rattle.tariff.specs.Tariff.{largest_rate}
 use Rattle.tariff.specs.Commission.{due}
-use Rattle.tariff.specs.Inner.Bounds.{rateOf}
+use Rattle.tariff.specs.Inner.Bounds.{rate_of}
 use Rattle.tariff.proofs.due.due.Statement.{statement}
 use Rattle.tariff.proofs.due.due.Tie as tie
 
@@ -18,7 +18,7 @@ enum-known-rule c = search rules
 by-row-requires : tie.Need-by-row-requires
 by-row-requires c κs =
     let s = c.before.before.before in
-    (subst (λ (rule : Rule). rateOf rule ≤ largestRate) c.before.rule.given.1 s.requires.0, s.requires.1)
+    (subst (λ (rule : Rule). rate_of rule ≤ largest_rate) c.before.rule.given.1 s.requires.0, s.requires.1)
 
 enum-told-2 : tie.Need-enum-told-2
 enum-told-2 c = search rules

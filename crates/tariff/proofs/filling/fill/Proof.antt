@@ -5,12 +5,12 @@ use Prim.Native.Nat.{◌-◌, ◌%◌, ◌≤◌}
 use native.Mathlib.Omega.{arith}
 use borrow.Author.Rules.{rules}
 use lib.ListN.{length}
-use Rattle.packed.proofs.Laws.Part.{part_length, part-all}
-use Rattle.document.specs.Limits.{documentBytes}
-use Rattle.document.specs.Part.{documentsOf}
+use Rattle.packed.proofs.Laws.Part.{part_length, part_all}
+use Rattle.document.specs.Limits.{document_bytes}
+use Rattle.document.specs.Part.{documents_of}
 use Rattle.tariff.specs.Tariff.{rows_of}
-use Rattle.tariff.specs.Tray.{filledDocument}
-use Rattle.tariff.proofs.Laws.Filled.{filledFrom, from_start, to_end, same-tray-length, one-filled}
+use Rattle.tariff.specs.Tray.{filled_document}
+use Rattle.tariff.proofs.Laws.Filled.{filled_from, from_start, to_end, same_tray_length, one_filled}
 use Rattle.tariff.proofs.filling.fill.Statement.{statement}
 use Rattle.tariff.proofs.filling.fill.Tie as tie
 
@@ -18,8 +18,8 @@ abbrev invariant-loop : tie.invariant-loop
 invariant-loop tariff tray₀ at₀ tray at =
     (length tray ≡ length tray₀)
     × (at ≤ length tray)
-    × ((length tray - at) % documentBytes ≡ 0)
-    × (filledFrom (rows_of tariff) at tray ≡ flat_map (filledDocument (rows_of tariff)) (documentsOf tray₀))
+    × ((length tray - at) % document_bytes ≡ 0)
+    × (filled_from (rows_of tariff) at tray ≡ flat_map (filled_document (rows_of tariff)) (documents_of tray₀))
 
 abbrev decreases-loop : tie.decreases-loop
 decreases-loop tariff tray₀ at₀ tray at = length tray₀ - at
@@ -46,7 +46,7 @@ fill-document-requires c κs =
     let t = c.before.before in
     let s = t.before.before.before in
     let tray = t.loop.tray in
-    (s.requires.0, ap length (part-all t.loop.at documentBytes tray) ∙ part_length t.loop.at documentBytes tray (omega arith))
+    (s.requires.0, ap length (part_all t.loop.at document_bytes tray) ∙ part_length t.loop.at document_bytes tray (omega arith))
 
 loop-less : tie.Need-loop-smaller invariant-loop decreases-loop
 loop-less c = omega arith
@@ -60,11 +60,11 @@ loop-again c =
     let at = t.loop.at in
     let tray = t.loop.tray in
     let d = f.fill-document.new.1.0 in
-    let length-kept = same-tray-length rows at tray d f.fill-document.ensures in (
+    let length-kept = same_tray_length rows at tray d f.fill-document.ensures in (
       length-kept ∙ t.loop.invariant.0,
       omega (arith, length-kept),
       omega (arith, length-kept),
-      one-filled rows at tray d f.fill-document.ensures (omega arith) ∙ t.loop.invariant.3,
+      one_filled rows at tray d f.fill-document.ensures (omega arith) ∙ t.loop.invariant.3,
     )
 
 same_length : tie.Need-same-length invariant-loop decreases-loop

@@ -6,28 +6,28 @@ use Prim.Native.Nat.{◌+◌, ◌-◌, ◌%◌, ◌≤◌}
 use native.Mathlib.Omega.{arith}
 use borrow.Author.Rules.{rules}
 use lib.ListN.{length, drop}
-use Rattle.packed.proofs.Laws.Part.{part_length, part-all}
+use Rattle.packed.proofs.Laws.Part.{part_length, part_all}
 use Rattle.tariff.specs.declared.row.Row.{Row}
-use Rattle.tariff.specs.Tariff.{rowNumbers, rowIn, rows_of, rowGood, goodTariff}
-use Rattle.tariff.specs.Commission.{searched, isKnown}
-use Rattle.tariff.proofs.Laws.Rows.{allGood, good_start, good-step, good-end, cut-row, many-keys}
+use Rattle.tariff.specs.Tariff.{row_numbers, row_in, rows_of, row_good, good_tariff}
+use Rattle.tariff.specs.Commission.{searched, is_known}
+use Rattle.tariff.proofs.Laws.Rows.{all_good, good_start, good_step, good_end, cut_row, many_keys}
 use Rattle.tariff.proofs.good.good_tariff.Statement.{statement}
 use Rattle.tariff.proofs.good.good_tariff.Tie as tie
 
 abbrev invariant-loop : tie.invariant-loop
 invariant-loop tariff good₀ at₀ good at =
     (at ≤ length tariff)
-    × ((length tariff - at) % rowNumbers ≡ 0)
-    × (good && allGood (rows_of (drop at tariff)) ≡ goodTariff tariff)
+    × ((length tariff - at) % row_numbers ≡ 0)
+    × (good && all_good (rows_of (drop at tariff)) ≡ good_tariff tariff)
 
 abbrev decreases-loop : tie.decreases-loop
 decreases-loop tariff good₀ at₀ good at = length tariff - at
 
 returns : tie.Need-returns invariant-loop decreases-loop
-returns c = sym (cut-row c.before.before.args.tariff.now c.if1.true)
+returns c = sym (cut_row c.before.before.args.tariff.now c.if1.true)
 
 returns-2 : tie.Need-returns-2 invariant-loop decreases-loop
-returns-2 c = sym (many-keys c.before.before.before.args.tariff.now c.if2.true)
+returns-2 c = sym (many_keys c.before.before.before.args.tariff.now c.if2.true)
 
 loop-holds : tie.Need-loop-init invariant-loop decreases-loop
 loop-holds c = let u = c.before.before.before.args.tariff.now in (omega arith, omega arith, good_start u (omega arith) (omega arith))
@@ -51,7 +51,7 @@ row-in-requires : tie.Need-row-in-requires invariant-loop decreases-loop
 row-in-requires c κs =
     let t = c.before.before in
     let ns = t.before.before.before.before.args.tariff.now in
-    ap length (part-all t.loop.at rowNumbers ns) ∙ part_length t.loop.at rowNumbers ns (omega arith)
+    ap length (part_all t.loop.at row_numbers ns) ∙ part_length t.loop.at row_numbers ns (omega arith)
 
 search-requires : tie.Need-search-requires invariant-loop decreases-loop
 search-requires c κs = (omega arith, omega arith)
@@ -72,19 +72,19 @@ loop-again c =
     let t = r.before.before.before in
     let ns = t.before.before.before.before.args.tariff.now in
     let at = t.loop.at in
-    let row = r.row_in.ensures ∙ ap rowIn (part-all at rowNumbers ns) in
-    let rest = rows_of (drop (at + rowNumbers) ns) in
-    let twice = c.before.is_Known.ensures ∙ ap isKnown f.search.ensures ∙ ap (λ (x : Row). isKnown (searched rest x.key)) row in
-    let good = c.row-good.ensures ∙ ap rowGood row in (
+    let row = r.row_in.ensures ∙ ap row_in (part_all at row_numbers ns) in
+    let rest = rows_of (drop (at + row_numbers) ns) in
+    let twice = c.before.is_Known.ensures ∙ ap is_known f.search.ensures ∙ ap (λ (x : Row). is_known (searched rest x.key)) row in
+    let good = c.row-good.ensures ∙ ap row_good row in (
       omega arith,
       omega arith,
-      (λ i. t.loop.good && not (twice i) && good i && allGood rest) ∙ good-step t.loop.good at ns (omega arith) ∙ t.loop.invariant.2,
+      (λ i. t.loop.good && not (twice i) && good i && all_good rest) ∙ good_step t.loop.good at ns (omega arith) ∙ t.loop.invariant.2,
     )
 
 returns-3 : tie.Need-returns-3 invariant-loop decreases-loop
 returns-3 c =
     let t = c.before in
-    sym (good-end t.loop.good t.loop.at t.before.before.before.before.args.tariff.now (omega arith)) ∙ t.loop.invariant.2
+    sym (good_end t.loop.good t.loop.at t.before.before.before.before.args.tariff.now (omega arith)) ∙ t.loop.invariant.2
 
 pub good-tariff-spec : {M : Type 1} → statement M
 good-tariff-spec =

@@ -2,7 +2,7 @@
 use mathlib.Core.Path.{ap, sym}
 use borrow.Author.Rules.{rules}
 use Rattle.tariff.specs.declared.judging.Earned.{Earned}
-use Rattle.tariff.specs.Inner.Judged.{earnedAt}
+use Rattle.tariff.specs.Inner.Judged.{earned_at}
 use Rattle.tariff.proofs.judging.answer_at.Statement.{statement}
 use Rattle.tariff.proofs.judging.answer_at.Tie as tie
 
@@ -19,16 +19,16 @@ enum-told-4 : tie.Need-enum-told-4
 enum-told-4 c = search rules
 
 returns : tie.Need-returns
-returns c = let a = c.before.before.args in ap (λ (e : Earned). earnedAt e a.place) (sym c.enum_told.given.1)
+returns c = let a = c.before.before.args in ap (λ (e : Earned). earned_at e a.place) (sym c.enum_told.given.1)
 
 returns-2 : tie.Need-returns-2
-returns-2 c = let a = c.before.before.args in ap (λ (e : Earned). earnedAt e a.place) (sym c.enum-told2.given.1)
+returns-2 c = let a = c.before.before.args in ap (λ (e : Earned). earned_at e a.place) (sym c.enum-told2.given.1)
 
 returns-3 : tie.Need-returns-3
-returns-3 c = let a = c.before.before.args in ap (λ (e : Earned). earnedAt e a.place) (sym c.enum-told3.given.1)
+returns-3 c = let a = c.before.before.args in ap (λ (e : Earned). earned_at e a.place) (sym c.enum-told3.given.1)
 
 returns-4 : tie.Need-returns-4
-returns-4 c = let a = c.before.before.args in ap (λ (e : Earned). earnedAt e a.place) (sym c.enum-told4.given.1)
+returns-4 c = let a = c.before.before.args in ap (λ (e : Earned). earned_at e a.place) (sym c.enum-told4.given.1)
 
 pub answer-at-spec : {M : Type 1} → statement M
 answer-at-spec =

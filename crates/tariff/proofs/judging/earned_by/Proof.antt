@@ -3,9 +3,9 @@ use mathlib.Core.Path.{ap, sym, ◌∙◌}
 use mathlib.Core.Bool.{◌&&◌}
 use borrow.Author.Rules.{rules}
 use Rattle.tariff.specs.Tariff.{rows_of}
-use Rattle.tariff.specs.Commission.{keyKnown}
-use Rattle.tariff.specs.Tray.{tariffKey}
-use Rattle.tariff.proofs.Laws.Judged.{wrong-key, wrong-amount, unknown-key, nothing}
+use Rattle.tariff.specs.Commission.{key_known}
+use Rattle.tariff.specs.Tray.{tariff_key}
+use Rattle.tariff.proofs.Laws.Judged.{wrong_key, wrong_amount, unknown_key, nothing}
 use Rattle.tariff.proofs.judging.earned_by.Statement.{statement}
 use Rattle.tariff.proofs.judging.earned_by.Tie as tie
 
@@ -28,7 +28,7 @@ key-known-requires : tie.Need-key-known-requires
 key-known-requires c κs = search rules
 
 returns : tie.Need-returns
-unfolding tariffKey
+unfolding tariff_key
 returns c =
     let k = c.before.before in
     let m = k.before.before in
@@ -38,34 +38,34 @@ returns c =
     nothing rows a.d.now
     (sym f.before.are-digits.ensures ∙ f.if1.true)
     (sym (λ i. m.before.are-digits2.ensures i && m.are-digits3.ensures i) ∙ k.before.if2.true)
-    (sym (c.before.key-known.ensures ∙ ap (keyKnown rows) k.number2.ensures) ∙ c.if3.true)
+    (sym (c.before.key-known.ensures ∙ ap (key_known rows) k.number2.ensures) ∙ c.if3.true)
 
 returns-2 : tie.Need-returns-2
-unfolding tariffKey
+unfolding tariff_key
 returns-2 c =
     let k = c.before.before in
     let m = k.before.before in
     let f = m.before.before in
     let a = f.before.before.before.before.args in
     let rows = rows_of a.tariff.now in
-    unknown-key rows a.d.now
+    unknown_key rows a.d.now
     (sym f.before.are-digits.ensures ∙ f.if1.true)
     (sym (λ i. m.before.are-digits2.ensures i && m.are-digits3.ensures i) ∙ k.before.if2.true)
-    (sym (c.before.key-known.ensures ∙ ap (keyKnown rows) k.number2.ensures) ∙ c.if3.false)
+    (sym (c.before.key-known.ensures ∙ ap (key_known rows) k.number2.ensures) ∙ c.if3.false)
 
 returns-3 : tie.Need-returns-3
 returns-3 c =
     let m = c.before in
     let f = m.before.before in
     let a = f.before.before.before.before.args in
-    wrong-amount (rows_of a.tariff.now) a.d.now
+    wrong_amount (rows_of a.tariff.now) a.d.now
     (sym f.before.are-digits.ensures ∙ f.if1.true)
     (sym (λ i. m.before.are-digits2.ensures i && m.are-digits3.ensures i) ∙ c.if2.false)
 
 returns-4 : tie.Need-returns-4
 returns-4 c =
     let a = c.before.before.before.before.args in
-    wrong-key (rows_of a.tariff.now) a.d.now (sym c.before.are-digits.ensures ∙ c.if1.false)
+    wrong_key (rows_of a.tariff.now) a.d.now (sym c.before.are-digits.ensures ∙ c.if1.false)
 
 pub earned-by-spec : {M : Type 1} → statement M
 earned-by-spec =

@@ -5,11 +5,11 @@ use Prim.Native.Nat.{◌-◌, ◌%◌, ◌≤◌}
 use native.Mathlib.Omega.{arith}
 use borrow.Author.Rules.{rules}
 use lib.ListN.{length, drop}
-use Rattle.packed.proofs.Laws.Part.{part_length, part-all}
-use Rattle.document.specs.Limits.{documentBytes}
-use Rattle.document.specs.Part.{documentsOf}
+use Rattle.packed.proofs.Laws.Part.{part_length, part_all}
+use Rattle.document.specs.Limits.{document_bytes}
+use Rattle.document.specs.Part.{documents_of}
 use Rattle.tariff.specs.Tariff.{rows_of}
-use Rattle.tariff.specs.Inner.Judged.{earnedNumber}
+use Rattle.tariff.specs.Inner.Judged.{earned_number}
 use Rattle.tariff.proofs.Laws.Judged.{Passed, none_passed, stops_at, passes_at, done_at}
 use Rattle.tariff.proofs.judging.judge.Statement.{statement}
 use Rattle.tariff.proofs.judging.judge.Tie as tie
@@ -17,9 +17,9 @@ use Rattle.tariff.proofs.judging.judge.Tie as tie
 abbrev invariant-loop : tie.invariant-loop
 invariant-loop tariff tray place₀ at₀ place at =
     (at ≤ length tray)
-    × ((length tray - at) % documentBytes ≡ 0)
+    × ((length tray - at) % document_bytes ≡ 0)
     × (place ≤ at)
-    × Passed (rows_of tariff) (documentsOf tray) (documentsOf (drop at tray)) place
+    × Passed (rows_of tariff) (documents_of tray) (documents_of (drop at tray)) place
 
 abbrev decreases-loop : tie.decreases-loop
 decreases-loop tariff tray place₀ at₀ place at = length tray - at
@@ -27,7 +27,7 @@ decreases-loop tariff tray place₀ at₀ place at = length tray - at
 loop-holds : tie.Need-loop-init invariant-loop decreases-loop
 loop-holds c =
     let s = c.before.before in
-    (omega arith, omega (arith, s.requires.1), omega arith, none_passed (rows_of s.args.tariff.now) (documentsOf s.args.tray.now))
+    (omega arith, omega (arith, s.requires.1), omega arith, none_passed (rows_of s.args.tariff.now) (documents_of s.args.tray.now))
 
 add-end : tie.Need-overflow-add-end invariant-loop decreases-loop
 add-end c = search rules
@@ -46,7 +46,7 @@ earned-by-requires c κs =
     let t = c.before.before in
     let s = t.before.before.before in
     let tray = s.args.tray.now in
-    (s.requires.0, ap length (part-all t.loop.at documentBytes tray) ∙ part_length t.loop.at documentBytes tray (omega arith))
+    (s.requires.0, ap length (part_all t.loop.at document_bytes tray) ∙ part_length t.loop.at document_bytes tray (omega arith))
 
 is-nothing-requires : tie.Need-is-nothing-requires invariant-loop decreases-loop
 is-nothing-requires c κs = search rules
@@ -65,7 +65,7 @@ returns c =
     let s = t.before.before.before in
     c.answer_at.ensures
     ∙ stops_at (rows_of s.args.tariff.now) s.args.tray.now t.loop.at t.loop.place t.loop.invariant.3 (omega arith)
-    (earnedNumber e.earned-by.result) e.earned-by.ensures (sym n.is-nothing.ensures ∙ c.before.if1.false)
+    (earned_number e.earned-by.result) e.earned-by.ensures (sym n.is-nothing.ensures ∙ c.before.if1.false)
 
 loop-less : tie.Need-loop-smaller invariant-loop decreases-loop
 loop-less c = omega arith
@@ -76,7 +76,7 @@ loop-again c =
     let t = e.before.before.before in
     let s = t.before.before.before in
     let good = passes_at (rows_of s.args.tariff.now) s.args.tray.now t.loop.at t.loop.place t.loop.invariant.3 (omega arith)
-    (earnedNumber e.earned-by.result) e.earned-by.ensures (sym c.before.is-nothing.ensures ∙ c.if1.true) in
+    (earned_number e.earned-by.result) e.earned-by.ensures (sym c.before.is-nothing.ensures ∙ c.if1.true) in
     (omega arith, omega arith, omega arith, good)
 
 returns-2 : tie.Need-returns-2 invariant-loop decreases-loop

@@ -6,18 +6,18 @@ use native.Mathlib.Omega.{arith}
 use borrow.Author.Rules.{rules}
 use borrow.Author.Tests.{leb-true, leb-false}
 use lib.Dec.{leb}
-use Rattle.tariff.specs.Rounding.{tenThousand, rounded}
+use Rattle.tariff.specs.Rounding.{ten_thousand, rounded}
 use Rattle.tariff.proofs.rounding.rounded.Statement.{statement}
 use Rattle.tariff.proofs.rounding.rounded.Tie as tie
 
 -- the units that a product comes to: within half a unit of it, and upwards where it is an exact half
-half_up : (n r : ℕ) → r * tenThousand ≤ n + 5000 → n + 5000 < r * tenThousand + tenThousand → r ≡ rounded n
+half_up : (n r : ℕ) → r * ten_thousand ≤ n + 5000 → n + 5000 < r * ten_thousand + ten_thousand → r ≡ rounded n
 unfolding rounded
-half_up n r low high = go (leb tenThousand (2 * (n % tenThousand))) refl
+half_up n r low high = go (leb ten_thousand (2 * (n % ten_thousand))) refl
   where
-    go : (t : Bool) → leb tenThousand (2 * (n % tenThousand)) ≡ t → r ≡ cond t (suc (n / tenThousand)) (n / tenThousand)
-    go true e = omega (arith, leb-true tenThousand (2 * (n % tenThousand)) e)
-    go false e = omega (arith, leb-false tenThousand (2 * (n % tenThousand)) e)
+    go : (t : Bool) → leb ten_thousand (2 * (n % ten_thousand)) ≡ t → r ≡ cond t (suc (n / ten_thousand)) (n / ten_thousand)
+    go true e = omega (arith, leb-true ten_thousand (2 * (n % ten_thousand)) e)
+    go false e = omega (arith, leb-false ten_thousand (2 * (n % ten_thousand)) e)
 
 add-result : tie.Need-overflow-add-result
 add-result c = search rules

@@ -1,7 +1,7 @@
 -- `key_known` asks the rule of the key.
 use mathlib.Core.Path.{ap, ◌∙◌}
 use borrow.Author.Rules.{rules}
-use Rattle.tariff.specs.Commission.{isKnown}
+use Rattle.tariff.specs.Commission.{is_known}
 use Rattle.tariff.proofs.search.key_known.Statement.{statement}
 use Rattle.tariff.proofs.search.key_known.Tie as tie
 
@@ -12,7 +12,7 @@ is-known-requires : tie.Need-is-known-requires
 is-known-requires c κs = search rules
 
 returns : tie.Need-returns
-returns c = c.is_Known.ensures ∙ ap isKnown c.before.rule-of.ensures
+returns c = c.is_Known.ensures ∙ ap is_known c.before.rule-of.ensures
 
 pub key-known-spec : {M : Type 1} → statement M
 key-known-spec = tie.close (tie.spec rule-of-requires is-known-requires returns)

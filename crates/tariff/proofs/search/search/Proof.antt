@@ -4,19 +4,19 @@ use Prim.Native.Nat.{◌-◌, ◌%◌, ◌≤◌}
 use native.Mathlib.Omega.{arith}
 use borrow.Author.Rules.{rules}
 use lib.ListN.{length, drop}
-use Rattle.packed.proofs.Laws.Part.{part_length, part-all}
+use Rattle.packed.proofs.Laws.Part.{part_length, part_all}
 use Rattle.tariff.specs.declared.row.Row.{Row}
 use Rattle.tariff.specs.declared.search.Rule.{Rule}
-use Rattle.tariff.specs.Tariff.{rowNumbers, rowIn, rows_of}
+use Rattle.tariff.specs.Tariff.{row_numbers, row_in, rows_of}
 use Rattle.tariff.specs.Commission.{searched}
-use Rattle.tariff.proofs.Laws.Rows.{found-row, passed-row, none_left}
+use Rattle.tariff.proofs.Laws.Rows.{found_row_lem, passed_row, none_left}
 use Rattle.tariff.proofs.search.search.Statement.{statement}
 use Rattle.tariff.proofs.search.search.Tie as tie
 
 abbrev invariant-loop : tie.invariant-loop
 invariant-loop tariff from key at₀ at =
     (at ≤ length tariff)
-    × ((length tariff - at) % rowNumbers ≡ 0)
+    × ((length tariff - at) % row_numbers ≡ 0)
     × (searched (rows_of (drop at tariff)) key ≡ searched (rows_of (drop from tariff)) key)
 
 abbrev decreases-loop : tie.decreases-loop
@@ -44,7 +44,7 @@ row-in-requires : tie.Need-row-in-requires invariant-loop decreases-loop
 row-in-requires c κs =
     let t = c.before.before in
     let ns = t.before.before.args.tariff.now in
-    ap length (part-all t.loop.at rowNumbers ns) ∙ part_length t.loop.at rowNumbers ns (omega arith)
+    ap length (part_all t.loop.at row_numbers ns) ∙ part_length t.loop.at row_numbers ns (omega arith)
 
 returns : tie.Need-returns invariant-loop decreases-loop
 returns c =
@@ -53,9 +53,9 @@ returns c =
     let s = t.before.before in
     let at = t.loop.at in
     let ns = s.args.tariff.now in
-    let row = r.row_in.ensures ∙ ap rowIn (part-all at rowNumbers ns) in
+    let row = r.row_in.ensures ∙ ap row_in (part_all at row_numbers ns) in
     ap Rule.ByRow row
-    ∙ sym (found-row at ns s.args.key (omega arith) (ap (λ (x : Row). x.key) (sym row) ∙ c.if1.true))
+    ∙ sym (found_row_lem at ns s.args.key (omega arith) (ap (λ (x : Row). x.key) (sym row) ∙ c.if1.true))
     ∙ t.loop.invariant.2
 
 loop-less : tie.Need-loop-smaller invariant-loop decreases-loop
@@ -68,10 +68,10 @@ loop-again c =
     let s = t.before.before in
     let at = t.loop.at in
     let ns = s.args.tariff.now in
-    let row = r.row_in.ensures ∙ ap rowIn (part-all at rowNumbers ns) in (
+    let row = r.row_in.ensures ∙ ap row_in (part_all at row_numbers ns) in (
       omega arith,
       omega arith,
-      sym (passed-row at ns s.args.key (omega arith) (λ e. c.if1.false (ap (λ (x : Row). x.key) row ∙ e))) ∙ t.loop.invariant.2,
+      sym (passed_row at ns s.args.key (omega arith) (λ e. c.if1.false (ap (λ (x : Row). x.key) row ∙ e))) ∙ t.loop.invariant.2,
     )
 
 returns-2 : tie.Need-returns-2 invariant-loop decreases-loop

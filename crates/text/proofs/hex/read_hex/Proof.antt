@@ -7,9 +7,9 @@ use native.Mathlib.Omega.{arith}
 use borrow.Author.Tests.{eqb-true}
 use Rattle.packed.proofs.Laws.Told.{both}
 use Rattle.text.specs.declared.hex.Bytes.{Bytes}
-use Rattle.text.specs.Got.{gotOf, fitting}
-use Rattle.text.proofs.Laws.Got.{fitting-none, fitting-fits}
-use Rattle.text.proofs.Laws.Hex.{hex-dash, hex-pairs, hex-none}
+use Rattle.text.specs.Got.{got_of, fitting}
+use Rattle.text.proofs.Laws.Got.{fitting_none, fitting_fits}
+use Rattle.text.proofs.Laws.Hex.{hex_dash, hex_pairs, hex_none}
 use borrow.Author.Rules.{rules}
 use Rattle.text.proofs.hex.read_hex.Statement.{statement}
 use Rattle.text.proofs.hex.read_hex.Tie as tie
@@ -28,7 +28,7 @@ returns c =
     let a = c.before.before.before.before.before.before.args in
     let told = sym c.before.before.same.ensures ∙ c.before.if1.true in
     let most = length a.bytes.now in
-    (ap (λ (r : Bytes). gotOf r a.bytes.now) c.no_bytes.ensures.0 ∙ sym (ap (fitting most) (hex-dash a.word.now told) ∙ fitting-fits most _ (omega arith)), search rules)
+    (ap (λ (r : Bytes). got_of r a.bytes.now) c.no_bytes.ensures.0 ∙ sym (ap (fitting most) (hex_dash a.word.now told) ∙ fitting_fits most _ (omega arith)), search rules)
 
 is-paired-requires : tie.Need-is-paired-requires
 is-paired-requires c κs = search rules
@@ -47,7 +47,7 @@ returns-2 c =
     let said = c.before.before.read_pairs.ensures in
     let other = sym c.before.before.before.before.before.before.before.same.ensures ∙ c.before.before.before.before.before.before.if1.false in
     let paired = sym c.before.before.before.before.before.is-paired.ensures ∙ c.before.before.before.before.if2.true in
-    (said.0 ∙ ap (fitting _) (sym (hex-pairs a.word.now other paired)), said.1)
+    (said.0 ∙ ap (fitting _) (sym (hex_pairs a.word.now other paired)), said.1)
 
 no-bytes-requires-2 : tie.Need-no-bytes-requires-2
 no-bytes-requires-2 c κs = search rules
@@ -58,7 +58,7 @@ returns-3 c =
     let other = sym c.before.before.before.before.same.ensures ∙ c.before.before.before.if1.false in
     let unpaired = sym c.before.before.is-paired.ensures ∙ c.before.if2.false in
     let most = length a.bytes.now in
-    (ap (λ (r : Bytes). gotOf r a.bytes.now) c.no-bytes2.ensures.0 ∙ sym (ap (fitting most) (hex-none a.word.now other unpaired) ∙ fitting-none most), search rules)
+    (ap (λ (r : Bytes). got_of r a.bytes.now) c.no-bytes2.ensures.0 ∙ sym (ap (fitting most) (hex_none a.word.now other unpaired) ∙ fitting_none most), search rules)
 
 pub read-hex-spec : {M : Type 1} → statement M
 read-hex-spec =

@@ -6,19 +6,19 @@ use lib.ListN.{length, drop, length-set, drop_of_length-le}
 use lib.Seq.{sets}
 use native.Mathlib.Omega.{arith}
 use Rattle.packed.specs.Every.{every}
-use Rattle.text.specs.Digit.{isHexadecimal}
-use Rattle.text.specs.Hex.{hexBytes}
+use Rattle.text.specs.Digit.{is_hexadecimal}
+use Rattle.text.specs.Hex.{hex_bytes}
 use mathlib.Core.List.{List}
 use Rattle.text.specs.declared.hex.Bytes.{Bytes}
-use Rattle.text.specs.Got.{gotOf}
-use Rattle.text.proofs.Laws.Run.{every-end}
-use Rattle.text.proofs.Laws.Hex.{pair-not, pair_is, digits-on, bytes_on, pairs-over, pairs-not, pairs-all}
+use Rattle.text.specs.Got.{got_of}
+use Rattle.text.proofs.Laws.Run.{every_end}
+use Rattle.text.proofs.Laws.Hex.{pair_not, pair_is, digits_on, bytes_on, pairs_over, pairs_not, pairs_all}
 use borrow.Author.Rules.{rules}
 use Rattle.text.proofs.hex.read_pairs.Statement.{statement}
 use Rattle.text.proofs.hex.read_pairs.Tie as tie
 
 abbrev invariant-loop : tie.invariant-loop
-invariant-loop word bytes₀ count i₀ bytes i = (i ≤ count) × (length bytes ≡ length bytes₀) × (every isHexadecimal (drop (i * 2) word) ≡ every isHexadecimal word) × (sets bytes i (hexBytes (drop (i * 2) word)) ≡ sets bytes₀ 0 (hexBytes word))
+invariant-loop word bytes₀ count i₀ bytes i = (i ≤ count) × (length bytes ≡ length bytes₀) × (every is_hexadecimal (drop (i * 2) word) ≡ every is_hexadecimal word) × (sets bytes i (hex_bytes (drop (i * 2) word)) ≡ sets bytes₀ 0 (hex_bytes word))
 
 abbrev decreases-loop : tie.decreases-loop
 decreases-loop word bytes₀ count i₀ bytes i = count - i
@@ -29,7 +29,7 @@ no-bytes-requires c κs = search rules
 returns : tie.Need-returns invariant-loop decreases-loop
 returns c =
     let a = c.before.before.before.before.args in
-    (ap (λ (r : Bytes). gotOf r a.bytes.now) c.no_bytes.ensures.0 ∙ pairs-over _ a.word.now c.before.if1.true, search rules)
+    (ap (λ (r : Bytes). got_of r a.bytes.now) c.no_bytes.ensures.0 ∙ pairs_over _ a.word.now c.before.if1.true, search rules)
 
 loop-holds : tie.Need-loop-init invariant-loop decreases-loop
 loop-holds c = search rules
@@ -66,8 +66,8 @@ returns-2 c =
     let t = c.before.before.before.before.before.before.before in
     let a = t.before.before.before.before.args in
     let h : t.loop.i * 2 + 1 < length a.word.now = omega arith in
-    let none = pair-not a.word.now t.loop.i _ _ h c.before.before.before.before.digit.ensures.0 c.before.before.digit2.ensures.0 c.before.if2.true in
-    (ap (λ (r : Bytes). gotOf r t.loop.bytes) c.no-bytes2.ensures.0 ∙ pairs-not _ a.word.now (sym t.loop.invariant.2 ∙ none), search rules)
+    let none = pair_not a.word.now t.loop.i _ _ h c.before.before.before.before.digit.ensures.0 c.before.before.digit2.ensures.0 c.before.if2.true in
+    (ap (λ (r : Bytes). got_of r t.loop.bytes) c.no-bytes2.ensures.0 ∙ pairs_not _ a.word.now (sym t.loop.invariant.2 ∙ none), search rules)
 
 mul-bytes : tie.Need-overflow-mul-bytes invariant-loop decreases-loop
 mul-bytes c =
@@ -101,7 +101,7 @@ loop-again c =
     let low = c.before.digit2.ensures.0 in (
       omega arith,
       simp length-set t.loop.invariant.1,
-      digits-on a.word.now t.loop.i _ _ h high low c.if2.false ∙ t.loop.invariant.2,
+      digits_on a.word.now t.loop.i _ _ h high low c.if2.false ∙ t.loop.invariant.2,
       bytes_on t.loop.bytes a.word.now t.loop.i _ h (λ k. high k * 16 + low k) ∙ t.loop.invariant.3,
     )
 
@@ -109,15 +109,15 @@ same-length-2 : tie.Need-same-length-2 invariant-loop decreases-loop
 same-length-2 c = search rules
 
 returns-3 : tie.Need-returns-3 invariant-loop decreases-loop
-unfolding hexBytes
+unfolding hex_bytes
 returns-3 c =
     let t = c.before in
     let a = t.before.before.before.before.args in
     let w = a.word.now in
     let over : length w ≤ t.loop.i * 2 = omega arith in
-    let digits = sym t.loop.invariant.2 ∙ every-end isHexadecimal w (t.loop.i * 2) over in
-    let bytes = ap (λ (l : List ℕ). sets t.loop.bytes t.loop.i (hexBytes l)) (sym (drop_of_length-le w {i = t.loop.i * 2} over)) ∙ t.loop.invariant.3 in
-    (pairs-all _ w a.bytes.now t.loop.bytes refl (omega arith) digits bytes, search rules)
+    let digits = sym t.loop.invariant.2 ∙ every_end is_hexadecimal w (t.loop.i * 2) over in
+    let bytes = ap (λ (l : List ℕ). sets t.loop.bytes t.loop.i (hex_bytes l)) (sym (drop_of_length-le w {i = t.loop.i * 2} over)) ∙ t.loop.invariant.3 in
+    (pairs_all _ w a.bytes.now t.loop.bytes refl (omega arith) digits bytes, search rules)
 
 pub read-pairs-spec : {M : Type 1} → statement M
 read-pairs-spec =

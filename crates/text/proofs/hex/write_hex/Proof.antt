@@ -5,15 +5,15 @@ use Prim.Native.Nat.{ℕ, ◌+◌, ◌*◌, ◌-◌, ◌≤◌}
 use native.Mathlib.Nat.{add-zero}
 use lib.ListN.{length, drop, length-set, drop_of_length-le}
 use lib.Seq.{sets}
-use Rattle.text.specs.Hex.{hexText}
-use Rattle.text.proofs.Laws.Hex.{hex-step}
+use Rattle.text.specs.Hex.{hex_text}
+use Rattle.text.proofs.Laws.Hex.{hex_step}
 use borrow.Author.Rules.{rules}
 use native.Mathlib.Omega.{arith}
 use Rattle.text.proofs.hex.write_hex.Statement.{statement}
 use Rattle.text.proofs.hex.write_hex.Tie as tie
 
 abbrev invariant-loop : tie.invariant-loop
-invariant-loop d₀ at bytes i₀ d i = (i ≤ length bytes) × (length d ≡ length d₀) × (sets d (at + i * 2) (hexText (drop i bytes)) ≡ sets d₀ at (hexText bytes))
+invariant-loop d₀ at bytes i₀ d i = (i ≤ length bytes) × (length d ≡ length d₀) × (sets d (at + i * 2) (hex_text (drop i bytes)) ≡ sets d₀ at (hex_text bytes))
 
 abbrev decreases-loop : tie.decreases-loop
 decreases-loop d₀ at bytes i₀ d i = length bytes - i
@@ -64,18 +64,18 @@ loop-again c =
     let i = t.loop.i in (
       omega arith,
       simp length-set t.loop.invariant.1,
-      hex-step t.loop.d a.bytes.now i (a.at + i * 2) _ _ _ _ (omega arith) (omega arith) (omega arith) c.before.hex-digit.ensures c.hex-digit2.ensures ∙ t.loop.invariant.2,
+      hex_step t.loop.d a.bytes.now i (a.at + i * 2) _ _ _ _ (omega arith) (omega arith) (omega arith) c.before.hex-digit.ensures c.hex-digit2.ensures ∙ t.loop.invariant.2,
     )
 
 same_length : tie.Need-same-length invariant-loop decreases-loop
 same_length c = c.before.loop.invariant.1
 
 returns : tie.Need-returns invariant-loop decreases-loop
-unfolding hexText
+unfolding hex_text
 returns c =
     let t = c.before in
     let a = t.before.before.before.args in
-    ap (λ (l : List ℕ). sets t.loop.d (a.at + t.loop.i * 2) (hexText l)) (sym (drop_of_length-le a.bytes.now {i = t.loop.i} (omega arith))) ∙ t.loop.invariant.2
+    ap (λ (l : List ℕ). sets t.loop.d (a.at + t.loop.i * 2) (hex_text l)) (sym (drop_of_length-le a.bytes.now {i = t.loop.i} (omega arith))) ∙ t.loop.invariant.2
 
 pub write-hex-spec : {M : Type 1} → statement M
 write-hex-spec =

@@ -7,12 +7,12 @@ use native.Mathlib.Omega.{arith}
 use Rattle.text.specs.declared.hex.Bytes.{Bytes}
 use Rattle.text.specs.declared.kind.Source.{Source}
 use Rattle.text.specs.Word.{words}
-use Rattle.text.specs.Got.{Got, gotOf, fitting}
-use Rattle.text.specs.Hex.{hexWord}
+use Rattle.text.specs.Got.{Got, got_of, fitting}
+use Rattle.text.specs.Hex.{hex_word}
 use Rattle.text.specs.Memory.{recalled}
-use Rattle.text.specs.Line.{hexOrWritten, bytesFrom, words_of}
-use Rattle.text.proofs.Laws.Got.{fitting-fits}
-use Rattle.text.proofs.Laws.Line.{first_word, words-behind, no-hex, no_word}
+use Rattle.text.specs.Line.{hex_or_written, bytes_from, words_of}
+use Rattle.text.proofs.Laws.Got.{fitting_fits}
+use Rattle.text.proofs.Laws.Line.{first_word, words_behind, no_hex, no_word}
 use borrow.Author.Rules.{rules}
 use Rattle.text.proofs.line.read_bytes.Statement.{statement}
 use Rattle.text.proofs.line.read_bytes.Tie as tie
@@ -57,7 +57,7 @@ read-word-requires : tie.Need-read-word-requires
 read-word-requires c κs = search rules
 
 returns : tie.Need-returns
-unfolding bytesFrom
+unfolding bytes_from
 returns c =
     let s = c.before.before.before.before.before.before.before in
     let a = s.args in
@@ -65,7 +65,7 @@ returns c =
     let ws = words (drop a.at a.line.now) in
     let known = sym c.before.enum_told.given.1 in
     record {
-      got = ap (λ (r : Bytes). gotOf r a.bytes.now) c.no_bytes.ensures.0 ∙ sym (fitting-fits most [] (omega arith)) ∙ ap (λ (from : Source). fitting most (bytesFrom (recalled a.memory a.wire.now) from ws)) known;
+      got = ap (λ (r : Bytes). got_of r a.bytes.now) c.no_bytes.ensures.0 ∙ sym (fitting_fits most [] (omega arith)) ∙ ap (λ (from : Source). fitting most (bytes_from (recalled a.memory a.wire.now) from ws)) known;
       rest = λ e. ap (λ (from : Source). drop (words_of from) ws) known;
       bytes = omega (arith, c.no_bytes.ensures.1);
       at = s.requires;
@@ -75,7 +75,7 @@ same_length : tie.Need-same-length
 same_length c = search rules
 
 returns-2 : tie.Need-returns-2
-unfolding bytesFrom
+unfolding bytes_from
 returns-2 c =
     let a = c.before.before.before.before.before.before.before.before.before.before.before.args in
     let most = length a.bytes.now in
@@ -83,10 +83,10 @@ returns-2 c =
     let next = c.before.before.before.before.before.before.before.next_word in
     let said = c.before.before.read-hex.ensures in
     let known = sym c.before.before.before.before.before.enum-told2.given.1 in
-    let got = said.0 ∙ ap (λ (w : List ℕ). fitting most (hexWord w)) (first_word a.at a.line.now next.result next.ensures) in
+    let got = said.0 ∙ ap (λ (w : List ℕ). fitting most (hex_word w)) (first_word a.at a.line.now next.result next.ensures) in
     record {
-      got = got ∙ ap (λ (from : Source). fitting most (bytesFrom (recalled a.memory a.wire.now) from ws)) known;
-      rest = λ e. words-behind a.at a.line.now next.result next.ensures (λ (w : List ℕ). (fitting most (hexWord w)).good) (no-hex most) (sym (ap (λ (g : Got). g.good) got) ∙ e) ∙ ap (λ (from : Source). drop (words_of from) ws) known;
+      got = got ∙ ap (λ (from : Source). fitting most (bytes_from (recalled a.memory a.wire.now) from ws)) known;
+      rest = λ e. words_behind a.at a.line.now next.result next.ensures (λ (w : List ℕ). (fitting most (hex_word w)).good) (no_hex most) (sym (ap (λ (g : Got). g.good) got) ∙ e) ∙ ap (λ (from : Source). drop (words_of from) ws) known;
       bytes = said.1;
       at = next.ensures.end;
     }
@@ -95,7 +95,7 @@ same-length-2 : tie.Need-same-length-2
 same-length-2 c = search rules
 
 returns-3 : tie.Need-returns-3
-unfolding bytesFrom
+unfolding bytes_from
 returns-3 c =
     let a = c.before.before.before.before.before.before.before.before.before.before.before.args in
     let most = length a.bytes.now in
@@ -104,10 +104,10 @@ returns-3 c =
     let next = c.before.before.before.before.before.before.before.next_word in
     let said = c.before.before.read_word.ensures in
     let known = sym c.before.before.before.before.before.enum-told3.given.1 in
-    let got = said.0 ∙ ap (λ (w : List ℕ). fitting most (hexOrWritten held w)) (first_word a.at a.line.now next.result next.ensures) in
+    let got = said.0 ∙ ap (λ (w : List ℕ). fitting most (hex_or_written held w)) (first_word a.at a.line.now next.result next.ensures) in
     record {
-      got = got ∙ ap (λ (from : Source). fitting most (bytesFrom held from ws)) known;
-      rest = λ e. words-behind a.at a.line.now next.result next.ensures (λ (w : List ℕ). (fitting most (hexOrWritten held w)).good) (no_word held most) (sym (ap (λ (g : Got). g.good) got) ∙ e) ∙ ap (λ (from : Source). drop (words_of from) ws) known;
+      got = got ∙ ap (λ (from : Source). fitting most (bytes_from held from ws)) known;
+      rest = λ e. words_behind a.at a.line.now next.result next.ensures (λ (w : List ℕ). (fitting most (hex_or_written held w)).good) (no_word held most) (sym (ap (λ (g : Got). g.good) got) ∙ e) ∙ ap (λ (from : Source). drop (words_of from) ws) known;
       bytes = said.1;
       at = next.ensures.end;
     }

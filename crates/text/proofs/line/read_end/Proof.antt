@@ -4,9 +4,9 @@ use mathlib.Core.Bool.{◌||◌}
 use mathlib.Core.List.{List}
 use Prim.Native.Nat.{ℕ}
 use Rattle.text.specs.Ascii.{ascii}
-use Rattle.text.specs.Word.{sameBytes}
-use Rattle.text.specs.Line.{isEnd}
-use Rattle.text.proofs.Laws.Line.{first_word, words-behind}
+use Rattle.text.specs.Word.{equal_bytes}
+use Rattle.text.specs.Line.{is_end}
+use Rattle.text.proofs.Laws.Line.{first_word, words_behind}
 use borrow.Author.Rules.{rules}
 use Rattle.text.proofs.line.read_end.Statement.{statement}
 use Rattle.text.proofs.line.read_end.Tie as tie
@@ -45,16 +45,16 @@ same-requires-2 : tie.Need-same-requires-2
 same-requires-2 c κs = search rules
 
 returns : tie.Need-returns
-unfolding sameBytes
+unfolding equal_bytes
 returns c =
     let a = c.before.before.before.before.before.before.before.before.args in
     let next = c.before.before.before.before.before.before.next_word in
     let word = first_word a.at a.line.now next.result next.ensures in
-    let good = (λ t. c.before.before.before.same.ensures t || c.same2.ensures t) ∙ ap isEnd word in
+    let good = (λ t. c.before.before.before.same.ensures t || c.same2.ensures t) ∙ ap is_end word in
     record {
       good = good;
-      near = c.before.before.before.same.ensures ∙ ap (λ (w : List ℕ). sameBytes w (ascii "A")) word;
-      rest = λ e. words-behind a.at a.line.now next.result next.ensures isEnd refl (sym good ∙ e);
+      near = c.before.before.before.same.ensures ∙ ap (λ (w : List ℕ). equal_bytes w (ascii "A")) word;
+      rest = λ e. words_behind a.at a.line.now next.result next.ensures is_end refl (sym good ∙ e);
       at = next.ensures.end;
     }
 

@@ -9,8 +9,8 @@ use borrow.Author.Tests.{not-true, not-false}
 use Rattle.packed.specs.Part.{part}
 use Rattle.text.specs.Word.{words}
 use Rattle.text.specs.Number.{is_number, decimal}
-use Rattle.text.proofs.Laws.Number.{told-good, told-value}
-use Rattle.text.proofs.Laws.Line.{words-on, words-none, Rest, rest-start, rest-not, rest-on, over-good, over-count, over-rest, over-stored, left-none, asked-none}
+use Rattle.text.proofs.Laws.Number.{told_good, told_value}
+use Rattle.text.proofs.Laws.Line.{words_on, words_none, Rest, rest_start, rest_not, rest_on, over_good, over_count, over_rest, over_stored, left_none, asked_none}
 use borrow.Author.Rules.{rules}
 use Rattle.text.proofs.line.read_numbers.Statement.{statement}
 use Rattle.text.proofs.line.read_numbers.Tie as tie
@@ -22,7 +22,7 @@ abbrev decreases-loop : tie.decreases-loop
 decreases-loop line at most numbers₀ first place₀ i₀ numbers place i = most - i
 
 loop-holds : tie.Need-loop-init invariant-loop decreases-loop
-loop-holds c = (c.before.requires.0, omega arith, refl, rest-start _ _ _ _)
+loop-holds c = (c.before.requires.0, omega arith, refl, rest_start _ _ _ _)
 
 next-word-requires : tie.Need-next-word-requires invariant-loop decreases-loop
 next-word-requires c κs = search rules
@@ -32,12 +32,12 @@ returns c =
     let t = c.before.before.before in
     let a = t.before.before.args in
     let next = c.before.next_word in
-    let none = left-none (a.most - t.loop.i) _ (words-none t.loop.place a.line.now next.result next.ensures c.if1.true) in
+    let none = left_none (a.most - t.loop.i) _ (words_none t.loop.place a.line.now next.result next.ensures c.if1.true) in
     record {
-      good = over-good _ _ _ _ _ _ _ t.loop.invariant.3 none.0 none.1;
-      count = λ e. over-count _ _ _ _ _ _ _ t.loop.invariant.3 none.0 none.1;
-      rest = λ e. over-rest _ _ _ _ _ _ _ t.loop.invariant.3 none.0 none.1;
-      numbers = λ e. over-stored _ _ _ _ _ _ _ t.loop.invariant.3 none.0 none.1;
+      good = over_good _ _ _ _ _ _ _ t.loop.invariant.3 none.0 none.1;
+      count = λ e. over_count _ _ _ _ _ _ _ t.loop.invariant.3 none.0 none.1;
+      rest = λ e. over_rest _ _ _ _ _ _ _ t.loop.invariant.3 none.0 none.1;
+      numbers = λ e. over_stored _ _ _ _ _ _ _ t.loop.invariant.3 none.0 none.1;
       size = t.loop.invariant.2;
       within = t.loop.invariant.1;
       at = t.loop.invariant.0;
@@ -60,11 +60,11 @@ returns-2 c =
     let t = c.before.before.before.before.before.before.before in
     let a = t.before.before.args in
     let next = c.before.before.before.before.before.next_word in
-    let on = words-on t.loop.place a.line.now next.result next.ensures c.before.before.before.before.if1.false in
+    let on = words_on t.loop.place a.line.now next.result next.ensures c.before.before.before.before.if1.false in
     let w = part next.result.from (next.result.to - next.result.from) a.line.now in
-    let bad = sym (told-good (is_number w) (decimal w) _ c.before.before.read_number.ensures) ∙ not-true _ c.if2.true in
+    let bad = sym (told_good (is_number w) (decimal w) _ c.before.before.read_number.ensures) ∙ not-true _ c.if2.true in
     record {
-      good = rest-not _ _ _ _ _ _ _ t.loop.invariant.3 _ _ on (omega arith) bad;
+      good = rest_not _ _ _ _ _ _ _ t.loop.invariant.3 _ _ on (omega arith) bad;
       count = λ e. absurd (false≢true e);
       rest = λ e. absurd (false≢true e);
       numbers = λ e. absurd (false≢true e);
@@ -93,21 +93,21 @@ loop-again c =
     let t = c.before.before.before.before.before.before.before in
     let a = t.before.before.args in
     let next = c.before.before.before.before.before.next_word in
-    let on = words-on t.loop.place a.line.now next.result next.ensures c.before.before.before.before.if1.false in
+    let on = words_on t.loop.place a.line.now next.result next.ensures c.before.before.before.before.if1.false in
     let w = part next.result.from (next.result.to - next.result.from) a.line.now in
-    let good = sym (told-good (is_number w) (decimal w) _ c.before.before.read_number.ensures) ∙ not-false _ c.if2.false in
-    (next.ensures.end, omega arith, simp length-set t.loop.invariant.2, rest-on _ _ _ _ _ _ _ t.loop.invariant.3 _ _ on (omega arith) _ good (told-value (is_number w) (decimal w) _ c.before.before.read_number.ensures good))
+    let good = sym (told_good (is_number w) (decimal w) _ c.before.before.read_number.ensures) ∙ not-false _ c.if2.false in
+    (next.ensures.end, omega arith, simp length-set t.loop.invariant.2, rest_on _ _ _ _ _ _ _ t.loop.invariant.3 _ _ on (omega arith) _ good (told_value (is_number w) (decimal w) _ c.before.before.read_number.ensures good))
 
 returns-3 : tie.Need-returns-3 invariant-loop decreases-loop
 returns-3 c =
     let t = c.before in
     let a = t.before.before.args in
-    let none = asked-none (a.most - t.loop.i) (words (drop t.loop.place a.line.now)) (omega arith) in
+    let none = asked_none (a.most - t.loop.i) (words (drop t.loop.place a.line.now)) (omega arith) in
     record {
-      good = over-good _ _ _ _ _ _ _ t.loop.invariant.3 none.0 none.1;
-      count = λ e. over-count _ _ _ _ _ _ _ t.loop.invariant.3 none.0 none.1;
-      rest = λ e. over-rest _ _ _ _ _ _ _ t.loop.invariant.3 none.0 none.1;
-      numbers = λ e. over-stored _ _ _ _ _ _ _ t.loop.invariant.3 none.0 none.1;
+      good = over_good _ _ _ _ _ _ _ t.loop.invariant.3 none.0 none.1;
+      count = λ e. over_count _ _ _ _ _ _ _ t.loop.invariant.3 none.0 none.1;
+      rest = λ e. over_rest _ _ _ _ _ _ _ t.loop.invariant.3 none.0 none.1;
+      numbers = λ e. over_stored _ _ _ _ _ _ _ t.loop.invariant.3 none.0 none.1;
       size = t.loop.invariant.2;
       within = t.loop.invariant.1;
       at = t.loop.invariant.0;

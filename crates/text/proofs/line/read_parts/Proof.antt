@@ -1,7 +1,7 @@
 -- `read_parts`: the parts, one behind another.
 use mathlib.Core.Path.{refl, ◌∙◌}
 use native.Mathlib.Omega.{arith}
-use Rattle.text.proofs.Laws.Line.{parts_whole, parts-bytes, parts-numbers}
+use Rattle.text.proofs.Laws.Line.{parts_whole, parts_bytes, parts_numbers}
 use lib.ListN.{length}
 use Rattle.text.specs.Memory.{recalled}
 use borrow.Author.Rules.{rules}
@@ -38,8 +38,8 @@ returns c =
     let over = c.before.before.before.before.before.is-over.ensures in
     record {
       good = parts_whole held most a.shape a.line.now _ _ _ _ _ _ _ _ _ one two three over;
-      numbers = parts-numbers held most a.shape a.line.now _ _ _ _ _ _ _ _ _ one two three over refl s.requires.1.all;
-      got = parts-bytes held most a.shape a.line.now _ _ _ _ _ _ _ _ _ one two three over;
+      numbers = parts_numbers held most a.shape a.line.now _ _ _ _ _ _ _ _ _ one two three over refl s.requires.1.all;
+      got = parts_bytes held most a.shape a.line.now _ _ _ _ _ _ _ _ _ one two three over;
       size = three.size ∙ one.size;
       asked = omega arith;
       count = omega (arith, three.within, s.requires.1.all);

@@ -4,11 +4,11 @@ use mathlib.Core.List.{List}
 use Prim.Native.Nat.{ℕ}
 use lib.ListN.{length}
 use native.Mathlib.Omega.{arith}
-use Rattle.packed.proofs.Laws.Part.{part-tail}
+use Rattle.packed.proofs.Laws.Part.{part_tail}
 use Rattle.text.specs.Got.{fitting}
 use Rattle.text.specs.Memory.{recalled}
-use Rattle.text.specs.Line.{writtenUnder}
-use Rattle.text.proofs.Laws.Line.{at_some, written_is, hex-is}
+use Rattle.text.specs.Line.{written_under}
+use Rattle.text.proofs.Laws.Line.{at_some, written_is, hex_is}
 use borrow.Author.Rules.{rules}
 use Rattle.text.proofs.line.read_word.Statement.{statement}
 use Rattle.text.proofs.line.read_word.Tie as tie
@@ -39,7 +39,7 @@ returns c =
     let most = length a.bytes.now in
     let here = sym c.before.before.before.before.before.before.is_at.ensures ∙ c.before.before.before.before.before.if1.true in
     let said = c.before.before.read-written.ensures in
-    (said.0 ∙ ap (λ (l : List ℕ). fitting most (writtenUnder held l)) (part-tail 1 w) ∙ sym (ap (fitting most) (written_is held w here)), said.1)
+    (said.0 ∙ ap (λ (l : List ℕ). fitting most (written_under held l)) (part_tail 1 w) ∙ sym (ap (fitting most) (written_is held w here)), said.1)
 
 read-hex-requires : tie.Need-read-hex-requires
 read-hex-requires c κs = search rules
@@ -52,7 +52,7 @@ returns-2 c =
     let a = c.before.before.before.before.before.before.before.before.before.args in
     let other = sym c.before.before.before.before.before.is_at.ensures ∙ c.before.before.before.before.if1.false in
     let said = c.before.before.read-hex.ensures in
-    (said.0 ∙ sym (ap (fitting (length a.bytes.now)) (hex-is (recalled a.memory a.wire.now) a.word.now other)), said.1)
+    (said.0 ∙ sym (ap (fitting (length a.bytes.now)) (hex_is (recalled a.memory a.wire.now) a.word.now other)), said.1)
 
 pub read-word-spec : {M : Type 1} → statement M
 read-word-spec =

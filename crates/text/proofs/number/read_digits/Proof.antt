@@ -5,22 +5,22 @@ use lib.ListN.{length, drop, get_or}
 use native.Mathlib.Omega.{arith}
 use borrow.Author.Tests.{lt-ltb, le-ltb}
 use Rattle.packed.specs.Every.{every}
-use Rattle.text.specs.Digit.{digitValue, isDecimal}
+use Rattle.text.specs.Digit.{digit_value, is_decimal}
 use Rattle.text.specs.Number.{decimal}
-use Rattle.text.proofs.Laws.Run.{every-on, every-not, every-end}
-use Rattle.text.proofs.Laws.Number.{after, after-start, after_on, after-end, after-least, no-digits, too_large, a-number}
+use Rattle.text.proofs.Laws.Run.{every_on, every_not, every_end}
+use Rattle.text.proofs.Laws.Number.{after, after_start, after_on, after_end, after_least, no_digits_lem, too_large, a_number}
 use borrow.Author.Rules.{rules}
 use Rattle.text.proofs.number.read_digits.Statement.{statement}
 use Rattle.text.proofs.number.read_digits.Tie as tie
 
 abbrev invariant-loop : tie.invariant-loop
-invariant-loop word value₀ i₀ value i = (i ≤ length word) × (value < 2 ^ 64) × (every isDecimal (drop i word) ≡ every isDecimal word) × (after value (drop i word) ≡ decimal word)
+invariant-loop word value₀ i₀ value i = (i ≤ length word) × (value < 2 ^ 64) × (every is_decimal (drop i word) ≡ every is_decimal word) × (after value (drop i word) ≡ decimal word)
 
 abbrev decreases-loop : tie.decreases-loop
 decreases-loop word value₀ i₀ value i = length word - i
 
 loop-holds : tie.Need-loop-init invariant-loop decreases-loop
-loop-holds c = (omega arith, omega arith, refl, after-start c.before.args.word.now)
+loop-holds c = (omega arith, omega arith, refl, after_start c.before.args.word.now)
 
 shared-slice-read-digit : tie.Need-shared-slice-read-digit invariant-loop decreases-loop
 shared-slice-read-digit c = search rules
@@ -39,7 +39,7 @@ returns c =
     let t = c.before.before.before.before.before in
     let w = t.before.before.args.word.now in
     let d = c.before.before.digit.ensures.0 in
-    c.wrong.ensures ∙ no-digits w (sym t.loop.invariant.2 ∙ every-not isDecimal w t.loop.i (omega arith) (le-ltb (digitValue (get_or w t.loop.i 0)) 10 (omega (arith, d))))
+    c.wrong.ensures ∙ no_digits_lem w (sym t.loop.invariant.2 ∙ every_not is_decimal w t.loop.i (omega arith) (le-ltb (digit_value (get_or w t.loop.i 0)) 10 (omega (arith, d))))
 
 sub-if2 : tie.Need-overflow-sub-if2 invariant-loop decreases-loop
 sub-if2 c = search rules
@@ -52,7 +52,7 @@ returns-2 c =
     let t = c.before.before.before.before.before.before in
     let w = t.before.before.args.word.now in
     let on = after_on t.loop.value _ w t.loop.i (omega arith) c.before.before.before.digit.ensures.0 in
-    c.wrong2.ensures ∙ too_large w (omega (arith, on, t.loop.invariant.3, after-least (t.loop.value * 10 + c.before.before.before.digit.result) (drop (t.loop.i + 1) w)))
+    c.wrong2.ensures ∙ too_large w (omega (arith, on, t.loop.invariant.3, after_least (t.loop.value * 10 + c.before.before.before.digit.result) (drop (t.loop.i + 1) w)))
 
 mul-value : tie.Need-overflow-mul-value invariant-loop decreases-loop
 mul-value c = search rules
@@ -73,7 +73,7 @@ loop-again c =
     let d = c.before.before.digit.ensures.0 in (
       omega arith,
       omega arith,
-      every-on isDecimal w t.loop.i (omega arith) (lt-ltb (digitValue (get_or w t.loop.i 0)) 10 (omega (arith, d))) ∙ t.loop.invariant.2,
+      every_on is_decimal w t.loop.i (omega arith) (lt-ltb (digit_value (get_or w t.loop.i 0)) 10 (omega (arith, d))) ∙ t.loop.invariant.2,
       after_on t.loop.value _ w t.loop.i (omega arith) d ∙ t.loop.invariant.3,
     )
 
@@ -81,7 +81,7 @@ returns-3 : tie.Need-returns-3 invariant-loop decreases-loop
 returns-3 c =
     let t = c.before in
     let w = t.before.before.args.word.now in
-    a-number w t.loop.value (sym t.loop.invariant.2 ∙ every-end isDecimal w t.loop.i (omega arith)) (sym (after-end t.loop.value w t.loop.i (omega arith)) ∙ t.loop.invariant.3) t.loop.invariant.1
+    a_number w t.loop.value (sym t.loop.invariant.2 ∙ every_end is_decimal w t.loop.i (omega arith)) (sym (after_end t.loop.value w t.loop.i (omega arith)) ∙ t.loop.invariant.3) t.loop.invariant.1
 
 pub read-digits-spec : {M : Type 1} → statement M
 read-digits-spec =

@@ -2,8 +2,8 @@
 use mathlib.Core.Path.{refl, ap, ◌∙◌}
 use native.Mathlib.Omega.{arith}
 use Rattle.text.specs.declared.hex.Bytes.{Bytes}
-use Rattle.text.specs.Got.{gotOf}
-use Rattle.text.proofs.Laws.Memory.{copy-outside, copy-turned, copy-over, copy-all}
+use Rattle.text.specs.Got.{got_of}
+use Rattle.text.proofs.Laws.Memory.{copy_outside, copy_turned, copy_over, copy_all}
 use borrow.Author.Rules.{rules}
 use Rattle.text.proofs.wire.copy_between.Statement.{statement}
 use Rattle.text.proofs.wire.copy_between.Tie as tie
@@ -14,7 +14,7 @@ no-bytes-requires c κs = search rules
 returns : tie.Need-returns
 returns c =
     let a = c.before.before.before.before.args in
-    (ap (λ (r : Bytes). gotOf r a.bytes.now) c.no_bytes.ensures.0 ∙ copy-outside _ a.wire.now a.from a.to c.before.if1.true, search rules)
+    (ap (λ (r : Bytes). got_of r a.bytes.now) c.no_bytes.ensures.0 ∙ copy_outside _ a.wire.now a.from a.to c.before.if1.true, search rules)
 
 no-bytes-requires-2 : tie.Need-no-bytes-requires-2
 no-bytes-requires-2 c κs = search rules
@@ -22,7 +22,7 @@ no-bytes-requires-2 c κs = search rules
 returns-2 : tie.Need-returns-2
 returns-2 c =
     let a = c.before.before.before.before.before.args in
-    (ap (λ (r : Bytes). gotOf r a.bytes.now) c.no-bytes2.ensures.0 ∙ copy-turned _ a.wire.now a.from a.to (omega arith) c.before.if2.true, search rules)
+    (ap (λ (r : Bytes). got_of r a.bytes.now) c.no-bytes2.ensures.0 ∙ copy_turned _ a.wire.now a.from a.to (omega arith) c.before.if2.true, search rules)
 
 sub-if3 : tie.Need-overflow-sub-if3
 sub-if3 c = search rules
@@ -33,7 +33,7 @@ no-bytes-requires-3 c κs = search rules
 returns-3 : tie.Need-returns-3
 returns-3 c =
     let a = c.before.before.before.before.before.before.args in
-    (ap (λ (r : Bytes). gotOf r a.bytes.now) c.no-bytes3.ensures.0 ∙ copy-over _ a.wire.now a.from a.to (omega arith) (omega arith) c.before.before.before.before.before.before.requires c.before.if3.true, search rules)
+    (ap (λ (r : Bytes). got_of r a.bytes.now) c.no-bytes3.ensures.0 ∙ copy_over _ a.wire.now a.from a.to (omega arith) (omega arith) c.before.before.before.before.before.before.requires c.before.if3.true, search rules)
 
 sub-copy : tie.Need-overflow-sub-copy
 sub-copy c = search rules
@@ -56,7 +56,7 @@ same_length c = search rules
 returns-4 : tie.Need-returns-4
 returns-4 c =
     let a = c.before.before.before.before.before.before.before.before.before.before.args in
-    (copy-all _ a.wire.now a.from a.to (omega arith) (omega arith) c.before.before.before.before.before.before.before.before.before.before.requires a.bytes.now _ refl (omega arith) c.before.before.copy.ensures, omega arith)
+    (copy_all _ a.wire.now a.from a.to (omega arith) (omega arith) c.before.before.before.before.before.before.before.before.before.before.requires a.bytes.now _ refl (omega arith) c.before.before.copy.ensures, omega arith)
 
 pub copy-between-spec : {M : Type 1} → statement M
 copy-between-spec =

@@ -1,7 +1,7 @@
 -- `end_of`: the second half of the last entry.
 use Prim.Native.Nat.{◌-◌}
 use native.Mathlib.Omega.{arith}
-use Rattle.text.proofs.Laws.Memory.{end-at, end_none}
+use Rattle.text.proofs.Laws.Memory.{end_at_lem, end_none}
 use borrow.Author.Rules.{rules}
 use Rattle.text.proofs.wire.end_of.Statement.{statement}
 use Rattle.text.proofs.wire.end_of.Tie as tie
@@ -25,7 +25,7 @@ number-requires : tie.Need-number-requires
 number-requires c κs = search rules
 
 returns-2 : tie.Need-returns-2
-returns-2 c = end-at c.before.before.before.args.wire.now c.before.before.before.args.i (c.before.before.before.args.i - 1) _ (omega arith) c.number.ensures.0
+returns-2 c = end_at_lem c.before.before.before.args.wire.now c.before.before.before.args.i (c.before.before.before.args.i - 1) _ (omega arith) c.number.ensures.0
 
 pub end-of-spec : {M : Type 1} → statement M
 end-of-spec =

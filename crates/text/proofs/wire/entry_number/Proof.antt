@@ -1,5 +1,5 @@
 -- `entry_number`: the first half of an entry.
-use Rattle.text.specs.Memory.{entryNumber}
+use Rattle.text.specs.Memory.{entry_number}
 use borrow.Author.Rules.{rules}
 use Rattle.text.proofs.wire.entry_number.Statement.{statement}
 use Rattle.text.proofs.wire.entry_number.Tie as tie
@@ -14,7 +14,7 @@ number-requires : tie.Need-number-requires
 number-requires c κs = search rules
 
 returns : tie.Need-returns
-unfolding entryNumber
+unfolding entry_number
 returns c = c.number.ensures.0
 
 pub entry-number-spec : {M : Type 1} → statement M

@@ -2,14 +2,14 @@
 use Prim.Native.Nat.{◌≤◌, ◌-◌}
 use mathlib.Core.Path.{◌≡◌, refl, ap, ◌∙◌}
 use native.Mathlib.Omega.{arith}
-use Rattle.text.specs.Memory.{placeBelow}
-use Rattle.text.proofs.Laws.Memory.{place_here, place_none, place-on, place_end}
+use Rattle.text.specs.Memory.{place_below}
+use Rattle.text.proofs.Laws.Memory.{place_here, place_none, place_on, place_end}
 use borrow.Author.Rules.{rules}
 use Rattle.text.proofs.wire.find.Statement.{statement}
 use Rattle.text.proofs.wire.find.Tie as tie
 
 abbrev invariant-loop : tie.invariant-loop
-invariant-loop wanted wire i₀ i = (i ≤ 65536) × (placeBelow wire wanted i ≡ placeBelow wire wanted i₀)
+invariant-loop wanted wire i₀ i = (i ≤ 65536) × (place_below wire wanted i ≡ place_below wire wanted i₀)
 
 abbrev decreases-loop : tie.decreases-loop
 decreases-loop wanted wire i₀ i = i
@@ -30,13 +30,13 @@ returns : tie.Need-returns invariant-loop decreases-loop
 returns c =
     let t = c.before.before.before in
     let a = t.before.before.before.args in
-    (place_here a.wire.now a.wanted t.loop.i (t.loop.i - 1) _ (omega arith) c.before.entry-number.ensures c.if1.true ∙ t.loop.invariant.1 ∙ ap (placeBelow a.wire.now a.wanted) t.before.last-place.ensures.0, omega arith)
+    (place_here a.wire.now a.wanted t.loop.i (t.loop.i - 1) _ (omega arith) c.before.entry-number.ensures c.if1.true ∙ t.loop.invariant.1 ∙ ap (place_below a.wire.now a.wanted) t.before.last-place.ensures.0, omega arith)
 
 returns-2 : tie.Need-returns-2 invariant-loop decreases-loop
 returns-2 c =
     let t = c.before.before.before.before in
     let a = t.before.before.before.args in
-    (place_none a.wire.now a.wanted t.loop.i (t.loop.i - 1) _ (omega arith) c.before.before.entry-number.ensures c.before.if1.false c.if2.true ∙ t.loop.invariant.1 ∙ ap (placeBelow a.wire.now a.wanted) t.before.last-place.ensures.0, omega arith)
+    (place_none a.wire.now a.wanted t.loop.i (t.loop.i - 1) _ (omega arith) c.before.before.entry-number.ensures c.before.if1.false c.if2.true ∙ t.loop.invariant.1 ∙ ap (place_below a.wire.now a.wanted) t.before.last-place.ensures.0, omega arith)
 
 loop-less : tie.Need-loop-smaller invariant-loop decreases-loop
 loop-less c = search rules
@@ -45,13 +45,13 @@ loop-again : tie.Need-loop-preserved invariant-loop decreases-loop
 loop-again c =
     let t = c.before.before.before.before in
     let a = t.before.before.before.args in
-    (omega arith, place-on a.wire.now a.wanted t.loop.i (t.loop.i - 1) _ (omega arith) c.before.before.entry-number.ensures c.before.if1.false (omega arith) ∙ t.loop.invariant.1)
+    (omega arith, place_on a.wire.now a.wanted t.loop.i (t.loop.i - 1) _ (omega arith) c.before.before.entry-number.ensures c.before.if1.false (omega arith) ∙ t.loop.invariant.1)
 
 returns-3 : tie.Need-returns-3 invariant-loop decreases-loop
 returns-3 c =
     let t = c.before in
     let a = t.before.before.before.args in
-    (place_end a.wire.now a.wanted t.loop.i (omega arith) ∙ t.loop.invariant.1 ∙ ap (placeBelow a.wire.now a.wanted) t.before.last-place.ensures.0, omega arith)
+    (place_end a.wire.now a.wanted t.loop.i (omega arith) ∙ t.loop.invariant.1 ∙ ap (place_below a.wire.now a.wanted) t.before.last-place.ensures.0, omega arith)
 
 pub find_spec : {M : Type 1} → statement M
 find_spec =

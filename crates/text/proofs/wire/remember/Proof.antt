@@ -3,7 +3,7 @@ use mathlib.Core.Path.{sym, ◌∙◌}
 use mathlib.Core.Bool.{true, false}
 use mathlib.Core.List.{[], ◌∷◌, ◌++◌}
 use Prim.Native.Nat.{◌+◌}
-use Rattle.text.proofs.Laws.Held.{holds-if}
+use Rattle.text.proofs.Laws.Held.{holds_if}
 use borrow.Author.Rules.{rules}
 use Rattle.text.proofs.wire.remember.Statement.{statement}
 use Rattle.text.proofs.wire.remember.Tie as tie
@@ -20,7 +20,7 @@ same_length c = search rules
 returns : tie.Need-returns
 returns c =
     let a = c.before.before.before.before.before.before.before.before.args in
-    λ ws so. holds-if (ws ++ record { number = a.m.numbered + 1; bytes = a.written.now } ∷ []) ws _ true (sym c.before.before.before.before.before.has_room.ensures ∙ c.before.before.before.before.if1.true) (c.before.before.kept.ensures ws so)
+    λ ws so. holds_if (ws ++ record { number = a.m.numbered + 1; bytes = a.written.now } ∷ []) ws _ true (sym c.before.before.before.before.before.has_room.ensures ∙ c.before.before.before.before.if1.true) (c.before.before.kept.ensures ws so)
 
 forgotten-requires : tie.Need-forgotten-requires
 forgotten-requires c κs = search rules
@@ -28,7 +28,7 @@ forgotten-requires c κs = search rules
 returns-2 : tie.Need-returns-2
 returns-2 c =
     let a = c.before.before.before.before.before.args in
-    λ ws so. holds-if (ws ++ record { number = a.m.numbered + 1; bytes = a.written.now } ∷ []) ws _ false (sym c.before.before.has_room.ensures ∙ c.before.if1.false) (c.forgotten.ensures _ ws so)
+    λ ws so. holds_if (ws ++ record { number = a.m.numbered + 1; bytes = a.written.now } ∷ []) ws _ false (sym c.before.before.has_room.ensures ∙ c.before.if1.false) (c.forgotten.ensures _ ws so)
 
 pub remember-spec : {M : Type 1} → statement M
 remember-spec =

@@ -6,7 +6,7 @@ use lib.ListN.{length, drop}
 use Rattle.text.specs.Word.{before, is}
 use native.Mathlib.Omega.{arith}
 use borrow.Author.Tests.{eq-eqb, ne_eqb}
-use Rattle.text.proofs.Laws.Word.{before_here, before_on, before-end}
+use Rattle.text.proofs.Laws.Word.{before_here, before_on, before_end}
 use borrow.Author.Rules.{rules}
 use Rattle.text.proofs.word.find_byte.Statement.{statement}
 use Rattle.text.proofs.word.find_byte.Tie as tie
@@ -45,7 +45,7 @@ returns-2 : tie.Need-returns-2 invariant-loop decreases-loop
 returns-2 c =
     let t = c.before in
     let l = t.before.args.text.now in
-    (sym (before-end (is t.before.args.byte) l t.loop.i (omega arith)) ∙ t.loop.invariant.2, search rules)
+    (sym (before_end (is t.before.args.byte) l t.loop.i (omega arith)) ∙ t.loop.invariant.2, search rules)
 
 pub find-byte-spec : {M : Type 1} → statement M
 find-byte-spec =

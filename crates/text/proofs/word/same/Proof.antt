@@ -4,20 +4,20 @@ use Prim.Native.Nat.{◌≤◌, ◌-◌}
 use lib.ListN.{length, drop}
 use mathlib.Core.Path.{◌≡◌, refl, sym, ◌∙◌}
 use native.Mathlib.Omega.{arith}
-use Rattle.text.specs.Word.{sameBytes}
-use Rattle.text.proofs.Laws.Word.{same-lengths, same-on, same_not, same_end}
+use Rattle.text.specs.Word.{equal_bytes}
+use Rattle.text.proofs.Laws.Word.{same_lengths, same_on, same_not, same_end}
 use borrow.Author.Rules.{rules}
 use Rattle.text.proofs.word.same.Statement.{statement}
 use Rattle.text.proofs.word.same.Tie as tie
 
 abbrev invariant-loop : tie.invariant-loop
-invariant-loop a b i₀ i = (i ≤ length a) × (sameBytes (drop i a) (drop i b) ≡ sameBytes a b)
+invariant-loop a b i₀ i = (i ≤ length a) × (equal_bytes (drop i a) (drop i b) ≡ equal_bytes a b)
 
 abbrev decreases-loop : tie.decreases-loop
 decreases-loop a b i₀ i = length a - i
 
 returns : tie.Need-returns invariant-loop decreases-loop
-returns c = sym (same-lengths _ _ c.if1.true)
+returns c = sym (same_lengths _ _ c.if1.true)
 
 loop-holds : tie.Need-loop-init invariant-loop decreases-loop
 loop-holds c = (omega arith, refl)
@@ -44,7 +44,7 @@ loop-again : tie.Need-loop-preserved invariant-loop decreases-loop
 loop-again c =
     let t = c.before.before.before.before in
     let a = t.before.before.args in
-    (omega arith, same-on a.a.now a.b.now t.loop.i (omega arith) (omega arith) c.if2.false ∙ t.loop.invariant.1)
+    (omega arith, same_on a.a.now a.b.now t.loop.i (omega arith) (omega arith) c.if2.false ∙ t.loop.invariant.1)
 
 returns-3 : tie.Need-returns-3 invariant-loop decreases-loop
 returns-3 c =

@@ -3,17 +3,17 @@
 use mathlib.Core.Path.{◌≡◌, ap, sym, ◌∙◌}
 use Prim.Native.Nat.{◌+◌, ◌≤◌, ◌-◌}
 use lib.ListN.{length, drop}
-use Rattle.text.specs.Word.{before, isOther}
+use Rattle.text.specs.Word.{before, is_other}
 use mathlib.Core.Bool.{not}
 use native.Mathlib.Omega.{arith}
 use borrow.Author.Tests.{eq-eqb, ne_eqb}
-use Rattle.text.proofs.Laws.Word.{before_here, before_on, before-end}
+use Rattle.text.proofs.Laws.Word.{before_here, before_on, before_end}
 use borrow.Author.Rules.{rules}
 use Rattle.text.proofs.word.skip_spaces.Statement.{statement}
 use Rattle.text.proofs.word.skip_spaces.Tie as tie
 
 abbrev invariant-loop : tie.invariant-loop
-invariant-loop line at i₀ i = (at ≤ i) × (i ≤ length line) × (i + before isOther (drop i line) ≡ at + before isOther (drop at line))
+invariant-loop line at i₀ i = (at ≤ i) × (i ≤ length line) × (i + before is_other (drop i line) ≡ at + before is_other (drop at line))
 
 abbrev decreases-loop : tie.decreases-loop
 decreases-loop line at i₀ i = length line - i
@@ -28,7 +28,7 @@ returns : tie.Need-returns invariant-loop decreases-loop
 returns c =
     let t = c.before.before.before in
     let l = t.before.args.line.now in
-    (sym (before_here isOther l t.loop.i (omega arith) (ap not (ne_eqb _ 32 c.if1.true))) ∙ t.loop.invariant.2, search rules)
+    (sym (before_here is_other l t.loop.i (omega arith) (ap not (ne_eqb _ 32 c.if1.true))) ∙ t.loop.invariant.2, search rules)
 
 add-i : tie.Need-overflow-add-i invariant-loop decreases-loop
 add-i c = search rules
@@ -40,13 +40,13 @@ loop-again : tie.Need-loop-preserved invariant-loop decreases-loop
 loop-again c =
     let t = c.before.before.before in
     let l = t.before.args.line.now in
-    (omega arith, omega arith, sym (before_on isOther l t.loop.i (omega arith) (ap not (eq-eqb _ 32 c.if1.false))) ∙ t.loop.invariant.2)
+    (omega arith, omega arith, sym (before_on is_other l t.loop.i (omega arith) (ap not (eq-eqb _ 32 c.if1.false))) ∙ t.loop.invariant.2)
 
 returns-2 : tie.Need-returns-2 invariant-loop decreases-loop
 returns-2 c =
     let t = c.before in
     let l = t.before.args.line.now in
-    (sym (before-end isOther l t.loop.i (omega arith)) ∙ t.loop.invariant.2, search rules)
+    (sym (before_end is_other l t.loop.i (omega arith)) ∙ t.loop.invariant.2, search rules)
 
 pub skip-spaces-spec : {M : Type 1} → statement M
 skip-spaces-spec =
