@@ -1,6 +1,7 @@
 // The three counters of an exchange: documents, nominal and commission, in whole smallest units (01, 'Centres and
 // directions'). Each has its own type, so that the compiler refuses one where another is due. What the words mean stands
 // in specs/.
+#![tactic(auto)]
 ghost use Rattle.std.specs.Prelude.{◌≡◌};
 ghost use Rattle.amounts.specs.Totals.{zeros, plus, same};
 ghost use Rattle.amounts.specs.Inner.Fits.{SumFits};
@@ -8,19 +9,19 @@ ghost use Rattle.amounts.specs.Inner.Fits.{SumFits};
 pub mod difference;
 
 // How many documents.
-#[derive(Drop)]
+#[derive(Clone, Copy)]
 pub struct Documents(pub u64);
 
 // What the documents are worth together.
-#[derive(Drop)]
+#[derive(Clone, Copy)]
 pub struct Nominal(pub u64);
 
 // The commission on them.
-#[derive(Drop)]
+#[derive(Clone, Copy)]
 pub struct Commission(pub u64);
 
 // The three over some documents: a detail, a lot, a direction.
-#[derive(Drop)]
+#[derive(Clone, Copy)]
 pub struct Totals {
     pub documents: Documents,
     pub nominal: Nominal,

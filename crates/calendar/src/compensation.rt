@@ -6,7 +6,7 @@ use crate::dates::{date_of, day_number, is_day};
 use crate::year::next_day;
 
 // A date is the number DDMM28.
-#[derive(Drop)]
+#[derive(Clone, Copy)]
 pub enum Compensation {
     On(u32),
     NoneLeft,

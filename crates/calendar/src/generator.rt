@@ -10,7 +10,7 @@ pub const YEAR_DAYS: u16 = 366;
 pub const PLACES: usize = YEAR_DAYS as usize;
 
 // What the generator answers.
-#[derive(Drop)]
+#[derive(Clone, Copy)]
 pub enum TableAnswer {
     Made,
     WrongList,

@@ -6,7 +6,7 @@ use crate::compensation::Compensation;
 
 // 0 where the date was found, 1 where none is left in the year, 2 where there is no such day; the date is 0 unless found.
 #[repr(C)]
-#[derive(Drop)]
+#[derive(Clone, Copy)]
 pub struct CompensationShown {
     pub found: u8,
     pub date: u32,

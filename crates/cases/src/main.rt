@@ -1,6 +1,7 @@
 // Runs the cases of 01 that have no star, clock calls at the edges of the hours; a message that is received with lent running
 // totals; and what messages do to running totals, which no script shows. Each line tells the call, its number in two digits,
 // and how the session stands or which code the reply has.
+#![tactic(auto)]
 ghost use Rattle.session.specs.Engine.{Ready};
 ghost use Rattle.centre.specs.Turn.{engine_of};
 

@@ -18,7 +18,7 @@ use receiving::receive::receive;
 
 // A call by its kind and its numbers. The documents of a detail, the message that is received and the reply that is taken
 // stand in a slice beside it.
-#[derive(Drop)]
+#[derive(Clone, Copy)]
 pub enum Order {
     Header(u32, u32, u16, u16),
     Detail(u32, u8),

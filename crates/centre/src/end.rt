@@ -9,7 +9,7 @@ use session::running::{Running, empty};
 use session::session::Session;
 
 // A session, and the running totals of the lots that are open in it, presented and received.
-#[derive(Drop)]
+#[derive(Clone, Copy)]
 pub struct Centre {
     pub session: Session,
     pub presenting: Running,

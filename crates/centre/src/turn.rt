@@ -2,7 +2,7 @@
 // buffer; and the centre that it leaves.
 use crate::end::Centre;
 
-#[derive(Drop)]
+#[derive(Clone, Copy)]
 pub struct Turn {
     pub number: u8,
     pub written: usize,

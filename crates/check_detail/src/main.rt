@@ -1,6 +1,7 @@
 // The check program (01, 'The check program'): takes the bytes of a detail's body from standard input, and prints the code
 // in two digits and the three totals. Where the input cannot be read to its end, there is no body to judge: it says so on
 // standard error, and prints nothing.
+#![tactic(auto)]
 mod input;
 mod line;
 

@@ -15,7 +15,7 @@ const TOO_LONG_BRANCH: u64 = 100_000_000;
 
 const TOO_LONG_ACCOUNT: u64 = 10_000_000_000;
 
-#[derive(Drop)]
+#[derive(Clone, Copy)]
 pub enum KeyedAnswer {
     Passes,
     Fails,

@@ -6,7 +6,7 @@ ghost use Rattle.codes.specs.Code.{code_number, code_byte, read_code};
 
 use packed::writing::packed_byte;
 
-#[derive(Drop)]
+#[derive(Clone, Copy)]
 pub enum Code {
     Accepted,
     WrongField,
@@ -23,7 +23,7 @@ pub enum Code {
 }
 
 // A byte read as a code.
-#[derive(Drop)]
+#[derive(Clone, Copy)]
 pub enum ReadCode {
     Known(Code),
     Unknown,

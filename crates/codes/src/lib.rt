@@ -2,6 +2,7 @@
 // 'Given because of the state'). When each is given is decided by the crates above; here stand the numbers and the chain of
 // codes, in specs/Chain.antt the way in which the paper puts them in order, in specs/Field.antt how a table of fields is
 // written, and what every body begins with.
+#![tactic(auto)]
 
 pub mod body;
 pub mod chain;

@@ -9,7 +9,7 @@ use codes::refusal::{Refusal, refusal_number};
 use document::entities::{LARGEST_ENTITY, entities_good};
 
 #[repr(C)]
-#[derive(Drop)]
+#[derive(Clone, Copy)]
 pub struct Checked {
     pub code: u8,
     pub documents: u64,

@@ -30,7 +30,7 @@ pub fn group_good(g: &[u8]) -> bool
 }
 
 // What the heads of all groups say together.
-#[derive(Drop)]
+#[derive(Clone, Copy)]
 pub struct Heads {
     pub good: bool,
     pub one: bool,

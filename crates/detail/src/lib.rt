@@ -1,5 +1,6 @@
 // A detail (01, 'Detail'): the groups of a body, its codes and totals; and the writing of a body from documents. What the
 // words mean stands in specs/.
+#![tactic(auto)]
 
 pub mod checked;
 mod documents;

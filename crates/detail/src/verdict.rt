@@ -8,7 +8,7 @@ use amounts::Totals;
 use codes::chain::{is_accepted, or_else, when};
 use codes::code::Code;
 
-#[derive(Drop)]
+#[derive(Clone, Copy)]
 pub struct Verdict {
     pub code: Code,
     pub totals: Totals,

@@ -10,7 +10,7 @@ use packed::digits::{are_digits, is_digits};
 const LATE_FIELDS: usize = COMMISSION - DRAWEE;
 
 // Whether all fields are digits, and whether both amounts are.
-#[derive(Drop)]
+#[derive(Clone, Copy)]
 pub struct AllDigits {
     pub fields: bool,
     pub amounts: bool,

@@ -12,7 +12,7 @@ use crate::{COMMISSION, NOMINAL, NOMINAL_BYTES};
 use amounts::{Commission, Documents, Nominal, Totals};
 use packed::number::{number, number4};
 
-#[derive(Drop)]
+#[derive(Clone, Copy)]
 pub struct Found {
     pub fields: bool,
     pub amounts: bool,

@@ -1,5 +1,6 @@
 // What C calls beside the detail check: a script is played, an evening is run over the trays of two ends, and in files of
 // their own what was asked for since. include/line.h says how each is called.
+#![tactic(auto)]
 pub mod commissions;
 pub mod days;
 pub mod keyed;
@@ -16,7 +17,7 @@ use script::player::fresh;
 // How many bytes of the script were played, how many bytes answer them, and why it stopped: 0 where all was played, 1 where
 // the answer to the next line does not fit.
 #[repr(C)]
-#[derive(Drop)]
+#[derive(Clone, Copy)]
 pub struct ScriptPlayed {
     pub read: u64,
     pub written: u64,

@@ -1,5 +1,6 @@
 // Plays the evenings of data/ in a teaching order, and prints the name of each and what it gives. The first lines of a script
 // say what happens in it; docs/SCRIPTS.md explains the language.
+#![tactic(auto)]
 use stream::play_from;
 
 fn evening(name: &[u8]) {

@@ -4,7 +4,7 @@ ghost use Rattle.exchange.specs.Cursors.{presenting, next_operation, moved, same
 
 use document::{DOCUMENT_BYTES, PRESENTED_NUMBER, RETURNED_NUMBER};
 
-#[derive(Drop)]
+#[derive(Clone, Copy)]
 pub struct Cursors {
     pub presentations: usize,
     pub returns: usize,

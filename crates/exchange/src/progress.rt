@@ -10,7 +10,7 @@ use crate::rounds::round;
 use centre::call::Order;
 use session::session::Session;
 
-#[derive(Drop)]
+#[derive(Clone, Copy)]
 pub struct Progress {
     pub last: Round,
     pub cursors: Cursors,

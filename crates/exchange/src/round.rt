@@ -2,7 +2,7 @@
 // made, because the one before it was refused, has the number 0 and leaves its end as it was.
 use centre::end::Centre;
 
-#[derive(Drop)]
+#[derive(Clone, Copy)]
 pub struct Round {
     pub presenter: Centre,
     pub receiver: Centre,

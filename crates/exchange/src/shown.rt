@@ -8,7 +8,7 @@ use session::running::{Running, empty, stated};
 use session::session::Close;
 
 #[repr(C)]
-#[derive(Drop)]
+#[derive(Clone, Copy)]
 pub struct Sums {
     pub lots: u64,
     pub documents: u64,
@@ -17,7 +17,7 @@ pub struct Sums {
 }
 
 #[repr(C)]
-#[derive(Drop)]
+#[derive(Clone, Copy)]
 pub struct Side {
     pub presented: Sums,
     pub received: Sums,
@@ -30,7 +30,7 @@ pub struct Side {
 }
 
 #[repr(C)]
-#[derive(Drop)]
+#[derive(Clone, Copy)]
 pub struct Evening {
     pub code: u8,
     pub near_side: Side,

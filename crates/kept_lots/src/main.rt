@@ -1,6 +1,7 @@
 // An evening at whose end a drawee bank collects: 0081 presents lots to 0072, which keeps the documents of every accepted lot in
 // a lot file. What it hears tells it what to keep: documents that were counted are gathered, and a lot that was counted is added to
 // the file, once, however often its total comes. Each line tells the code of a reply, or what became of the file.
+#![tactic(auto)]
 mod keeping;
 mod line;
 mod print;

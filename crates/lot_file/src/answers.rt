@@ -4,14 +4,14 @@ ghost use Rattle.lot_file.specs.Reading.{check_number, find_shown};
 ghost use Rattle.lot_file.specs.Adding.{add_number};
 ghost use Rattle.lot_file.specs.TakingOut.{take_number};
 
-#[derive(Drop)]
+#[derive(Clone, Copy)]
 pub enum CheckAnswer {
     Good,
     Wrong,
 }
 
 // Where the body starts, and how many documents it has.
-#[derive(Drop)]
+#[derive(Clone, Copy)]
 pub enum FindAnswer {
     Found(u64, u64),
     Wrong,
@@ -20,14 +20,14 @@ pub enum FindAnswer {
 
 // The same as C has it: the paper's number, and zeros beside a code.
 #[repr(C)]
-#[derive(Drop)]
+#[derive(Clone, Copy)]
 pub struct FindShown {
     pub code: u8,
     pub start: u64,
     pub documents: u64,
 }
 
-#[derive(Drop)]
+#[derive(Clone, Copy)]
 pub enum AddAnswer {
     Added,
     Wrong,
@@ -35,7 +35,7 @@ pub enum AddAnswer {
     NoRoom,
 }
 
-#[derive(Drop)]
+#[derive(Clone, Copy)]
 pub enum TakeAnswer {
     TakenOut,
     Wrong,

@@ -17,7 +17,7 @@ pub const ROWS: usize = MOST_LOTS;
 pub const MOST_DOCUMENTS: usize = MOST_LOT_DOCUMENTS as usize;
 
 // Whether a slice is good; how many rows are used, and where the last body ends.
-#[derive(Drop)]
+#[derive(Clone, Copy)]
 pub struct Contents {
     pub good: bool,
     pub used: usize,

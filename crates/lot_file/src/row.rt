@@ -13,7 +13,7 @@ pub const ROW_BYTES: usize = 10;
 const LARGEST_NUMBER: usize = LARGEST_ORDER_NUMBER as usize;
 
 // Order number, where the body starts, how many documents it has.
-#[derive(Drop)]
+#[derive(Clone, Copy)]
 pub struct Row {
     pub number: usize,
     pub start: usize,

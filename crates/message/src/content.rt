@@ -13,7 +13,7 @@ pub const LOT_TOTAL: u8 = 0x80;
 pub const SESSION_TOTAL: u8 = 0x90;
 
 // What a body is. Unknown bodies earn 01.
-#[derive(Drop)]
+#[derive(Clone, Copy)]
 pub enum Content {
     Header,
     Detail,

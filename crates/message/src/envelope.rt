@@ -29,20 +29,20 @@ const SERIAL: usize = 8;
 const DIGITS: usize = ENVELOPE_BYTES - ROUTE;
 
 // What follows an envelope.
-#[derive(Drop)]
+#[derive(Clone, Copy)]
 pub enum Kind {
     Message,
     Reply,
 }
 
-#[derive(Drop)]
+#[derive(Clone, Copy)]
 pub struct Envelope {
     pub route: Route,
     pub serial: u32,
 }
 
 // An envelope, or 21.
-#[derive(Drop)]
+#[derive(Clone, Copy)]
 pub enum ReadEnvelope {
     Read(Envelope),
     Wrong,

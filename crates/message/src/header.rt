@@ -36,7 +36,7 @@ pub const LARGEST_ORDER_NUMBER: u16 = 9999;
 const LARGEST_CENTRE: u16 = 9999;
 
 // What a header says beside its route. The time is hhmmsscc.
-#[derive(Drop)]
+#[derive(Clone, Copy)]
 pub struct Header {
     pub time: u32,
     pub centre: u16,
@@ -44,7 +44,7 @@ pub struct Header {
 }
 
 // A header, or 01.
-#[derive(Drop)]
+#[derive(Clone, Copy)]
 pub enum ReadHeader {
     Read(Header),
     Wrong,

@@ -17,21 +17,21 @@ use packed::writing::packed_byte;
 pub const REPLY_BYTES: usize = 4;
 
 // What a reply answers.
-#[derive(Drop)]
+#[derive(Clone, Copy)]
 pub enum ReplyOperation {
     Other,
     LotTotal,
     SessionTotal,
 }
 
-#[derive(Drop)]
+#[derive(Clone, Copy)]
 pub struct Reply {
     pub operation: ReplyOperation,
     pub code: Code,
 }
 
 // A reply, or 22.
-#[derive(Drop)]
+#[derive(Clone, Copy)]
 pub enum ReadReply {
     Read(Reply),
     Unknown,

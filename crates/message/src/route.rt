@@ -9,7 +9,7 @@ use packed::number::{number, number2};
 use packed::writing::put;
 
 // The date is the number DDMMYY.
-#[derive(Drop)]
+#[derive(Clone, Copy)]
 pub struct Route {
     pub date: u32,
     pub presenting: u16,

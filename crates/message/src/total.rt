@@ -38,14 +38,14 @@ const SESSION_NOMINAL: usize = 9;
 const SESSION_COMMISSION: usize = 7;
 
 // What a total states. The number is a lot's order number, or how many lots a session total counts.
-#[derive(Drop)]
+#[derive(Clone, Copy)]
 pub struct Total {
     pub number: u16,
     pub stated: Totals,
 }
 
 // A total, or its code, 01 or 03.
-#[derive(Drop)]
+#[derive(Clone, Copy)]
 pub enum ReadTotal {
     Read(Total),
     Wrong(Code),

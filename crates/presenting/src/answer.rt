@@ -18,7 +18,7 @@ use message::envelope::LARGEST_SERIAL;
 use session::session::{Answer, Session};
 
 // A message of so many bytes stands in the line buffer; or the presenter's own code stopped it; or it was refused.
-#[derive(Drop)]
+#[derive(Clone, Copy)]
 pub enum SendAnswer {
     Written(usize),
     Stopped(Code),
@@ -26,7 +26,7 @@ pub enum SendAnswer {
 }
 
 // What a send gives. Running totals are not changed by it.
-#[derive(Drop)]
+#[derive(Clone, Copy)]
 pub struct SendOutcome {
     pub answer: SendAnswer,
     pub session: Session,

@@ -28,14 +28,14 @@ use session::running::Running;
 use session::session::{Answer, Presenting, Session};
 
 // What a reply call gives, and the running totals that it leaves.
-#[derive(Drop)]
+#[derive(Clone, Copy)]
 pub struct ReplyOutcome {
     pub running: Running,
     pub called: Called,
 }
 
 // What refuses a reply, and whether its code accepts what was sent.
-#[derive(Drop)]
+#[derive(Clone, Copy)]
 pub struct Arrival {
     pub answer: Answer,
     pub accepted: bool,

@@ -34,7 +34,7 @@ pub fn header_stop(time: u32, moment: u32, centre: u16, number: u16, p: Presenti
 }
 
 // A part that is to be sent: its code, and what its documents add where there is none.
-#[derive(Drop)]
+#[derive(Clone, Copy)]
 pub struct PartStop {
     pub code: Code,
     pub adds: Running,

@@ -11,7 +11,7 @@ use session::effect::Effect;
 use session::running::stated;
 
 // Whether an accepted lot has the number, and whether one has the totals.
-#[derive(Drop)]
+#[derive(Clone, Copy)]
 pub struct Used {
     pub number: bool,
     pub totals: bool,

@@ -13,7 +13,7 @@ use message::route::{Route, same_route};
 use session::session::Answer;
 
 // The refusal, and whether the message is a new one or the last again.
-#[derive(Drop)]
+#[derive(Clone, Copy)]
 pub struct Arrival {
     pub answer: Answer,
     pub next: bool,

@@ -25,7 +25,7 @@ use session::running::{Running, adding, stated};
 use session::session::Receiving;
 
 // A message's code, and what it does. Of a refused one it counts only whether it is a lot total, which ends its lot.
-#[derive(Drop)]
+#[derive(Clone, Copy)]
 pub struct Found {
     pub code: Code,
     pub effect: Effect,

@@ -14,7 +14,7 @@ use session::running::Running;
 use session::session::Receiving;
 
 // The direction, and the running totals beside it.
-#[derive(Drop)]
+#[derive(Clone, Copy)]
 pub struct Handled {
     pub receiving: Receiving,
     pub running: Running,

@@ -21,7 +21,7 @@ use session::session::{Answer, Session};
 
 // What receiving gives. A message that earns a code is not refused: its reply, which carries the code, is the first
 // `written` bytes of the line buffer.
-#[derive(Drop)]
+#[derive(Clone, Copy)]
 pub struct Received {
     pub answer: Answer,
     pub written: usize,
@@ -29,7 +29,7 @@ pub struct Received {
 }
 
 // The same, and the running totals that it leaves.
-#[derive(Drop)]
+#[derive(Clone, Copy)]
 pub struct ReceiveOutcome {
     pub running: Running,
     pub received: Received,

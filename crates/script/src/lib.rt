@@ -2,6 +2,7 @@
 // centres, and each call is answered by a line. Everything is over lent slices. The contracts say what each line means, what
 // it does to the two sessions and their running totals, and which bytes of the output keep their values; the text of an answer
 // they leave open.
+#![tactic(auto)]
 
 mod answer;
 pub mod play;

@@ -21,7 +21,7 @@ const MOST_BYTES: usize = LONGEST_LINE / 2;
 
 // A line that was played: how many bytes answer it, and the player that it leaves; or that the answer does not fit, and then
 // nothing was done.
-#[derive(Drop)]
+#[derive(Clone, Copy)]
 pub struct LinePlayed {
     pub player: Player,
     pub written: usize,
@@ -82,7 +82,7 @@ fn written_number(memory: Memory, written: usize) -> u64 {
 }
 
 // What was done at a seat: how many words answer it, and how many bytes behind them.
-#[derive(Drop)]
+#[derive(Clone, Copy)]
 pub struct Answered {
     pub seat: Seat,
     pub words: usize,
@@ -127,7 +127,7 @@ fn answer_at(
 }
 
 // How many bytes of output were written, or that the answer does not fit.
-#[derive(Drop)]
+#[derive(Clone, Copy)]
 pub struct Emitted {
     pub count: usize,
     pub full: bool,
@@ -227,7 +227,7 @@ fn play_line(
 }
 
 // Why a text was not played further.
-#[derive(Drop)]
+#[derive(Clone, Copy)]
 pub enum Stop {
     // All of it was.
     Done,
@@ -238,7 +238,7 @@ pub enum Stop {
 }
 
 // How many bytes of a text were played, how many bytes of output answer them, and the player that they leave.
-#[derive(Drop)]
+#[derive(Clone, Copy)]
 pub struct Played {
     pub player: Player,
     pub read: usize,
@@ -248,7 +248,7 @@ pub struct Played {
 
 // The next line of a text: where it ends, where the one after it begins, and whether its rest is still to come and to be
 // passed over; or that it is not finished.
-#[derive(Drop)]
+#[derive(Clone, Copy)]
 pub struct Cut {
     pub finished: bool,
     pub to: usize,

@@ -13,14 +13,14 @@ use session::session::Session;
 use text::wire::{Memory, nothing};
 
 // An end. Until a start there succeeds it has no session, and a closed one stands in its place, which no call reaches.
-#[derive(Drop)]
+#[derive(Clone, Copy)]
 pub struct Seat {
     pub started: bool,
     pub centre: Centre,
 }
 
 // Both ends, what unrefused calls wrote, and whether the rest of a line that was too long is still to be passed over.
-#[derive(Drop)]
+#[derive(Clone, Copy)]
 pub struct Player {
     pub near: Seat,
     pub far: Seat,
@@ -29,7 +29,7 @@ pub struct Player {
 }
 
 // What a call at a seat gives.
-#[derive(Drop)]
+#[derive(Clone, Copy)]
 pub struct Step {
     pub number: u8,
     pub written: usize,

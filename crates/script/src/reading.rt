@@ -14,7 +14,7 @@ const MOST_ENTITIES: usize = 16;
 
 // What a line asks of its end: nothing, as a report and a line that is no call do; a start, whose represented entities stand
 // beside it; or a call, whose bytes do.
-#[derive(Drop)]
+#[derive(Clone, Copy)]
 pub enum Asked {
     Nothing,
     Start(u32, u16, u16),
@@ -23,7 +23,7 @@ pub enum Asked {
 
 // A line that asks something of the near end, A, or of the far one, B. Of the entities the first `more` are meant, and of the
 // buffer beside it the first `bytes`; `room` is the length of the line buffer.
-#[derive(Drop)]
+#[derive(Clone, Copy)]
 pub struct Reading {
     pub kind: Kind,
     pub near: bool,

@@ -3,14 +3,14 @@ use crate::limits::MOST_LOTS;
 use crate::running::Running;
 
 // A lot that is open, by its order number.
-#[derive(Drop)]
+#[derive(Clone, Copy)]
 pub enum OpenLot {
     None,
     Numbered(u16),
 }
 
 // A lot by its order number and what it gathered.
-#[derive(Drop)]
+#[derive(Clone, Copy)]
 pub struct Lot {
     pub number: u16,
     pub gathered: Running,
@@ -20,7 +20,7 @@ pub struct Lot {
 pub type Lots = [Lot; MOST_LOTS];
 
 // The open lot, how many lots were accepted, and what they gathered together.
-#[derive(Drop)]
+#[derive(Clone, Copy)]
 pub struct Counters {
     pub current: OpenLot,
     pub lots: usize,
@@ -28,7 +28,7 @@ pub struct Counters {
 }
 
 // The counters of a direction, and the running totals that are lent with them.
-#[derive(Drop)]
+#[derive(Clone, Copy)]
 pub struct Course {
     pub counters: Counters,
     pub running: Running,

@@ -4,7 +4,7 @@ use crate::running::Running;
 
 // The order number that a header opens, what a detail adds, the lot that a lot total ends. A presenter that awaits no reply
 // has `Nothing` pending; a body that is no message does nothing.
-#[derive(Drop)]
+#[derive(Clone, Copy)]
 pub enum Effect {
     Nothing,
     Header(u16),

@@ -2,6 +2,7 @@
 // 02, card 2, for one of the hours).
 // What every call means stands in specs/, with the claim about both ends of a line; proofs/ holds its proof. The calls
 // themselves are functions of the crates above.
+#![tactic(auto)]
 
 pub mod counters;
 pub mod effect;

@@ -7,7 +7,7 @@ use document::entities::{LARGEST_ENTITY, MOST_REPRESENTED, entities_good};
 use document::rules::day_and_month;
 
 // The date is the number DDMMYY; of the represented entities the first `count` are meant.
-#[derive(Drop)]
+#[derive(Clone, Copy)]
 pub struct Parties {
     pub date: u32,
     pub own: u16,

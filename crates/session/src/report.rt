@@ -4,14 +4,14 @@ use crate::running::Running;
 use crate::session::Close;
 
 // The accepted lots of a direction: how many, and what they gathered.
-#[derive(Drop)]
+#[derive(Clone, Copy)]
 pub struct Tally {
     pub lots: usize,
     pub gathered: Running,
 }
 
 // What awaits a reply, if it is a total.
-#[derive(Drop)]
+#[derive(Clone, Copy)]
 pub enum Awaited {
     Neither,
     LotTotal(Lot),
@@ -19,14 +19,14 @@ pub enum Awaited {
 }
 
 // What was presented less what was received, of the accepted lots.
-#[derive(Drop)]
+#[derive(Clone, Copy)]
 pub struct Positions {
     pub nominal: i64,
     pub commission: i64,
 }
 
 // Both directions, the close, the two signed positions, and what is awaited.
-#[derive(Drop)]
+#[derive(Clone, Copy)]
 pub struct Report {
     pub presented: Tally,
     pub received: Tally,

@@ -6,7 +6,7 @@ ghost use Rattle.session.specs.Running.{empty, adding, gather, stated, documents
 
 use amounts::Totals;
 
-#[derive(Drop)]
+#[derive(Clone, Copy)]
 pub struct Running {
     pub totals: Totals,
 }

@@ -13,7 +13,7 @@ use codes::refusal::Refusal;
 use message::reply::{Reply, ReplyOperation};
 
 // How a session was closed, if it was.
-#[derive(Drop)]
+#[derive(Clone, Copy)]
 pub enum Close {
     Open,
     Ordered,
@@ -22,7 +22,7 @@ pub enum Close {
 
 // The direction in which the centre presents: the last serial that it used, what awaits a reply, what was accepted, and
 // whether the session total was.
-#[derive(Drop)]
+#[derive(Clone, Copy)]
 pub struct Presenting {
     pub serial: u32,
     pub pending: Effect,
@@ -32,7 +32,7 @@ pub struct Presenting {
 
 // The direction in which it receives: the last serial that it took, the reply to it, what was accepted, whether the session
 // total was, and the accepted lots, of which as many are meant as the counters say.
-#[derive(Drop)]
+#[derive(Clone, Copy)]
 pub struct Receiving {
     pub serial: u32,
     pub reply: Reply,
@@ -42,7 +42,7 @@ pub struct Receiving {
 }
 
 // All that a centre keeps of an evening, but for the running totals of its open lots, which are lent with each call.
-#[derive(Drop)]
+#[derive(Clone, Copy)]
 pub struct Session {
     pub parties: Parties,
     pub presenting: Presenting,
@@ -52,14 +52,14 @@ pub struct Session {
 }
 
 // A call is done, or refused.
-#[derive(Drop)]
+#[derive(Clone, Copy)]
 pub enum Answer {
     Done,
     Refused(Refusal),
 }
 
 // What a start gives.
-#[derive(Drop)]
+#[derive(Clone, Copy)]
 pub struct Started {
     pub answer: Answer,
     pub session: Session,

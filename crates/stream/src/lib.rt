@@ -1,5 +1,6 @@
 // A script that comes through a descriptor, of any length: it is read in pieces, played, and answered on standard output as
 // it goes. Nothing is known of what is read or written; what playing does is the promise of the crate script.
+#![tactic(auto)]
 ghost use Rattle.std.specs.Prelude.{◌+◌, ◌≤◌, length};
 ghost use Rattle.stream.specs.Stream.{Filled};
 
@@ -8,7 +9,7 @@ use script::player::{Player, fresh};
 use text::wire::WIRE_BYTES;
 
 // Between two pieces: the player, how many bytes wait in the input, whether no more will come, and whether all is done.
-#[derive(Drop)]
+#[derive(Clone, Copy)]
 pub struct Stream {
     pub player: Player,
     pub filled: usize,

@@ -8,7 +8,7 @@ use crate::row::LARGEST_COMMISSION;
 use crate::search::{is_known, rule_of};
 
 // What the call answers.
-#[derive(Drop)]
+#[derive(Clone, Copy)]
 pub enum CommissionAnswer {
     Given(u64),
     WrongTariff,
@@ -18,7 +18,7 @@ pub enum CommissionAnswer {
 
 // The same as C has it: the paper's number, and the commission, 0 beside a code.
 #[repr(C)]
-#[derive(Drop)]
+#[derive(Clone, Copy)]
 pub struct CommissionShown {
     pub code: u8,
     pub commission: u64,

@@ -3,7 +3,7 @@ ghost use Rattle.std.specs.Prelude.{◌≡◌, eqb};
 ghost use Rattle.tariff.specs.Tray.{fill_shown};
 
 // How many documents were filled, or what stopped the call; of a document its place, counted from 0.
-#[derive(Drop)]
+#[derive(Clone, Copy)]
 pub enum FillAnswer {
     Filled(u64),
     WrongTariff,
@@ -15,7 +15,7 @@ pub enum FillAnswer {
 
 // The same as C has it: the paper's number, and the documents, 0 beside 42 and 25.
 #[repr(C)]
-#[derive(Drop)]
+#[derive(Clone, Copy)]
 pub struct FillShown {
     pub code: u8,
     pub documents: u64,

@@ -13,7 +13,7 @@ use document::{COMMISSION, COMMISSION_BYTES, DOCUMENT_BYTES, NOMINAL, NOMINAL_BY
 use packed::digits::are_digits;
 use packed::number::number2;
 
-#[derive(Drop)]
+#[derive(Clone, Copy)]
 pub enum Earned {
     Nothing,
     WrongKey,

@@ -1,5 +1,6 @@
 // The commission of presented documents by their tariff key, worked out before they are sent: a tariff, what its keys say,
 // the commission of one document, and those of a tray. No session asks a tariff. What the words mean stands in specs/.
+#![tactic(auto)]
 
 pub mod commission;
 mod due;

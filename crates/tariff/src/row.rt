@@ -12,7 +12,7 @@ const LARGEST_RATE: u32 = 10_000;
 pub const LARGEST_COMMISSION: u32 = 99_999_999;
 
 // The rate is per ten thousand; least and greatest bound the commission.
-#[derive(Drop)]
+#[derive(Clone, Copy)]
 pub struct Row {
     pub key: u32,
     pub rate: u32,

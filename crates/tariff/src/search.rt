@@ -6,7 +6,7 @@ ghost use Rattle.tariff.specs.Commission.{searched, rule_of, is_known, key_known
 use crate::row::{ROW_NUMBERS, Row, row_in};
 
 // The typed commission is kept, a row of the tariff decides, or the key is unknown.
-#[derive(Drop)]
+#[derive(Clone, Copy)]
 pub enum Rule {
     Typed,
     ByRow(Row),

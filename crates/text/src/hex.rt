@@ -10,7 +10,7 @@ use crate::digit::digit;
 use crate::word::same;
 
 // How many bytes were read, if they were.
-#[derive(Drop)]
+#[derive(Clone, Copy)]
 pub struct Bytes {
     pub good: bool,
     pub count: usize,

@@ -6,7 +6,7 @@ ghost use Rattle.text.specs.Inner.Kind.{Sized};
 use crate::word::same;
 
 // What a line is: a call, by its word; or no call, to be passed over or to be answered as a bad one.
-#[derive(Drop)]
+#[derive(Clone, Copy)]
 pub enum Kind {
     Start,
     Header,
@@ -22,7 +22,7 @@ pub enum Kind {
 }
 
 // Where bytes stand in a line, if they do.
-#[derive(Drop)]
+#[derive(Clone, Copy)]
 pub enum Source {
     None,
     Hex,
@@ -31,7 +31,7 @@ pub enum Source {
 
 // What follows the end in a line of a kind: so many numbers, bytes, and at most so many numbers more, of which one may be the
 // room of the line buffer.
-#[derive(Drop)]
+#[derive(Clone, Copy)]
 pub struct Shape {
     pub asked: usize,
     pub source: Source,

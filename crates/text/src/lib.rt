@@ -3,6 +3,7 @@
 // equated with a definition of specs/; specs/Line.antt reads like the document. `recalled` is what is found in the lent bytes,
 // whatever they hold; where they hold a list of what was written (`Holds`, which `remember` keeps), it is what that list has
 // under the number (`recalls`).
+#![tactic(auto)]
 
 mod digit;
 pub mod hex;

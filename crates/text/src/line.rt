@@ -25,7 +25,7 @@ pub const MOST_NUMBERS: usize = 19;
 
 // A line that was read. It says something to the near end, A, or to the far one, B. Of the numbers the first `count` are
 // meant, and of the buffer beside it the first `bytes`; `room` is the length of the line buffer.
-#[derive(Drop)]
+#[derive(Clone, Copy)]
 pub struct Line {
     pub kind: Kind,
     pub near: bool,
@@ -52,7 +52,7 @@ fn no_call(kind: Kind) -> Line
 }
 
 // Numbers that were read: how many, where the line goes on, and whether they all were numbers.
-#[derive(Drop)]
+#[derive(Clone, Copy)]
 pub struct Numbers {
     pub count: usize,
     pub at: usize,
@@ -136,7 +136,7 @@ fn read_word(word: &[u8], memory: Memory, wire: &[u8], bytes: &mut [u8]) -> Byte
 }
 
 // The bytes of a line, if its kind has some, and where the line goes on.
-#[derive(Drop)]
+#[derive(Clone, Copy)]
 pub struct Data {
     pub bytes: Bytes,
     pub at: usize,
@@ -182,7 +182,7 @@ fn is_over(line: &[u8], at: usize) -> bool
 }
 
 // What stands behind the end: whether it is as the shape says, all its numbers, and how many bytes it has.
-#[derive(Drop)]
+#[derive(Clone, Copy)]
 pub struct Parts {
     pub good: bool,
     pub numbers: [u64; MOST_NUMBERS],
@@ -219,7 +219,7 @@ fn read_parts(
 }
 
 // An end of a line: whether it is one, whether it is the near one, and where the line goes on.
-#[derive(Drop)]
+#[derive(Clone, Copy)]
 pub struct End {
     pub good: bool,
     pub near: bool,

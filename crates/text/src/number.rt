@@ -4,7 +4,7 @@ ghost use Rattle.text.specs.Number.{decimal, are_decimal, is_sized, is_number, n
 
 use crate::digit::digit;
 
-#[derive(Drop)]
+#[derive(Clone, Copy)]
 pub struct Number {
     pub good: bool,
     pub value: u64,

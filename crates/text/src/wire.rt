@@ -31,7 +31,7 @@ const LAST_NUMBER: u64 = 9_999_999_999_999_999;
 pub const WIRE_BYTES: usize = CONTENTS + MOST_ENTRIES * ENTRY_BYTES;
 
 // How many were written, how many of them are kept, and how many bytes those take.
-#[derive(Drop)]
+#[derive(Clone, Copy)]
 pub struct Memory {
     pub numbered: u64,
     pub kept: usize,

@@ -5,7 +5,7 @@ ghost use Rattle.text.specs.Word.{equal_bytes, before, is, is_other};
 ghost use Rattle.text.specs.Inner.Word.{NextWord};
 
 // Where a word stands, and where it ends; nothing stands there where the line has no more words.
-#[derive(Drop)]
+#[derive(Clone, Copy)]
 pub struct Word {
     pub from: usize,
     pub to: usize,

@@ -10,8 +10,7 @@ use mir.Syntax.{w64}
 use mir.Val.{Fits, SFits, to_z, of_z}
 use mir.Facts.{to_z-of_z, Fits-of_z, sfits_to_z}
 use borrow.Author.Tests.{ltb-true}
-use Rattle.amounts.proofs.difference.magnitude.Statement.{statement}
-use Rattle.amounts.proofs.difference.magnitude.Tie as tie
+use Rattle.amounts.proofs.difference.magnitude.Goals as goal
 
 -- what the machine reads back from the bits of a number
 abbrev read : ℤ → ℤ
@@ -41,35 +40,32 @@ not_below : (z : ℤ) → SFits w64 z → lt_z z (pos 0) ≡ false → T (non_ne
 not_below (pos k) f e = (tt, record { fits = omega (arith, f.sfits) })
 not_below (negsuc k) f e = absurd (false≢true (sym e))
 
-known : (c : tie.Then1) → Turned (read c.before.args.n)
-known c = below_zero (read c.before.args.n) (sfits_to_z (Fits-of_z c.before.ranges.n)) c.if1.true
+known : (c : goal.Then-n-lt0) → Turned (read c.args.n)
+known c = below_zero (read c.args.n) (sfits_to_z (Fits-of_z c.ranges.n)) c.if-n-lt0.true
 
-turned : (c : tie.Then1) → pos 0 -ℤ read (read c.before.args.n +ℤ pos 1) ≡ pos (known c).rest
+turned : (c : goal.Then-n-lt0) → pos 0 -ℤ read (read c.args.n +ℤ pos 1) ≡ pos (known c).rest
 turned c = ap (λ (z : ℤ). pos 0 -ℤ z) (to_z-of_z (known c).raised) ∙ (known c).turned
 
-rest : (c : tie.Then1) → read (pos 0 -ℤ read (read c.before.args.n +ℤ pos 1)) ≡ pos (known c).rest
+rest : (c : goal.Then-n-lt0) → read (pos 0 -ℤ read (read c.args.n +ℤ pos 1)) ≡ pos (known c).rest
 rest c = ap read (turned c) ∙ to_z-of_z (known c).small
 
-add-result : tie.Need-overflow-add-result
-add-result c = (known c).raised
+pub overflow_add-result : goal.overflow_add-result
+overflow_add-result c = (known c).raised
 
-sub-result : tie.Need-overflow-sub-result
-sub-result c = subst (SFits w64) (sym (turned c)) (known c).small
+pub overflow_sub-result : goal.overflow_sub-result
+overflow_sub-result c = subst (SFits w64) (sym (turned c)) (known c).small
 
-cast-result : tie.Need-overflow-cast-result
-cast-result c = subst (λ (z : ℤ). T (non_neg z) × Fits w64 (nat_abs z)) (sym (rest c)) (tt, record { fits = omega (arith, (known c).small.sfits) })
+pub overflow_cast-result : goal.overflow_cast-result
+overflow_cast-result c = subst (λ (z : ℤ). T (non_neg z) × Fits w64 (nat_abs z)) (sym (rest c)) (tt, record { fits = omega (arith, (known c).small.sfits) })
 
-add-result-2 : tie.Need-overflow-add-result-2
-add-result-2 c = subst (λ (z : ℤ). Fits w64 (nat_abs z + 1)) (sym (rest c)) (record { fits = omega (arith, (known c).small.sfits) })
+pub overflow_add-result-then-n-lt0 : goal.overflow_add-result-then-n-lt0
+overflow_add-result-then-n-lt0 c = subst (λ (z : ℤ). Fits w64 (nat_abs z + 1)) (sym (rest c)) (record { fits = omega (arith, (known c).small.sfits) })
 
-returns : tie.Need-returns
-returns c = ap (λ (z : ℤ). nat_abs z + 1) (rest c) ∙ (known c).whole ∙ ap nat_abs (to_z-of_z c.before.ranges.n)
+pub returns-then-n-lt0 : goal.returns-then-n-lt0
+returns-then-n-lt0 c = ap (λ (z : ℤ). nat_abs z + 1) (rest c) ∙ (known c).whole ∙ ap nat_abs (to_z-of_z c.ranges.n)
 
-cast-result-2 : tie.Need-overflow-cast-result-2
-cast-result-2 c = not_below (read c.before.args.n) (sfits_to_z (Fits-of_z c.before.ranges.n)) c.if1.false
+pub overflow_cast-result-2 : goal.overflow_cast-result-2
+overflow_cast-result-2 c = not_below (read c.args.n) (sfits_to_z (Fits-of_z c.ranges.n)) c.if-n-lt0.false
 
-returns-2 : tie.Need-returns-2
-returns-2 c = ap nat_abs (to_z-of_z c.before.ranges.n)
-
-pub magnitude-spec : {M : Type 1} → statement M
-magnitude-spec = tie.close (tie.spec add-result sub-result cast-result add-result-2 returns cast-result-2 returns-2)
+pub returns : goal.returns
+returns c = ap nat_abs (to_z-of_z c.ranges.n)
