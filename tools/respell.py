@@ -14,6 +14,8 @@ from pathlib import Path
 
 INSIDE = r"[\w\-'≡≢≤≥<>·◌+*/^%&|∷₀-₉]"
 DECLARED = re.compile(r"^\s*(?:(?:pub|abbrev|unfoldable|opaque)\s+)*([a-zàé][\w\-'≢≡₀-₉]*)((?:\s*\{[^}]*\})*)\s*:\s(.*)$")
+# what the kit's library declares too, and imports name
+LIBRARY = {"or-false"}
 GOAL = re.compile(r"^(tie\.|goal\.|\{M : Type 1\} → statement)")
 # a name that would fall together with another of its file, and what it becomes instead
 OTHERWISE = {
@@ -54,7 +56,7 @@ def table(root):
     names = {name: snake(name) for name in VARIABLES}
     for path in texts(root, ".antt"):
         for name in declared(path):
-            if "-" in name or re.search(r"[a-z][A-Z]", name):
+            if name not in LIBRARY and ("-" in name or re.search(r"[a-z][A-Z]", name)):
                 names[name] = OTHERWISE.get(name, snake(name))
     # where a lemma would get the name of what it speaks of, it is the lemma of that name
     for name in names:

@@ -45,9 +45,9 @@ pub numbers_last : (lots : List Stored) (x : Stored) → lot_numbers (lots ++ x 
 numbers_last [] x = refl
 numbers_last (lot ∷ lots) x = ap (λ (l : List ℕ). lot.number ∷ l) (numbers_last lots x)
 
-or_false : (t : Bool) → t || (false || false) ≡ t
-or_false true = refl
-or_false false = refl
+or-false : (t : Bool) → t || (false || false) ≡ t
+or-false true = refl
+or-false false = refl
 
 module _ (lots : List Stored) (number : ℕ) (tray : List ℕ) where
   pub new_body : member number (lot_numbers lots) ≡ false → body_in (with_lot lots number tray) number ≡ tray
@@ -65,7 +65,7 @@ module _ (lots : List Stored) (number : ℕ) (tray : List ℕ) where
   new_there n = ap (member n) (numbers_last lots (record { number = number; body = tray })) ∙ member_append n (lot_numbers lots) (number ∷ [])
 
   pub old_there : (n : ℕ) → (n ≡ number → ⊥) → member n (lot_numbers (with_lot lots number tray)) ≡ member n (lot_numbers lots)
-  old_there n other = new_there n ∙ ap (λ (t : Bool). member n (lot_numbers lots) || (t || false)) (ne_eqb n number other) ∙ or_false (member n (lot_numbers lots))
+  old_there n other = new_there n ∙ ap (λ (t : Bool). member n (lot_numbers lots) || (t || false)) (ne_eqb n number other) ∙ or-false (member n (lot_numbers lots))
 
 -- a lot less
 pub rest_body : (number : ℕ) (lots : List Stored) (n : ℕ) → (n ≡ number → ⊥) → body_in (without number lots) n ≡ body_in lots n

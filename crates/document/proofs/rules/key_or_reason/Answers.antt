@@ -3,17 +3,13 @@ use mathlib.Core.Path.{◌≡◌, refl}
 use mathlib.Core.Bool.{Bool, true, false, not, ◌&&◌, ◌||◌, cond}
 use lib.Dec.{eqb, leb}
 use Rattle.document.specs.Operation.{returned}
-use Rattle.document.proofs.rules.key_or_reason.Statement.{statement}
-use Rattle.document.proofs.rules.key_or_reason.Tie as tie
+use Rattle.document.proofs.rules.key_or_reason.Goals as goal
 
 chosen : (test a b : Bool) → not test || a || b ≡ cond test (a || b) true
 chosen true a b = refl
 chosen false a b = refl
 
-returns : tie.Need-returns
+pub returns : goal.returns
 returns c =
     let v = c.args.v in
     chosen (eqb c.args.operation returned) (leb 1 v && leb v 49) (leb 51 v && leb v 99)
-
-pub key-or-reason-spec : {M : Type 1} → statement M
-key-or-reason-spec = tie.close (tie.spec returns)
