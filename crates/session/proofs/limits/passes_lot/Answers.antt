@@ -6,18 +6,14 @@ use native.Mathlib.Omega.{arith}
 use borrow.Author.Tests.{lt-ltb, le-ltb, ltb-true, ltb-false}
 use lib.Dec.{ltb}
 use Rattle.session.specs.Limits.{most_lot_documents}
-use Rattle.session.proofs.limits.passes_lot.Statement.{statement}
-use Rattle.session.proofs.limits.passes_lot.Tie as tie
-
-returns : tie.Need-returns
-returns c = let a = c.before.args in sym (lt-ltb most_lot_documents (a.gathered + a.more) (omega (arith, c.if1.true)))
+use Rattle.session.proofs.limits.passes_lot.Goals as goal
 
 left_over : (g m : ℕ) → g ≤ most_lot_documents → (t : Bool) → ltb (most_lot_documents - g) m ≡ t → t ≡ ltb most_lot_documents (g + m)
 left_over g m h true e = sym (lt-ltb most_lot_documents (g + m) (omega (arith, ltb-true (most_lot_documents - g) m e)))
 left_over g m h false e = sym (le-ltb most_lot_documents (g + m) (omega (arith, ltb-false (most_lot_documents - g) m e)))
 
-returns-2 : tie.Need-returns-2
-returns-2 c = let a = c.before.args in left_over a.gathered a.more (omega (arith, c.if1.false)) _ refl
+pub returns-then-gathered-gt-MOST_LOT_DOCUMENTS : goal.returns-then-gathered-gt-MOST_LOT_DOCUMENTS
+returns-then-gathered-gt-MOST_LOT_DOCUMENTS c = sym (lt-ltb most_lot_documents (c.args.gathered + c.args.more) (omega (arith, c.if-gathered-gt-MOST_LOT_DOCUMENTS.true)))
 
-pub passes-lot-spec : {M : Type 1} → statement M
-passes-lot-spec = tie.close (tie.spec returns returns-2)
+pub returns : goal.returns
+returns c = left_over c.args.gathered c.args.more (omega (arith, c.if-gathered-gt-MOST_LOT_DOCUMENTS.false)) _ refl
