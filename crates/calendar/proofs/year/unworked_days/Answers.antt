@@ -5,12 +5,8 @@ use Rattle.document.specs.Rules.{month_days}
 use Rattle.calendar.specs.Rule.{from, later, those}
 use Rattle.calendar.specs.Dates.{total, day_number}
 use Rattle.calendar.specs.Year.{holidays, unworked2028}
-use Rattle.calendar.proofs.year.unworked_days.Statement.{statement}
-use Rattle.calendar.proofs.year.unworked_days.Tie as tie
+use Rattle.calendar.proofs.year.unworked_days.Goals as goal
 
-returns : tie.Need-returns
+pub returns : goal.returns
 unfolding unworked2028 later from those member holidays day_number total month_days
 returns c = refl
-
-pub unworked-days-spec : {M : Type 1} → statement M
-unworked-days-spec = tie.close (tie.spec returns)

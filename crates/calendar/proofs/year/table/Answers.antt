@@ -5,12 +5,8 @@ use Rattle.document.specs.Rules.{month_days}
 use Rattle.calendar.specs.Dates.{total, day_number}
 use Rattle.calendar.specs.Year.{holidays}
 use Rattle.calendar.proofs.Laws.Year.{table_2028}
-use Rattle.calendar.proofs.year.table.Statement.{statement}
-use Rattle.calendar.proofs.year.table.Tie as tie
+use Rattle.calendar.proofs.year.table.Goals as goal
 
-returns : tie.Need-returns
+pub returns : goal.returns
 unfolding holidays day_number total month_days member
 returns c = table_2028 _ refl refl
-
-pub table-spec : {M : Type 1} → statement M
-table-spec = tie.close (tie.spec returns)
