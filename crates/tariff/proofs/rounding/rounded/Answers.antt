@@ -3,12 +3,10 @@ use mathlib.Core.Path.{◌≡◌, refl}
 use mathlib.Core.Bool.{Bool, true, false, cond}
 use Prim.Native.Nat.{ℕ, suc, ◌+◌, ◌*◌, ◌/◌, ◌%◌, ◌≤◌, ◌<◌}
 use native.Mathlib.Omega.{arith}
-use borrow.Author.Rules.{rules}
 use borrow.Author.Tests.{leb-true, leb-false}
 use lib.Dec.{leb}
 use Rattle.tariff.specs.Rounding.{ten_thousand, rounded}
-use Rattle.tariff.proofs.rounding.rounded.Statement.{statement}
-use Rattle.tariff.proofs.rounding.rounded.Tie as tie
+use Rattle.tariff.proofs.rounding.rounded.Goals as goal
 
 -- the units that a product comes to: within half a unit of it, and upwards where it is an exact half
 half_up : (n r : ℕ) → r * ten_thousand ≤ n + 5000 → n + 5000 < r * ten_thousand + ten_thousand → r ≡ rounded n
@@ -19,11 +17,5 @@ half_up n r low high = go (leb ten_thousand (2 * (n % ten_thousand))) refl
     go true e = omega (arith, leb-true ten_thousand (2 * (n % ten_thousand)) e)
     go false e = omega (arith, leb-false ten_thousand (2 * (n % ten_thousand)) e)
 
-add-result : tie.Need-overflow-add-result
-add-result c = search rules
-
-returns : tie.Need-returns
+pub returns : goal.returns
 returns c = half_up c.args.product _ (omega arith) (omega arith)
-
-pub rounded-spec : {M : Type 1} → statement M
-rounded-spec = tie.close (tie.spec add-result returns)
