@@ -24,7 +24,9 @@ pub slice_bounds-represented-end : goal.slice_bounds-represented-end
 slice_bounds-represented-end c = let n : length c.args.p.represented ≡ most_represented = search rules in omega (arith, c.requires.represented, n)
 
 pub slice_bounds-read_detail-end : goal.slice_bounds-read_detail-end
-slice_bounds-read_detail-end c = simp length-take (omega (arith, slice_bounds-represented-end c))
+slice_bounds-read_detail-end c =
+    let n : length c.args.p.represented ≡ most_represented = search rules in
+    simp length-take (omega (arith, c.requires.represented, n))
 
 pub returns : goal.returns
 unfolding received_code detail_code received_effect

@@ -20,12 +20,11 @@ use Rattle.receiving.proofs.handling.handle.Goals.{After-is_accepted-accepted}
 
 -- what was found is what the body earns
 found_so : (k : goal.After-is_accepted-accepted) → Earns (content_of k.args.body.now) k.args.time k.args.body.now k.args.p k.args.running k.args.r k.earned-found.result
-found_so k = let k.args = k.args in subst (λ (x : Content). Earns x k.args.time k.args.body.now k.args.p k.args.running k.args.r k.earned-found.result) k.content_of-content.ensures k.earned-found.ensures
+found_so k = subst (λ (x : Content). Earns x k.args.time k.args.body.now k.args.p k.args.running k.args.r k.earned-found.result) k.content_of-content.ensures k.earned-found.ensures
 
 -- and may be counted
 may : (k : goal.After-is_accepted-accepted) → Countable k.earned-found.result.effect k.is_accepted-accepted.result k.args.r.counters k.args.running
 may k =
-    let k.args = k.args in
     let found = k.earned-found.result in
     let e = found_so k in
     subst (λ (x : Bool). Countable found.effect x k.args.r.counters k.args.running) (sym k.is_accepted-accepted.ensures) (countable k.args.time k.args.body.now k.args.p k.args.running k.args.r (code_number found.code) found.effect k.requires e.code e.effect)
