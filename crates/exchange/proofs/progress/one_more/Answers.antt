@@ -1,0 +1,8 @@
+-- `one_more`: `round` at the opening, told of both ends at once.
+use mathlib.Core.Path.{ap}
+use Rattle.exchange.specs.Course.{ends_after, round_made}
+use Rattle.exchange.proofs.progress.one_more.Goals as goal
+
+pub returns : goal.returns
+unfolding round_made
+returns c = let said = c.round.ensures in record { outcome = ap ends_after said.outcome;  premise = said.premise }
