@@ -1,6 +1,7 @@
 // Ready documents that wait to be sent, 01's trays: presentations and returns, each a run of whole documents with a cursor
 // that counts how many of them are sent; moving it is the caller's part. What the words mean stands in specs/.
 #![tactic(auto)]
+
 ghost use Rattle.std.specs.Prelude.{◌≡◌, true};
 ghost use Rattle.outgoing.specs.Outgoing.{ready_good, both_good, next_of, next, check_code, check_number};
 
