@@ -2,6 +2,7 @@
 // cursors, and what the check and the next documents answer. Each document of a tray is marked with the tray it lies in and
 // its place there, so that a line tells which documents were handed out.
 #![tactic(auto)]
+
 ghost use Rattle.std.specs.Prelude.{◌≡◌, ◌<◌};
 
 use codes::refusal::refusal_number;
