@@ -12,6 +12,10 @@ ghost use Rattle.next_days.specs.Text.{most_line_bytes, program_text};
 use crate::text::write_table;
 use calendar::generator::{PLACES, next_days};
 use calendar::year::unworked_days;
+use std::io;
+
+// More than the longest text.
+const ROOM: usize = 65_536;
 
 // The table, made by the generator.
 fn made() -> [u16; PLACES]
@@ -33,8 +37,8 @@ fn answer(text: &mut [u8]) -> usize
     write_table(&table, text)
 }
 
-fn main() {
-    let mut text = io::large_buffer();
+fn main(rt: HostRuntime) -> io::Result<()> {
+    let mut text = [0u8; ROOM];
     let written = answer(&mut text);
-    io::write_all(libc::STDOUT_FILENO, &text[..written]);
+    rt.write_all(&text[..written])
 }
