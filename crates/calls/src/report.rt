@@ -38,8 +38,8 @@ fn awaited(pending: Effect) -> Awaited
 
 // What was presented less what was received.
 fn positions(presented: Running, received: Running) -> Positions
-    requires difference_fits { DifferenceFits (stated presented).nominal.0 (stated received).nominal.0 }
-    requires difference_fits_2 { DifferenceFits (stated presented).commission.0 (stated received).commission.0 }
+    requires nominal_fits { DifferenceFits (stated presented).nominal.0 (stated received).nominal.0 }
+    requires commission_fits { DifferenceFits (stated presented).commission.0 (stated received).commission.0 }
     ensures { result ≡ positions (stated presented) (stated received) }
 {
     let ours = stated(presented);

@@ -73,8 +73,8 @@ fn both_directions<'a>(
     reply: &mut [u8],
 ) -> Round
     requires both_ready { BothReady ends }
-    requires unmoved_value { within presentations.now returns.now unmoved ≡ true }
-    requires unmoved_value_2 { within other_presentations.now other_returns.now unmoved ≡ true }
+    requires here_unmoved { within presentations.now returns.now unmoved ≡ true }
+    requires there_unmoved { within other_presentations.now other_returns.now unmoved ≡ true }
     ensures outcome { ends_of result message.new reply.new ≡ both_directions presentations.now returns.now other_presentations.now other_returns.now (ends_of ends message.old reply.old) }
     ensures premise { BothReady result }
 {
@@ -90,8 +90,8 @@ fn evening<'a>(
     far_presentations: &'a [u8],
     far_returns: &'a [u8],
 ) -> Evening
-    requires unmoved_value { within near_presentations.now near_returns.now unmoved ≡ true }
-    requires unmoved_value_2 { within far_presentations.now far_returns.now unmoved ≡ true }
+    requires near_unmoved { within near_presentations.now near_returns.now unmoved ≡ true }
+    requires far_unmoved { within far_presentations.now far_returns.now unmoved ≡ true }
     ensures { result ≡ evening near_presentations.now near_returns.now far_presentations.now far_returns.now }
 {
     let mut message = [0u8; MESSAGE_ROOM];

@@ -17,8 +17,8 @@ pub fn answered(
     message: &[u8],
     reply: &mut [u8],
 ) -> Round
-    requires ready { Ready (engine_of presenter) }
-    requires ready_2 { Ready (engine_of receiver) }
+    requires presenter_ready { Ready (engine_of presenter) }
+    requires receiver_ready { Ready (engine_of receiver) }
     ensures outcome { answer_of result reply.new ≡ answered time message.now reply.old (engine_of presenter) (engine_of receiver) }
     ensures unsent { result.sent ≡ 0 }
     ensures premise { BothReady result }
@@ -57,8 +57,8 @@ pub fn round(
     message: &mut [u8],
     reply: &mut [u8],
 ) -> Round
-    requires ready { Ready (engine_of presenter) }
-    requires ready_2 { Ready (engine_of receiver) }
+    requires presenter_ready { Ready (engine_of presenter) }
+    requires receiver_ready { Ready (engine_of receiver) }
     ensures outcome { round_of result message.new reply.new ≡ rounded (call_of order part.now) time message.old reply.old (engine_of presenter) (engine_of receiver) }
     ensures premise { BothReady result }
 {

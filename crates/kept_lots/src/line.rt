@@ -55,8 +55,8 @@ fn hear(
     gathered: &mut [u8],
     file: &mut [u8],
 ) -> io::Result<Round>
-    requires ready { Ready (engine_of presenter) }
-    requires ready_2 { Ready (engine_of receiver) }
+    requires presenter_ready { Ready (engine_of presenter) }
+    requires receiver_ready { Ready (engine_of receiver) }
     ensures { IfOk result (λ ends. BothReady ends) }
 {
     let mut reply = [0u8; REPLY_ROOM];
