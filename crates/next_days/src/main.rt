@@ -1,6 +1,7 @@
 // Makes the table of next working days of 2028 from the list of its unworked days, and prints its text: 366 lines, a number
 // in each.
 #![tactic(auto)]
+
 mod text;
 
 ghost use Rattle.std.specs.Prelude.{◌≡◌, ◌*◌, ◌≤◌, length, take};

@@ -1,6 +1,6 @@
 use mathlib.Core.Path.{◌≡◌, refl, ap, sym, subst, ◌∙◌}
 use mathlib.Core.List.{List, [], ◌∷◌}
-use Prim.Native.Nat.{ℕ, ◌+◌, ◌-◌, ◌≤◌}
+use Prim.Native.Nat.{ℕ, ◌+◌, ◌≤◌}
 use native.Mathlib.Numerals.{add-one}
 use native.Mathlib.Omega.{arith}
 use lib.ListN.{length, take, get_or, set, length-set}
@@ -42,4 +42,4 @@ returns c =
     ap (take c.loop-i.at) put.written
     ∙ part_sets (table_text (take c.loop-i.i table)) c.args.text.now 0 c.loop-i.at (sym put.place) (omega arith)
     ∙ ap table_text all in
-    record { counts = (omega (arith, c.loop-i.invariant.1), put.place ∙ ap length (ap table_text all ∙ sym text));  written = text }
+    record { counts = (omega (arith, c.loop-i.invariant.1), put.place ∙ ap length (ap table_text all ∙ sym text)); written = text }
