@@ -1,3 +1,2 @@
--- What the walks of this crate share, and what the contracts say of a detail.
-mod InPlace
+-- What the contracts say of a detail.
 pub mod Added

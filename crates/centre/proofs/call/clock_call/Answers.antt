@@ -1,0 +1,14 @@
+-- `clock_call`: what the clock call says, of the centre.
+use mathlib.Core.Path.{◌∙◌, refl}
+use mathlib.Core.List.{List}
+use Prim.Native.Nat.{ℕ}
+use Rattle.session.specs.Engine.{Call, meaning}
+use Rattle.centre.specs.Turn.{engine_of}
+use Rattle.centre.proofs.Laws.{together, by_meaning}
+use Rattle.centre.proofs.call.clock_call.Goals as goal
+
+pub returns : goal.returns
+unfolding meaning
+returns c =
+    let kept = c.with_session.ensures in
+    record { outcome = λ (line : List ℕ). together c.answer_number.ensures refl kept.outcome line ∙ by_meaning (Call.clock c.args.time) line (engine_of c.args.c) (c.clock-ticked.ensures.outcome _ line);  premise = kept.premise }

@@ -1,0 +1,13 @@
+-- `lot_total_call`: what the send says, of the centre.
+use mathlib.Core.Path.{◌∙◌}
+use Rattle.session.specs.Sending.{Send}
+use Rattle.session.specs.Engine.{Call, meaning}
+use Rattle.centre.specs.Turn.{engine_of}
+use Rattle.centre.proofs.Laws.{by_meaning}
+use Rattle.centre.proofs.call.lot_total_call.Goals as goal
+
+pub returns : goal.returns
+unfolding meaning
+returns c =
+    let said = c.sent_beside.ensures in
+    record { outcome = said.outcome _ ∙ by_meaning (Call.send c.args.time Send.lot_total) c.args.line.now (engine_of c.args.c) c.send_lot_total.ensures.outcome;  premise = said.premise }
