@@ -2,6 +2,7 @@
 // in two digits and the three totals. Where the input cannot be read to its end, there is no body to judge: it says so on
 // standard error, and prints nothing.
 #![tactic(auto)]
+
 mod input;
 mod line;
 
@@ -13,6 +14,10 @@ ghost use Rattle.check_detail.specs.Line.{program_line, most_line_bytes};
 use crate::input::read_input;
 use crate::line::{LINE_BYTES, write_line};
 use detail::checked::{Checked, line_check_detail};
+use std::io;
+
+// Far more than the longest body, so that a body too long is seen to be so.
+const ROOM: usize = 65_536;
 
 // The check of a body, for entity 0072 with nobody represented.
 fn checked(body: &[u8]) -> Checked
@@ -31,19 +36,15 @@ fn answer(body: &[u8], line: &mut [u8]) -> usize
     write_line(checked(body), line)
 }
 
-// The buffer holds far more than the longest body, so that a body too long is seen to be so.
-fn main() {
-    let mut input = io::large_buffer();
-    let read = read_input(libc::STDIN_FILENO, &mut input);
+fn main(rt: HostRuntime) -> io::Result<()> {
+    let mut input = [0u8; ROOM];
+    let mut from = rt.stdin();
+    let read = read_input(&mut from, &mut input);
     let n = read.count;
     if read.failed {
-        io::write_all(
-            libc::STDERR_FILENO,
-            b"check_detail: standard input cannot be read\n",
-        );
-        return;
+        return eprintln!(rt; "check_detail: standard input cannot be read");
     }
     let mut line = [0u8; LINE_BYTES];
     let written = answer(&input[..n], &mut line);
-    io::write_all(libc::STDOUT_FILENO, &line[..written]);
+    rt.write_all(&line[..written])
 }

@@ -1,5 +1,6 @@
 // Numbers as decimal text. What the words mean stands in specs/.
 #![tactic(auto)]
+
 ghost use Rattle.std.specs.Prelude.{◌≡◌, ◌+◌, ◌≤◌, length};
 ghost use Rattle.std.proofs.lemmas.List.Edits.{sets};
 ghost use Rattle.decimal.specs.Decimal.{decimal, behind_space, most_digits, most_behind_space};

@@ -11,6 +11,7 @@ use packed::writing::copy;
 use session::counters::{Counters, OpenLot};
 use session::limits::MOST_LOT_DOCUMENTS;
 use session::running::documents_in;
+use std::io;
 
 // Puts documents behind those that are gathered, and tells where the next go.
 fn put_documents(gathered: &mut [u8], at: usize, documents: &[u8]) -> usize {
@@ -51,10 +52,17 @@ fn counted_at(c: Centre) -> Counters {
 
 // Keeps what a message has brought, by what it has changed: a lot more is counted, so the open one goes into the file; or the open
 // lot has more documents, so they are gathered behind those before. A repeat, a code and a refusal change neither.
-pub fn keep(before: Centre, after: Centre, message: &[u8], gathered: &mut [u8], file: &mut [u8]) {
+pub fn keep(
+    rt: &impl Print,
+    before: Centre,
+    after: Centre,
+    message: &[u8],
+    gathered: &mut [u8],
+    file: &mut [u8],
+) -> io::Result<()> {
     let documents = documents_in(before.receiving);
     if MOST_LOT_DOCUMENTS < documents {
-        return;
+        return Ok(());
     }
     let at = documents as usize * DOCUMENT_BYTES;
     let counters = counted_at(before);
@@ -63,9 +71,8 @@ pub fn keep(before: Centre, after: Centre, message: &[u8], gathered: &mut [u8], 
         let open = counters.current;
         let number = number_of(open) as u32;
         let code = add_number(add(file, number, piece_at(gathered, 0, at)));
-        print_lot(b"kept ", number);
-        print_code(code);
-        return;
+        print_lot(rt, "kept ", number)?;
+        return print_code(rt, code);
     }
     if documents < documents_in(after.receiving) {
         gather(
@@ -74,4 +81,5 @@ pub fn keep(before: Centre, after: Centre, message: &[u8], gathered: &mut [u8], 
             at,
         );
     }
+    Ok(())
 }

@@ -2,10 +2,12 @@
 // a lot file. What it hears tells it what to keep: documents that were counted are gathered, and a lot that was counted is added to
 // the file, once, however often its total comes. Each line tells the code of a reply, or what became of the file.
 #![tactic(auto)]
+
 mod keeping;
 mod line;
 mod print;
 
+ghost use Rattle.std.specs.Prelude.{IfOk};
 ghost use Rattle.exchange.specs.Round.{BothReady};
 
 use crate::line::{both_started, say};
@@ -15,6 +17,7 @@ use document::{DOCUMENT_BYTES, PRESENTED_NUMBER};
 use exchange::round::Round;
 use packed::pieces::piece_at;
 use session::session::Session;
+use std::io;
 
 const FILE_BYTES: usize = 2_000;
 
@@ -64,9 +67,15 @@ fn part_of<'a>(documents: &'a [u8], first: u16, count: usize) -> &'a [u8] {
 }
 
 // The evening, step by step.
-fn present(ends: Round, documents: &[u8], gathered: &mut [u8], file: &mut [u8]) -> Round
+fn present(
+    rt: &impl Print,
+    ends: Round,
+    documents: &[u8],
+    gathered: &mut [u8],
+    file: &mut [u8],
+) -> io::Result<Round>
     requires { BothReady ends }
-    ensures { BothReady result }
+    ensures { IfOk result (λ after. BothReady after) }
 {
     let mut at = ends;
     let mut i: usize = 0;
@@ -74,27 +83,28 @@ fn present(ends: Round, documents: &[u8], gathered: &mut [u8], file: &mut [u8]) 
         let kind = KINDS[i];
         let order = order_of(kind, NUMBERS[i]);
         let part = part_of(documents, NUMBERS[i], COUNTS[i]);
-        at = say(at, order, part, kind == LOST, gathered, file);
+        at = say(rt, at, order, part, kind == LOST, gathered, file)?;
         i += 1;
     }
-    at
+    Ok(at)
 }
 
 // The bank of lot 7 collects it.
-fn collect(file: &mut [u8]) {
-    print_found(file, 7);
-    print_found(file, 8);
-    print_found(file, 9);
-    print_taken(file, 7);
-    print_found(file, 7);
-    print_found(file, 8);
+fn collect(rt: &impl Print, file: &mut [u8]) -> io::Result<()> {
+    print_found(rt, file, 7)?;
+    print_found(rt, file, 8)?;
+    print_found(rt, file, 9)?;
+    print_taken(rt, file, 7)?;
+    print_found(rt, file, 7)?;
+    print_found(rt, file, 8)
 }
 
 // All documents of the evening.
-fn evening(gathered: &mut [u8], file: &mut [u8]) {
+fn evening(rt: &impl Print, gathered: &mut [u8], file: &mut [u8]) -> io::Result<()> {
     let documents =
         b"\x00\x00\x00\x00\x01\x00\x00\x02\x43\x41\x57\x14\x03\x00\x81\x01\x10\x28\x00\x72\x08\x00\x81\x01\x10\x00\x00\x00\x01\x50\x01\x00\x72\x01\x10\x00\x00\x12\x34\x56\x01\x00\x01\x00\x00\x00\x30\x00\x00\x00\x00\x00\x00\x00\x00\x01\x00\x00\x02\x43\x41\x57\x14\x03\x00\x81\x01\x10\x28\x00\x72\x08\x00\x81\x01\x10\x00\x00\x00\x01\x50\x02\x00\x72\x01\x10\x00\x00\x12\x34\x56\x01\x00\x01\x00\x00\x00\x30\x00\x00\x00\x00\x00\x00\x00\x00\x01\x00\x00\x02\x43\x41\x57\x14\x03\x00\x81\x01\x10\x28\x00\x72\x08\x00\x81\x01\x10\x00\x00\x00\x01\x50\x03\x00\x72\x01\x10\x00\x00\x12\x34\x56\x01\x00\x01\x00\x00\x00\x30\x00\x00\x00\x00\x00\x00\x00\x00\x01\x00\x00\x02\x43\x41\x57\x14\x03\x00\x81\x01\x10\x28\x00\x72\x08\x00\x81\x01\x10\x00\x00\x00\x01\x50\x04\x00\x72\x01\x10\x00\x00\x12\x34\x56\x01\x00\x01\x00\x00\x00\x30\x00\x00\x00\x00\x00\x00\x00\x00\x01\x00\x00\x02\x43\x41\x57\x14\x03\x00\x81\x01\x10\x28\x00\x72\x08\x00\x81\x01\x10\x00\x00\x00\x01\x50\x05\x00\x72\x01\x10\x00\x00\x12\x34\x56\x01\x00\x01\x00\x00\x00\x30\x00\x00\x00\x00\x00\x00\x00\x00\x01\x00\x00\x02\x43\x41\x57\x14\x03\x00\x81\x01\x10\x28\x00\x72\x08\x00\x81\x01\x10\x00\x00\x00\x01\x50\x06\x00\x72\x01\x10\x00\x00\x12\x34\x56\x01\x00\x01\x00\x00\x00\x30\x00\x00\x00\x00\x00\x00\x00\x00\x01\x00\x00\x02\x43\x41\x57\x14\x03\x00\x81\x01\x10\x28\x00\x72\x08\x00\x81\x01\x10\x00\x00\x00\x01\x50\x07\x00\x72\x01\x10\x00\x00\x12\x34\x56\x01\x00\x01\x00\x00\x00\x30\x00\x00\x00\x00\x00\x00\x00\x00\x01\x00\x00\x02\x43\x41\x57\x14\x03\x00\x81\x01\x10\x28\x00\x72\x08\x00\x81\x01\x10\x00\x00\x00\x01\x50\x08\x00\x73\x01\x10\x00\x00\x12\x34\x56\x01\x00\x01\x00\x00\x00\x30\x00\x00\x00\x00\x00\x00\x00\x00\x01\x00\x00\x02\x43\x41\x57\x14\x03\x00\x81\x01\x10\x28\x00\x72\x08\x00\x81\x01\x10\x00\x00\x00\x01\x50\x09\x00\x72\x01\x10\x00\x00\x12\x34\x56\x01\x00\x01\x00\x00\x00\x30\x00\x00\x00\x00";
-    present(both_started(), documents, gathered, file);
+    present(rt, both_started(), documents, gathered, file)?;
+    Ok(())
 }
 
 // Room for the documents of an open lot, and a file without a lot.
@@ -106,9 +116,9 @@ fn no_lots() -> [u8; FILE_BYTES] {
     [0u8; FILE_BYTES]
 }
 
-fn main() {
+fn main(rt: HostRuntime) -> io::Result<()> {
     let mut gathered = room();
     let mut file = no_lots();
-    evening(&mut gathered, &mut file);
-    collect(&mut file);
+    evening(&rt, &mut gathered, &mut file)?;
+    collect(&rt, &mut file)
 }

@@ -1,6 +1,7 @@
 // Makes the table of next working days of 2028 from the list of its unworked days, and prints its text: 366 lines, a number
 // in each.
 #![tactic(auto)]
+
 mod text;
 
 ghost use Rattle.std.specs.Prelude.{◌≡◌, ◌*◌, ◌≤◌, length, take};
@@ -12,6 +13,10 @@ ghost use Rattle.next_days.specs.Text.{most_line_bytes, program_text};
 use crate::text::write_table;
 use calendar::generator::{PLACES, next_days};
 use calendar::year::unworked_days;
+use std::io;
+
+// More than the longest text.
+const ROOM: usize = 65_536;
 
 // The table, made by the generator.
 fn made() -> [u16; PLACES]
@@ -33,8 +38,8 @@ fn answer(text: &mut [u8]) -> usize
     write_table(&table, text)
 }
 
-fn main() {
-    let mut text = io::large_buffer();
+fn main(rt: HostRuntime) -> io::Result<()> {
+    let mut text = [0u8; ROOM];
     let written = answer(&mut text);
-    io::write_all(libc::STDOUT_FILENO, &text[..written]);
+    rt.write_all(&text[..written])
 }

@@ -1,12 +1,19 @@
-// A script that comes through a descriptor, of any length: it is read in pieces, played, and answered on standard output as
-// it goes. Nothing is known of what is read or written; what playing does is the promise of the crate script.
+// A script that comes through a reader, of any length: it is read in pieces, played, and answered on standard output as
+// it goes. Nothing is known of what is read or written; what playing does is the promise of the crate script. A read or a write
+// that fails ends it.
 #![tactic(auto)]
-ghost use Rattle.std.specs.Prelude.{◌+◌, ◌≤◌, length};
+
+ghost use Rattle.std.specs.Prelude.{◌+◌, ◌≤◌, length, IfOk};
 ghost use Rattle.stream.specs.Stream.{Filled};
 
 use script::play::{Stop, play};
 use script::player::{Player, fresh};
+use std::io;
+use std::io::Read;
 use text::wire::WIRE_BYTES;
+
+// How much of a script waits at most, and how much is answered at once.
+const ROOM: usize = 65_536;
 
 // Between two pieces: the player, how many bytes wait in the input, whether no more will come, and whether all is done.
 #[derive(Clone, Copy)]
@@ -18,12 +25,11 @@ pub struct Stream {
 }
 
 // Reads once behind what waits, and says how many bytes came.
-fn read_more(fd: i32, input: &mut [u8], filled: usize) -> usize
+fn read_more(script: &mut impl Read, input: &mut [u8], filled: usize) -> io::Result<usize>
     requires { filled ≤ length input.old }
-    ensures { filled + result ≤ length input.old }
+    ensures { IfOk result (λ came. filled + came ≤ length input.old) }
 {
-    let got = libc::read(fd, &mut input[filled..]);
-    io::count(got, &input[filled..])
+    script.read(&mut input[filled..])
 }
 
 // Moves what stands between two places to the start.
@@ -47,9 +53,15 @@ fn is_full(stop: Stop) -> bool {
 }
 
 // Plays what waits, answers it, and keeps the rest.
-fn answer(s: Stream, input: &mut [u8], output: &mut [u8], wire: &mut [u8]) -> Stream
+fn answer(
+    rt: &impl Print,
+    s: Stream,
+    input: &mut [u8],
+    output: &mut [u8],
+    wire: &mut [u8],
+) -> io::Result<Stream>
     requires { Filled (length input.old) s }
-    ensures { Filled (length input.old) result }
+    ensures { IfOk result (λ next. Filled (length input.old) next) }
 {
     let player = s.player;
     let filled = s.filled;
@@ -58,33 +70,33 @@ fn answer(s: Stream, input: &mut [u8], output: &mut [u8], wire: &mut [u8]) -> St
     let stop = played.stop;
     let read = played.read;
     let written = played.written;
-    let heard = io::write_all(1, &output[..written]);
+    rt.write_all(&output[..written])?;
     shift(input, read, filled);
-    Stream {
+    Ok(Stream {
         player: next,
         filled: filled - read,
         last: s.last,
-        over: !heard | (s.last & !is_full(stop)),
-    }
+        over: s.last & !is_full(stop),
+    })
 }
 
 // With what has come, as long as there is room; nothing comes at the end of the input.
-fn listen(fd: i32, s: Stream, input: &mut [u8]) -> Stream
+fn listen(script: &mut impl Read, s: Stream, input: &mut [u8]) -> io::Result<Stream>
     requires { Filled (length input.old) s }
-    ensures { Filled (length input.old) result }
+    ensures { IfOk result (λ next. Filled (length input.old) next) }
 {
     let player = s.player;
     let filled = s.filled;
     if filled == input.len() {
-        return s;
+        return Ok(s);
     }
-    let came = read_more(fd, input, filled);
-    Stream {
+    let came = read_more(script, input, filled)?;
+    Ok(Stream {
         player: player,
         filled: filled + came,
         last: s.last | (came == 0),
         over: false,
-    }
+    })
 }
 
 fn begun() -> Stream
@@ -99,25 +111,39 @@ fn begun() -> Stream
 }
 
 // One piece: what comes is heard and answered.
-fn turn(fd: i32, s: Stream, input: &mut [u8], output: &mut [u8], wire: &mut [u8]) -> Stream
+fn turn(
+    rt: &impl Print,
+    script: &mut impl Read,
+    s: Stream,
+    input: &mut [u8],
+    output: &mut [u8],
+    wire: &mut [u8],
+) -> io::Result<Stream>
     requires { Filled (length input.old) s }
-    ensures { Filled (length input.old) result }
+    ensures { IfOk result (λ next. Filled (length input.old) next) }
 {
-    let heard = listen(fd, s, input);
-    answer(heard, input, output, wire)
+    let heard = listen(script, s, input)?;
+    answer(rt, heard, input, output, wire)
 }
 
 // A loop has to end, and nothing says that a script does: the turns are counted down from a number that no run uses up.
-fn run(fd: i32, input: &mut [u8], output: &mut [u8], wire: &mut [u8]) {
+fn run(
+    rt: &impl Print,
+    script: &mut impl Read,
+    input: &mut [u8],
+    output: &mut [u8],
+    wire: &mut [u8],
+) -> io::Result<()> {
     let mut stream = begun();
     let mut turns = u64::MAX;
     while turns > 0 {
-        stream = turn(fd, stream, input, output, wire);
+        stream = turn(rt, script, stream, input, output, wire)?;
         if stream.over {
-            return;
+            return Ok(());
         }
         turns -= 1;
     }
+    Ok(())
 }
 
 fn memory() -> [u8; WIRE_BYTES] {
@@ -125,9 +151,9 @@ fn memory() -> [u8; WIRE_BYTES] {
 }
 
 // Plays a whole script.
-pub fn play_from(fd: i32) {
-    let mut input = io::large_buffer();
-    let mut output = io::large_buffer();
+pub fn play_from(rt: &impl Print, script: &mut impl Read) -> io::Result<()> {
+    let mut input = [0u8; ROOM];
+    let mut output = [0u8; ROOM];
     let mut wire = memory();
-    run(fd, &mut input, &mut output, &mut wire);
+    run(rt, script, &mut input, &mut output, &mut wire)
 }

@@ -25,7 +25,7 @@ use Rattle.text.specs.Ascii.{ascii, byte}
 use Rattle.text.specs.Word.{equal_bytes, words}
 use Rattle.text.specs.Inner.Word.{NextWord}
 use Rattle.text.specs.Number.{decimal, is_number}
-use Rattle.text.specs.Got.{Got, none, got, fitting, got_of}
+use Rattle.text.specs.Got.{Got, fitting, got_of}
 use Rattle.text.specs.Hex.{hex_word}
 use Rattle.text.specs.Kind.{kind_of, is_bad, shape_of}
 use Rattle.text.specs.Line.{is_none, is_at, first_of, hex_or_written, written_under, bytes_from, bytes_in, words_of, asked_words, more_words, numbers_in, are_numbers, is_whole, room_in, most_room, longest_line, is_end, Said, no_call, read_call, read_words, read_line}

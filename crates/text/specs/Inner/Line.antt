@@ -12,7 +12,7 @@ use Rattle.text.specs.declared.line.End.{End}
 use Rattle.text.specs.Ascii.{ascii}
 use Rattle.text.specs.Word.{equal_bytes, words}
 use Rattle.text.specs.Number.{decimal, is_number}
-use Rattle.text.specs.Got.{Got, got, fitting, got_of}
+use Rattle.text.specs.Got.{Got, fitting, got_of}
 use Rattle.text.specs.Kind.{shape_of}
 use Rattle.text.specs.Line.{most_room, first_of, bytes_from, words_of, bytes_in, is_whole, numbers_in, is_end}
 
