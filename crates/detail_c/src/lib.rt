@@ -1,5 +1,6 @@
 // The detail check for C: bytes and numbers in, numbers out. include/line.h says how it is called.
 #![tactic(auto)]
+
 ghost use Rattle.std.specs.Prelude.{◌≡◌};
 ghost use Rattle.detail.specs.Checked.{checked};
 

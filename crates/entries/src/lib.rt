@@ -1,6 +1,7 @@
 // What C calls beside the detail check: a script is played, an evening is run over the trays of two ends, and in files of
 // their own what was asked for since. include/line.h says how each is called.
 #![tactic(auto)]
+
 pub mod commissions;
 pub mod days;
 pub mod keyed;

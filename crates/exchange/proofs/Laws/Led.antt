@@ -14,7 +14,6 @@ use Rattle.session.specs.declared.effect.Effect.{Effect}
 use Rattle.session.specs.Hours.{opening}
 use Rattle.session.specs.Parties.{real_date, parties_good}
 use Rattle.session.specs.Start.{start}
-use Rattle.session.specs.Receiving.{receive}
 use Rattle.session.specs.Ledger.{Entry}
 use Rattle.session.specs.Sending.{Send}
 use Rattle.session.specs.Engine.{Call, Engine, Performed, performed, said_by}

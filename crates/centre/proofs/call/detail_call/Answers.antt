@@ -10,4 +10,4 @@ pub returns : goal.returns
 unfolding meaning
 returns c =
     let said = c.sent_beside.ensures in
-    record { outcome = said.outcome _ ∙ by_meaning (Call.send c.args.time (Send.detail c.args.operation c.args.part.now)) c.args.line.now (engine_of c.args.c) c.send_detail.ensures.outcome;  premise = said.premise }
+    record { outcome = said.outcome _ ∙ by_meaning (Call.send c.args.time (Send.detail c.args.operation c.args.part.now)) c.args.line.now (engine_of c.args.c) c.send_detail.ensures.outcome; premise = said.premise }

@@ -10,4 +10,4 @@ pub returns : goal.returns
 unfolding meaning
 returns c =
     let said = c.sent.ensures in
-    record { outcome = said.outcome _ ∙ by_meaning (Call.send c.args.time (Send.header c.args.moment c.args.office c.args.number)) c.args.line.now (engine_of c.args.c) (c.send_header.ensures.outcome _);  premise = said.premise }
+    record { outcome = said.outcome _ ∙ by_meaning (Call.send c.args.time (Send.header c.args.moment c.args.office c.args.number)) c.args.line.now (engine_of c.args.c) (c.send_header.ensures.outcome _); premise = said.premise }

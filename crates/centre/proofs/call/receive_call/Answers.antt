@@ -9,4 +9,4 @@ pub returns : goal.returns
 unfolding meaning
 returns c =
     let kept = c.with_received.ensures in
-    record { outcome = together c.answer_number.ensures refl kept.outcome _ ∙ by_meaning (Call.receive c.args.time c.args.message.now) c.args.line.now (engine_of c.args.c) c.receive-outcome.ensures.outcome;  premise = kept.premise }
+    record { outcome = together c.answer_number.ensures refl kept.outcome _ ∙ by_meaning (Call.receive c.args.time c.args.message.now) c.args.line.now (engine_of c.args.c) c.receive-outcome.ensures.outcome; premise = kept.premise }

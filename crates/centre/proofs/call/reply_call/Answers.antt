@@ -11,4 +11,4 @@ pub returns : goal.returns
 unfolding meaning
 returns c =
     let kept = c.with_presented.ensures in
-    record { outcome = λ (line : List ℕ). together c.answer_number.ensures refl kept.outcome line ∙ by_meaning (Call.reply c.args.time c.args.reply.now) line (engine_of c.args.c) (c.take_reply-outcome.ensures.outcome line);  premise = kept.premise }
+    record { outcome = λ (line : List ℕ). together c.answer_number.ensures refl kept.outcome line ∙ by_meaning (Call.reply c.args.time c.args.reply.now) line (engine_of c.args.c) (c.take_reply-outcome.ensures.outcome line); premise = kept.premise }

@@ -5,4 +5,4 @@ use Rattle.centre.proofs.call.sent.Goals as goal
 pub returns : goal.returns
 returns c =
     let kept = c.with_session.ensures in
-    record { outcome = together c.send_number.ensures c.send_written.ensures kept.outcome;  premise = kept.premise }
+    record { outcome = together c.send_number.ensures c.send_written.ensures kept.outcome; premise = kept.premise }

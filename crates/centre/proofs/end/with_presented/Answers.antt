@@ -5,4 +5,4 @@ use Rattle.centre.proofs.end.with_presented.Goals as goal
 pub returns : goal.returns
 returns c =
     let pre = c.requires in
-    record { outcome = refl;  premise = record { sound = pre.kept_beside.sound; presenting = pre.kept_beside.carried; receiving = pre.kept_beside.other _ pre.ready.receiving } }
+    record { outcome = refl; premise = record { sound = pre.kept_beside.sound; presenting = pre.kept_beside.carried; receiving = pre.kept_beside.other _ pre.ready.receiving } }

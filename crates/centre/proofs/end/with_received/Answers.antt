@@ -5,4 +5,4 @@ use Rattle.centre.proofs.end.with_received.Goals as goal
 pub returns : goal.returns
 returns c =
     let pre = c.requires in
-    record { outcome = refl;  premise = record { sound = pre.kept_beside.sound; presenting = pre.kept_beside.other _ pre.ready.presenting; receiving = pre.kept_beside.carried } }
+    record { outcome = refl; premise = record { sound = pre.kept_beside.sound; presenting = pre.kept_beside.other _ pre.ready.presenting; receiving = pre.kept_beside.carried } }

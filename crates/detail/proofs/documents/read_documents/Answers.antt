@@ -1,6 +1,6 @@
 use mathlib.Core.Path.{◌≡◌, ap, sym, ◌∙◌}
 use mathlib.Core.List.{List}
-use Prim.Native.Nat.{ℕ, ◌+◌, ◌-◌, ◌≤◌, ◌<◌}
+use Prim.Native.Nat.{ℕ, ◌+◌, ◌-◌, ◌≤◌}
 use native.Mathlib.Omega.{arith}
 use lib.Dec.{lit<}
 use lib.ListN.{length, length-take, length-drop}
@@ -8,19 +8,18 @@ use Rattle.packed.specs.Part.{part}
 use Rattle.packed.specs.Pieces.{pieces}
 use Rattle.packed.proofs.Laws.Pieces.{pieces_at, pieces_end}
 use Rattle.document.specs.Limits.{document_bytes}
-use Rattle.document.specs.Inner.Found.{found, found_in, join}
+use Rattle.document.specs.Inner.Found.{found_in, join}
 use Rattle.document.proofs.Laws.Found.{nothing_join, found_end, found_step, within_zeros, within_plus, within_more, within_fits}
 use Rattle.detail.proofs.documents.read_documents.Goals as goal
 
 pub loop-end-init : goal.loop-end-init
-loop-end-init c =
-    (
-      omega arith,
-      omega arith,
-      omega arith,
-      rw c.nothing-found.ensures within_zeros,
-      rw c.nothing-found.ensures (nothing_join (found_in c.args.operation c.args.receiving c.args.represented.now (pieces document_bytes c.args.part.now))),
-    )
+loop-end-init c = (
+  omega arith,
+  omega arith,
+  omega arith,
+  rw c.nothing-found.ensures within_zeros,
+  rw c.nothing-found.ensures (nothing_join (found_in c.args.operation c.args.receiving c.args.represented.now (pieces document_bytes c.args.part.now))),
+)
 
 pub read_document-requires : goal.read_document-requires
 read_document-requires c = simp (length-take, length-drop) (omega arith)
@@ -51,8 +50,11 @@ pub returns : goal.returns
 returns c =
     let so = c.loop-end.found in
     let at = c.loop-end.end - document_bytes in
-    let all : length c.args.part.now ≤ at = omega arith in record { found =
-      sym (found_end c.args.operation c.args.receiving c.args.represented.now so)
+    let all : length c.args.part.now ≤ at = omega arith in record {
+      found =
+          sym (found_end c.args.operation c.args.receiving c.args.represented.now so)
           ∙ ap (λ (ds : List (List ℕ)). join so (found_in c.args.operation c.args.receiving c.args.represented.now ds)) (sym (pieces_end document_bytes (lit< tt) at c.args.part.now all))
-          ∙ c.loop-end.invariant.4;  bound =
-      within_more at (length c.args.part.now) so.totals (omega arith) c.loop-end.invariant.3 }
+          ∙ c.loop-end.invariant.4;
+      bound =
+          within_more at (length c.args.part.now) so.totals (omega arith) c.loop-end.invariant.3;
+    }

@@ -3,11 +3,10 @@
 use mathlib.Core.Path.{◌≡◌}
 use Prim.Native.Nat.{◌+◌, ◌-◌, ◌%◌, ◌≤◌}
 use lib.ListN.{length, drop}
-use Rattle.packed.specs.Part.{part}
 use Rattle.packed.specs.Pieces.{pieces}
 use Rattle.document.specs.Limits.{document_bytes}
 use Rattle.document.specs.Inner.Bounds.{Within}
-use Rattle.document.specs.Inner.Found.{found, found_in, join}
+use Rattle.document.specs.Inner.Found.{found_in, join}
 use Rattle.detail.proofs.documents.read_documents.Given as goal
 
 abbrev pub invariant-loop-end : goal.invariant-loop-end

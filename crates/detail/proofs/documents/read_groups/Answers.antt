@@ -1,6 +1,6 @@
 use mathlib.Core.Path.{ap, sym, ◌∙◌}
 use mathlib.Core.List.{List, flat_map}
-use Prim.Native.Nat.{ℕ, ◌+◌, ◌-◌, ◌≤◌, ◌<◌}
+use Prim.Native.Nat.{ℕ, ◌+◌, ◌≤◌, ◌<◌}
 use native.Mathlib.Omega.{arith}
 use borrow.Author.Rules.{rules}
 use lib.Dec.{lit<}
@@ -27,12 +27,11 @@ here c =
 
 pub loop-at-init : goal.loop-at-init
 unfolding groups documents
-loop-at-init c =
-    (
-      rw c.nothing-found.ensures within_zeros,
-      c.requires.body_value,
-      rw c.nothing-found.ensures (nothing_join (found_in c.args.operation c.args.receiving c.args.represented.now (documents c.args.body.now))),
-    )
+loop-at-init c = (
+  rw c.nothing-found.ensures within_zeros,
+  c.requires.body_value,
+  rw c.nothing-found.ensures (nothing_join (found_in c.args.operation c.args.receiving c.args.represented.now (documents c.args.body.now))),
+)
 
 pub slice_bounds-read_documents-count : goal.slice_bounds-read_documents-count
 slice_bounds-read_documents-count c = omega (arith, here c)
@@ -47,7 +46,7 @@ pub read_documents-requires : goal.read_documents-requires
 read_documents-requires c =
     let g = c.piece_at-g.result.now in
     let h = here (goal.at.read_documents-requires c).After-piece_at-g in
-    rw (part_tail 4 g) record { document_bytes_len = simp length-drop (omega arith);  part_len_bound = simp length-drop (omega arith) }
+    rw (part_tail 4 g) record { document_bytes_len = simp length-drop (omega arith); part_len_bound = simp length-drop (omega arith) }
 
 pub join-found-requires : goal.join-found-requires
 join-found-requires c =

@@ -1,7 +1,7 @@
 use mathlib.Core.Path.{refl, ap, sym, ◌∙◌}
 use mathlib.Core.Bool.{◌&&◌}
 use mathlib.Core.List.{List}
-use Prim.Native.Nat.{ℕ, ◌-◌, ◌<◌}
+use Prim.Native.Nat.{ℕ, ◌<◌}
 use native.Mathlib.Omega.{arith}
 use lib.Dec.{lit<}
 use lib.ListN.{length}
@@ -35,6 +35,9 @@ pub returns : goal.returns
 returns c =
     let body = c.args.body.now in
     let same = same_as (operation_of body) in
-    let none = sym (pieces_end group_bytes (lit< tt) c.loop-at.at body (omega arith)) in record { good =
-      sym (every_none group_good c.loop-at.good) ∙ ap (λ (gs : List (List ℕ)). c.loop-at.good && every group_good gs) none ∙ c.loop-at.invariant.0;  one =
-      sym (every_none same c.loop-at.one) ∙ ap (λ (gs : List (List ℕ)). c.loop-at.one && every same gs) none ∙ c.loop-at.invariant.1 }
+    let none = sym (pieces_end group_bytes (lit< tt) c.loop-at.at body (omega arith)) in record {
+      good =
+          sym (every_none group_good c.loop-at.good) ∙ ap (λ (gs : List (List ℕ)). c.loop-at.good && every group_good gs) none ∙ c.loop-at.invariant.0;
+      one =
+          sym (every_none same c.loop-at.one) ∙ ap (λ (gs : List (List ℕ)). c.loop-at.one && every same gs) none ∙ c.loop-at.invariant.1;
+    }

@@ -57,12 +57,12 @@ pub returns-then-body : goal.returns-then-body
 returns-then-body c =
     let told = c.refused.ensures in
     let wrong = shape_told c.args.body.now ∙ ap (λ (t : Bool). not t && every group_good (groups c.args.body.now)) c.if-body.true in
-    record { code = ap code_number told.0 ∙ sym (misshapen c.args.own c.args.represented.now c.args.body.now wrong);  totals = rw (told.0, told.1) }
+    record { code = ap code_number told.0 ∙ sym (misshapen c.args.own c.args.represented.now c.args.body.now wrong); totals = rw (told.0, told.1) }
 
 pub read_groups-found-requires : goal.read_groups-found-requires
 read_groups-found-requires c =
     let body = c.args.body.now in
-    record { body_value = sym (shaped body (every group_good (groups body)) c.if-body.false refl) ∙ (good (goal.at.read_groups-found-requires c).Then-is_accepted (head_code (goal.at.read_groups-found-requires c).After-is_accepted)).0;  body_len_bound = fits body c.if-body.false }
+    record { body_value = sym (shaped body (every group_good (groups body)) c.if-body.false refl) ∙ (good (goal.at.read_groups-found-requires c).Then-is_accepted (head_code (goal.at.read_groups-found-requires c).After-is_accepted)).0; body_len_bound = fits body c.if-body.false }
 
 pub returns-then-is_accepted : goal.returns-then-is_accepted
 returns-then-is_accepted c =
@@ -70,11 +70,14 @@ returns-then-is_accepted c =
     let shape = good it.Then-is_accepted (head_code it.After-is_accepted) in
     let body = c.args.body.now in
     let read = c.read_groups-found.ensures in
-    let operation = c.operation_of.ensures in record { code =
-      c.judge.ensures.code
+    let operation = c.operation_of.ensures in record {
+      code =
+          c.judge.ensures.code
           ∙ ap (λ (f : Found). judged f.fields f.amounts f.served f.something) (read ∙ ap (λ (o : ℕ). found_in o c.args.own c.args.represented.now (documents body)) operation)
-          ∙ sym (shaped_judged c.args.own c.args.represented.now body shape.0 shape.1);  totals =
-      c.judge.ensures.totals ∙ ap (λ (f : Found). if_accepted (code_number c.judge.result.code) f.totals) read }
+          ∙ sym (shaped_judged c.args.own c.args.represented.now body shape.0 shape.1);
+      totals =
+          c.judge.ensures.totals ∙ ap (λ (f : Found). if_accepted (code_number c.judge.result.code) f.totals) read;
+    }
 
 pub returns : goal.returns
 returns c =
@@ -82,4 +85,4 @@ returns c =
     let code = code_number c.or_else-code.result in
     let stopped = sym c.is_accepted.ensures ∙ c.if-is_accepted.false in
     let same = ap code_number told.0 ∙ by_heads c.args.own c.args.represented.now c.args.body.now code (head_code (goal.at.returns c).After-is_accepted) (pos_of_ne-zero (eqb-false code 0 stopped)) in
-    record { code = same;  totals = told.1 ∙ sym (ap (λ (b : Bool). cond b (totals_of (documents c.args.body.now)) zeros) (ap (λ (d : Code). eqb (code_number d) 0) told.0 ∙ stopped)) }
+    record { code = same; totals = told.1 ∙ sym (ap (λ (b : Bool). cond b (totals_of (documents c.args.body.now)) zeros) (ap (λ (d : Code). eqb (code_number d) 0) told.0 ∙ stopped)) }

@@ -1,5 +1,5 @@
 use mathlib.Core.Path.{◌≡◌, refl, ap, sym, ◌∙◌}
-use Prim.Native.Nat.{◌+◌, ◌-◌, ◌≤◌}
+use Prim.Native.Nat.{◌+◌, ◌≤◌}
 use native.Mathlib.Nat.{zero-add}
 use native.Mathlib.Omega.{arith}
 use lib.ListN.{length, length-take}
@@ -27,7 +27,7 @@ unfolding written_detail
 loop-at-init c = (refl, zero-add _, refl)
 
 pub write_group-requires : goal.write_group-requires
-write_group-requires c = let h = here (goal.at.write_group-requires c).After-piece_at-documents in record { documents_in_bounds = omega arith;  documents_len_bound = h.1 }
+write_group-requires c = let h = here (goal.at.write_group-requires c).After-piece_at-documents in record { documents_in_bounds = omega arith; documents_len_bound = h.1 }
 
 pub overflow_add-to : goal.overflow_add-to
 overflow_add-to c = let h = here (goal.at.overflow_add-to c).After-piece_at-documents in omega arith
@@ -56,4 +56,4 @@ shape_of-out c = c.loop-at.invariant.0
 pub returns : goal.returns
 returns c =
     let none = rest_end c.args.operation_byte c.loop-at.at c.args.part.now (omega arith) in
-    record { length = omega (arith, ap length none);  bytes = ap (sets c.loop-at.out c.loop-at.to) (sym none) ∙ c.loop-at.invariant.2 }
+    record { length = omega (arith, ap length none); bytes = ap (sets c.loop-at.out c.loop-at.to) (sym none) ∙ c.loop-at.invariant.2 }

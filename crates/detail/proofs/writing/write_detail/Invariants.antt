@@ -4,7 +4,6 @@ use mathlib.Core.Path.{◌≡◌}
 use Prim.Native.Nat.{◌+◌, ◌-◌}
 use lib.ListN.{length}
 use lib.Seq.{sets}
-use Rattle.packed.specs.Part.{part}
 use Rattle.detail.specs.Writing.{written_detail}
 use Rattle.detail.proofs.Laws.Writing.{rest}
 use Rattle.detail.proofs.writing.write_detail.Given as goal

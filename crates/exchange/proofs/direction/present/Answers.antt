@@ -10,4 +10,4 @@ pub returns : goal.returns
 unfolding direction_made
 returns c =
     let total = c.one_more.ensures in
-    record { outcome = total.outcome ∙ ap (λ (s : Standing). round_made (Call.send opening Send.session_total) s.ends) c.send_lots-sent.ensures.outcome;  premise = total.premise }
+    record { outcome = total.outcome ∙ ap (λ (s : Standing). round_made (Call.send opening Send.session_total) s.ends) c.send_lots-sent.ensures.outcome; premise = total.premise }

@@ -17,7 +17,7 @@ pub returns-then-same : goal.returns-then-same
 returns-then-same c =
     let below = c.loop-number-test.true in
     let step = c.send_lot-at.ensures in
-    record { outcome = stays (lot_made c.args.presentations.now c.args.returns.now) (most_lots - c.loop-number.number) (suc most_lots - c.loop-number.number) c.loop-number.number _ _ (omega arith) step.outcome (sym c.same.ensures ∙ c.if-same.true) ∙ c.loop-number.invariant.0.whole;  premise = step.premise }
+    record { outcome = stays (lot_made c.args.presentations.now c.args.returns.now) (most_lots - c.loop-number.number) (suc most_lots - c.loop-number.number) c.loop-number.number _ _ (omega arith) step.outcome (sym c.same.ensures ∙ c.if-same.true) ∙ c.loop-number.invariant.0.whole; premise = step.premise }
 
 pub overflow_add-number : goal.overflow_add-number
 overflow_add-number c = let below = c.loop-number-test.true in omega arith
@@ -27,8 +27,7 @@ loop-number-smaller c = let below = c.loop-number-test.true in omega arith
 
 pub loop-number-preserved : goal.loop-number-preserved
 loop-number-preserved c =
-    let below = c.loop-number-test.true in
-    (
+    let below = c.loop-number-test.true in (
       record {
         message = c.send_lot-at.auto.message ∙ c.loop-number.invariant.0.message;
         reply = c.send_lot-at.auto.reply ∙ c.loop-number.invariant.0.reply;
@@ -41,4 +40,4 @@ loop-number-preserved c =
 pub returns : goal.returns
 returns c =
     let above = c.loop-number-test.false in
-    record { outcome = over (lot_made c.args.presentations.now c.args.returns.now) (suc most_lots - c.loop-number.number) c.loop-number.number _ (omega arith) ∙ c.loop-number.invariant.0.whole;  premise = c.loop-number.invariant.0.safe }
+    record { outcome = over (lot_made c.args.presentations.now c.args.returns.now) (suc most_lots - c.loop-number.number) c.loop-number.number _ (omega arith) ∙ c.loop-number.invariant.0.whole; premise = c.loop-number.invariant.0.safe }

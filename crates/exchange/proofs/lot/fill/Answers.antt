@@ -17,12 +17,11 @@ pub returns-then-same : goal.returns-then-same
 returns-then-same c =
     let below = c.loop-parts-test.true in
     let step = c.send_next-at.ensures in
-    record { outcome = stays (next_part c.args.presentations.now c.args.returns.now) (lot_parts - suc c.loop-parts.parts) (lot_parts - c.loop-parts.parts) c.loop-parts.parts _ _ (omega arith) step.outcome (sym c.same.ensures ∙ c.if-same.true) ∙ c.loop-parts.invariant.0.whole;  premise = step.premise }
+    record { outcome = stays (next_part c.args.presentations.now c.args.returns.now) (lot_parts - suc c.loop-parts.parts) (lot_parts - c.loop-parts.parts) c.loop-parts.parts _ _ (omega arith) step.outcome (sym c.same.ensures ∙ c.if-same.true) ∙ c.loop-parts.invariant.0.whole; premise = step.premise }
 
 pub loop-parts-preserved : goal.loop-parts-preserved
 loop-parts-preserved c =
-    let below = c.loop-parts-test.true in
-    (
+    let below = c.loop-parts-test.true in (
       record {
         message = c.send_next-at.auto.message ∙ c.loop-parts.invariant.0.message;
         reply = c.send_next-at.auto.reply ∙ c.loop-parts.invariant.0.reply;
@@ -34,4 +33,4 @@ loop-parts-preserved c =
 
 pub returns : goal.returns
 returns c =
-    record { outcome = over (next_part c.args.presentations.now c.args.returns.now) (lot_parts - c.loop-parts.parts) c.loop-parts.parts _ (omega arith) ∙ c.loop-parts.invariant.0.whole;  premise = c.loop-parts.invariant.0.safe }
+    record { outcome = over (next_part c.args.presentations.now c.args.returns.now) (lot_parts - c.loop-parts.parts) c.loop-parts.parts _ (omega arith) ∙ c.loop-parts.invariant.0.whole; premise = c.loop-parts.invariant.0.safe }

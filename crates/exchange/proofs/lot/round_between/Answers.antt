@@ -7,4 +7,4 @@ use Rattle.exchange.proofs.lot.round_between.Goals as goal
 pub returns : goal.returns
 returns c =
     let made = c.one_more.ensures in
-    record { outcome = λ i. record { ends = made.outcome i; cursors = c.args.p.cursors };  premise = λ (presentations returns : List ℕ) (safe : Safe presentations returns c.args.p). record { ready = made.premise; good = safe.good } }
+    record { outcome = λ i. record { ends = made.outcome i; cursors = c.args.p.cursors }; premise = λ (presentations returns : List ℕ) (safe : Safe presentations returns c.args.p). record { ready = made.premise; good = safe.good } }

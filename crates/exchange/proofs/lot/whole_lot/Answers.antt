@@ -19,4 +19,4 @@ shape_of-reply c =
 
 pub returns : goal.returns
 returns c =
-    record { outcome = c.round_between.ensures.outcome ∙ ap (round_between (Call.send opening Send.lot_total)) (c.fill-full.ensures.outcome ∙ ap (filled c.args.presentations.now c.args.returns.now) c.round_between-opened.ensures.outcome);  premise = c.round_between.ensures.premise _ _ c.fill-full.ensures.premise }
+    record { outcome = c.round_between.ensures.outcome ∙ ap (round_between (Call.send opening Send.lot_total)) (c.fill-full.ensures.outcome ∙ ap (filled c.args.presentations.now c.args.returns.now) c.round_between-opened.ensures.outcome); premise = c.round_between.ensures.premise _ _ c.fill-full.ensures.premise }

@@ -18,8 +18,8 @@ slice_bounds-reply_call-end-then-heard-eq0 c = simp length-take (omega (arith, s
 
 pub returns-then-heard-eq0 : goal.returns-then-heard-eq0
 returns-then-heard-eq0 c =
-    record { outcome = replied c.args.time c.args.message.now c.args.reply.now (engine_of c.args.presenter) (engine_of c.args.receiver) _ c.receive_call-heard.ensures.outcome _ c.if-heard-eq0.true (c.reply_call-told.ensures.outcome []);  unsent = refl;  premise = record { presenter = c.reply_call-told.ensures.premise; receiver = c.receive_call-heard.ensures.premise } }
+    record { outcome = replied c.args.time c.args.message.now c.args.reply.now (engine_of c.args.presenter) (engine_of c.args.receiver) _ c.receive_call-heard.ensures.outcome _ c.if-heard-eq0.true (c.reply_call-told.ensures.outcome []); unsent = refl; premise = record { presenter = c.reply_call-told.ensures.premise; receiver = c.receive_call-heard.ensures.premise } }
 
 pub returns : goal.returns
 returns c =
-    record { outcome = unreplied c.args.time c.args.message.now c.args.reply.now (engine_of c.args.presenter) (engine_of c.args.receiver) _ c.receive_call-heard.ensures.outcome c.if-heard-eq0.false;  unsent = refl;  premise = record { presenter = c.requires.presenter_ready; receiver = c.receive_call-heard.ensures.premise } }
+    record { outcome = unreplied c.args.time c.args.message.now c.args.reply.now (engine_of c.args.presenter) (engine_of c.args.receiver) _ c.receive_call-heard.ensures.outcome c.if-heard-eq0.false; unsent = refl; premise = record { presenter = c.requires.presenter_ready; receiver = c.receive_call-heard.ensures.premise } }

@@ -13,15 +13,15 @@ pub returns-then-room-bytes : goal.returns-then-room-bytes
 unfolding ◌when◌
 returns-then-room-bytes c =
     let none = eqb-true (code_number c.args.code) 0 (sym c.is_accepted.ensures ∙ c.if-is_accepted.true) in
-    record { number = sym (goes_on (code_number c.args.code) (23 when no_room c.args.bytes c.args.room) none ∙ ap (λ (b : Bool). 23 when b) (lt-ltb c.args.room c.args.bytes c.if-room-bytes.true));  written = refl }
+    record { number = sym (goes_on (code_number c.args.code) (23 when no_room c.args.bytes c.args.room) none ∙ ap (λ (b : Bool). 23 when b) (lt-ltb c.args.room c.args.bytes c.if-room-bytes.true)); written = refl }
 
 pub returns-then-is_accepted : goal.returns-then-is_accepted
 unfolding ◌when◌
 returns-then-is_accepted c =
     let none = eqb-true (code_number c.args.code) 0 (sym c.is_accepted.ensures ∙ c.if-is_accepted.true) in
-    record { number = sym (goes_on (code_number c.args.code) (23 when no_room c.args.bytes c.args.room) none ∙ ap (λ (b : Bool). 23 when b) (le-ltb c.args.room c.args.bytes (omega (arith, c.if-room-bytes.false))));  written = refl }
+    record { number = sym (goes_on (code_number c.args.code) (23 when no_room c.args.bytes c.args.room) none ∙ ap (λ (b : Bool). 23 when b) (le-ltb c.args.room c.args.bytes (omega (arith, c.if-room-bytes.false)))); written = refl }
 
 pub returns : goal.returns
 returns c =
     let stopped = sym c.is_accepted.ensures ∙ c.if-is_accepted.false in
-    record { number = sym (ends (code_number c.args.code) (23 when no_room c.args.bytes c.args.room) (omega (arith, eqb-false (code_number c.args.code) 0 stopped)));  written = sym (ap (λ (b : Bool). cond b c.args.bytes 0) stopped) }
+    record { number = sym (ends (code_number c.args.code) (23 when no_room c.args.bytes c.args.room) (omega (arith, eqb-false (code_number c.args.code) 0 stopped))); written = sym (ap (λ (b : Bool). cond b c.args.bytes 0) stopped) }

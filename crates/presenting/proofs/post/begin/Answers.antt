@@ -23,7 +23,7 @@ none t = sym t.send_number.ensures ∙ t.if-send_number-eq0.true
 pub post-next-requires : goal.post-next-requires
 post-next-requires c =
     let told = send_told c.args.time (code_number c.args.code) c.args.bytes (held c.args.session empty c.args.line.now) (sym c.send_answer-answer.ensures.number ∙ none (goal.at.post-next-requires c).Then-send_number-eq0) in
-    record { serial_lt_largest_serial = told.more;  envelope_bytes_in_bounds = omega (arith, told.room, c.requires) }
+    record { serial_lt_largest_serial = told.more; envelope_bytes_in_bounds = omega (arith, told.room, c.requires) }
 
 pub returns-then-send_number-eq0 : goal.returns-then-send_number-eq0
 returns-then-send_number-eq0 c =

@@ -10,4 +10,4 @@ use Rattle.presenting.proofs.post.post.Goals as goal
 pub returns : goal.returns
 returns c =
     let one_more : c.args.session.presenting.serial + 1 ≡ suc c.args.session.presenting.serial = omega arith in
-    record { session = c.sent.ensures;  line = c.write_envelope.ensures ∙ λ i. sets c.args.line.now 0 (written_envelope Kind.Message (record { route = c.presenting_route.ensures i; serial = one_more i })) }
+    record { session = c.sent.ensures; line = c.write_envelope.ensures ∙ λ i. sets c.args.line.now 0 (written_envelope Kind.Message (record { route = c.presenting_route.ensures i; serial = one_more i })) }

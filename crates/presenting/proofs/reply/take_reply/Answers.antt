@@ -37,7 +37,7 @@ returns-then-answer_number-eq0 c =
     let bytes = c.args.reply.now in
     let none = sym c.answer_number.ensures ∙ c.if-answer_number-eq0.true in
     let said : (line : List ℕ) → called_said c.replied.result.called c.replied.result.running line ≡ take_reply time bytes (lent line) = λ (line : List ℕ). c.replied.ensures line ∙ ap (λ (b : Bool). silent (replied time b (lent line))) ((arrived (goal.at.returns-then-answer_number-eq0 c).After-or_refused-answer).1 none) ∙ said_done (answer_number c.or_refused-answer.result) (reply_refusal time bytes s) (lent line) (silent (replied time (is_accepted bytes) (lent line))) (arrived (goal.at.returns-then-answer_number-eq0 c).After-or_refused-answer).0 none in
-    record { outcome = said;  premise = so_kept_beside s _ _ (said []) Direction.presenting (kept_beside (Call.reply time bytes) (lent []) (record { sound = c.requires.sound; carried = c.requires.carried })) }
+    record { outcome = said; premise = so_kept_beside s _ _ (said []) Direction.presenting (kept_beside (Call.reply time bytes) (lent []) (record { sound = c.requires.sound; carried = c.requires.carried })) }
 
 pub returns : goal.returns
 unfolding take_reply meaning
@@ -49,4 +49,4 @@ returns c =
     let answer = answer_number c.or_refused-answer.result in
     let some : answer ≡ 0 → ⊥ = λ (e : answer ≡ 0). c.if-answer_number-eq0.false (c.answer_number.ensures ∙ e) in
     let said : (line : List ℕ) → record { number = answer; written = 0; left = lent line } ≡ take_reply time bytes (lent line) = λ (line : List ℕ). said_refused answer (reply_refusal time bytes s) (lent line) (silent (replied time (is_accepted bytes) (lent line))) (arrived (goal.at.returns c).After-or_refused-answer).0 some in
-    record { outcome = said;  premise = so_kept_beside s _ _ (said []) Direction.presenting (kept_beside (Call.reply time bytes) (lent []) (record { sound = c.requires.sound; carried = c.requires.carried })) }
+    record { outcome = said; premise = so_kept_beside s _ _ (said []) Direction.presenting (kept_beside (Call.reply time bytes) (lent []) (record { sound = c.requires.sound; carried = c.requires.carried })) }

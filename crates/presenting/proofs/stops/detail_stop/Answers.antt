@@ -25,6 +25,9 @@ returns c =
     let told = c.read_part-read.ensures.totals in
     let adds = c.adding-adds.ensures ∙ ap (λ (o : ℕ). adding o read.totals) c.packed_byte.ensures in
     let rest : Running → ℕ = λ (more : Running). place orelse 12 when passes_lot (documents_in c.args.running + documents_in more) in
-    let code = c.detail_code.ensures ∙ ap (λ (more : Running). bytes orelse rest more) adds in record { code =
-      code ∙ detail_chain bytes place operation c.args.running read.totals meant told ∙ ap (λ (n : ℕ). n orelse rest (adding operation meant)) c.read_part-read.ensures.code;  adds =
-      λ (e : code_number c.detail_code.result ≡ 0). adds ∙ detail_adds_lem bytes place operation c.args.running read.totals meant told (code_number c.detail_code.result) code e }
+    let code = c.detail_code.ensures ∙ ap (λ (more : Running). bytes orelse rest more) adds in record {
+      code =
+          code ∙ detail_chain bytes place operation c.args.running read.totals meant told ∙ ap (λ (n : ℕ). n orelse rest (adding operation meant)) c.read_part-read.ensures.code;
+      adds =
+          λ (e : code_number c.detail_code.result ≡ 0). adds ∙ detail_adds_lem bytes place operation c.args.running read.totals meant told (code_number c.detail_code.result) code e;
+    }

@@ -1,6 +1,6 @@
 use mathlib.Core.Path.{◌≡◌, refl, ap, sym, ◌∙◌}
 use mathlib.Core.Bool.{◌||◌}
-use Prim.Native.Nat.{ℕ, suc, ◌+◌, ◌-◌, ◌<◌}
+use Prim.Native.Nat.{ℕ, suc, ◌+◌, ◌<◌}
 use native.Mathlib.Omega.{arith}
 use lib.Dec.{eqb}
 use lib.ListN.{length, take, get_or}
@@ -38,4 +38,4 @@ loop-i-preserved c =
 pub returns : goal.returns
 returns c =
     let all : c.loop-i.i ≡ c.args.count = omega (arith, c.loop-i.invariant.0, c.loop-i-test.false) in
-    record { number = c.loop-i.invariant.1 ∙ ap (λ (n : ℕ). number_used c.args.number (take n c.args.lots)) all;  totals = c.loop-i.invariant.2 ∙ ap (λ (n : ℕ). totals_used c.args.totals (take n c.args.lots)) all }
+    record { number = c.loop-i.invariant.1 ∙ ap (λ (n : ℕ). number_used c.args.number (take n c.args.lots)) all; totals = c.loop-i.invariant.2 ∙ ap (λ (n : ℕ). totals_used c.args.totals (take n c.args.lots)) all }

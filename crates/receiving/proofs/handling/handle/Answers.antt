@@ -55,4 +55,4 @@ returns c =
     let moved = c.advance-after.ensures ∙ ap (λ (x : Bool). advance found.effect x here) accepted ∙ same.moves here ∙ ap (λ (x : Bool). advance meant x here) told in
     let ended = c.ends.ensures ∙ ap (ends found.effect) accepted ∙ same.ends_so ∙ ap (ends meant) told in
     let places = c.kept.ensures ∙ ap (λ (x : Bool). kept found.effect x r.counters.lots r.lots) accepted ∙ same.keeps_so r.counters.lots r.lots ∙ ap (λ (x : Bool). kept meant x r.counters.lots r.lots) told in
-    record { receiving = λ i. record { serial = one_more i; reply = record { operation = operation i; code = kept-code i }; counters = (moved i).counters; ended = r.ended || ended i; lots = places i };  running = ap (λ (x : Course). x.running) moved }
+    record { receiving = λ i. record { serial = one_more i; reply = record { operation = operation i; code = kept-code i }; counters = (moved i).counters; ended = r.ended || ended i; lots = places i }; running = ap (λ (x : Course). x.running) moved }

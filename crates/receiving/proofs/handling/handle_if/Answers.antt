@@ -9,10 +9,10 @@ pub returns-then-next : goal.returns-then-next
 returns-then-next c =
     let body = c.args.body.now in
     let code = received_code (content_of body) c.args.time body c.args.p c.args.running c.args.r in
-    record { receiving = c.handle.ensures.receiving ∙ ap (λ (x : Bool). cond x (receiving_after code body c.args.running c.args.r) c.args.r) (sym c.if-next.true);  running = c.handle.ensures.running ∙ ap (λ (x : Bool). cond x (receiving_course code body c.args.running c.args.r).running c.args.running) (sym c.if-next.true) }
+    record { receiving = c.handle.ensures.receiving ∙ ap (λ (x : Bool). cond x (receiving_after code body c.args.running c.args.r) c.args.r) (sym c.if-next.true); running = c.handle.ensures.running ∙ ap (λ (x : Bool). cond x (receiving_course code body c.args.running c.args.r).running c.args.running) (sym c.if-next.true) }
 
 pub returns : goal.returns
 returns c =
     let body = c.args.body.now in
     let code = received_code (content_of body) c.args.time body c.args.p c.args.running c.args.r in
-    record { receiving = ap (λ (x : Bool). cond x (receiving_after code body c.args.running c.args.r) c.args.r) (sym c.if-next.false);  running = ap (λ (x : Bool). cond x (receiving_course code body c.args.running c.args.r).running c.args.running) (sym c.if-next.false) }
+    record { receiving = ap (λ (x : Bool). cond x (receiving_after code body c.args.running c.args.r) c.args.r) (sym c.if-next.false); running = ap (λ (x : Bool). cond x (receiving_course code body c.args.running c.args.r).running c.args.running) (sym c.if-next.false) }

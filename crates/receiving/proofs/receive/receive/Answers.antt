@@ -79,7 +79,7 @@ returns-then-answer_number-eq0 c =
     ap (λ (x : ReceiveOutcome). received_said x.received x.running line) c.replying.ensures.result
     ∙ (λ i. record { number = sym (none (goal.at.returns-then-answer_number-eq0 c).Then-answer_number-eq0) i; written = reply_room; left = held (seen_at c.args.time (with_receiving c.handle_if-after.result.receiving s)) c.handle_if-after.result.running line })
     ∙ replied_so c.args.time bytes s c.args.running c.args.line.now (answer_number c.or_refused-answer.result) (arrived (goal.at.returns-then-answer_number-eq0 c).After-or_refused-answer).0 (none (goal.at.returns-then-answer_number-eq0 c).Then-answer_number-eq0) next c.handle_if-after.result.receiving c.handle_if-after.result.running line ((arrived (goal.at.returns-then-answer_number-eq0 c).After-or_refused-answer).1 (none (goal.at.returns-then-answer_number-eq0 c).Then-answer_number-eq0)) after running c.replying.ensures.line in
-    record { outcome = said;  premise = so_kept_beside s _ _ said Direction.receiving (kept_beside (Call.receive c.args.time bytes) lent (record { sound = c.requires.sound; carried = c.requires.carried })) }
+    record { outcome = said; premise = so_kept_beside s _ _ said Direction.receiving (kept_beside (Call.receive c.args.time bytes) lent (record { sound = c.requires.sound; carried = c.requires.carried })) }
 
 pub returns : goal.returns
 unfolding receive meaning
@@ -90,4 +90,4 @@ returns c =
     let answer = answer_number c.or_refused-answer.result in
     let some : answer ≡ 0 → ⊥ = λ (e : answer ≡ 0). c.if-answer_number-eq0.false (c.answer_number.ensures ∙ e) in
     let said : record { number = answer; written = 0; left = lent } ≡ receive time bytes lent = said_refused answer (receive_refusal time bytes (length c.args.line.now) c.args.session) lent (replying bytes (after_message time bytes lent)) (arrived (goal.at.returns c).After-or_refused-answer).0 some in
-    record { outcome = said;  premise = so_kept_beside c.args.session _ _ said Direction.receiving (kept_beside (Call.receive time bytes) lent (record { sound = c.requires.sound; carried = c.requires.carried })) }
+    record { outcome = said; premise = so_kept_beside c.args.session _ _ said Direction.receiving (kept_beside (Call.receive time bytes) lent (record { sound = c.requires.sound; carried = c.requires.carried })) }

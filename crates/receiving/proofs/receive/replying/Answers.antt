@@ -8,4 +8,4 @@ use Rattle.receiving.proofs.receive.replying.Goals as goal
 pub returns : goal.returns
 returns c =
     let after = c.args.after.receiving in
-    record { result = refl;  line = c.write_reply.ensures ∙ ap (λ (x : Route). sets c.args.line.now 0 (whole_reply (record { route = x; serial = after.serial }) after.reply)) c.receiving_route.ensures }
+    record { result = refl; line = c.write_reply.ensures ∙ ap (λ (x : Route). sets c.args.line.now 0 (whole_reply (record { route = x; serial = after.serial }) after.reply)) c.receiving_route.ensures }

@@ -13,4 +13,4 @@ shape_of-output c =
 
 pub returns : goal.returns
 returns c =
-    record { length = refl;  kept = all_behind c.args.words.now c.args.shown.now c.args.output.now _ _ _ c.copy.ensures c.write_hex.ensures refl c.requires }
+    record { length = refl; kept = all_behind c.args.words.now c.args.shown.now c.args.output.now _ _ _ c.copy.ensures c.write_hex.ensures refl c.requires }

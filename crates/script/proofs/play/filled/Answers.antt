@@ -5,4 +5,4 @@ use Rattle.script.proofs.play.filled.Goals as goal
 
 pub returns : goal.returns
 unfolding filled
-returns c = record { value = refl;  size = refl }
+returns c = record { value = refl; size = refl }

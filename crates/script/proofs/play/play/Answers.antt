@@ -1,5 +1,4 @@
 use mathlib.Core.Path.{refl, sym, ◌∙◌}
-use Prim.Native.Nat.{◌-◌}
 use Rattle.script.specs.declared.play.Stop.{Stop}
 use Rattle.script.proofs.Laws.Play.{further, stops, not_all}
 use native.Mathlib.Omega.{arith}

@@ -6,8 +6,8 @@ use Rattle.script.proofs.play.seat_at.Goals as goal
 
 pub returns-then-near : goal.returns-then-near
 returns-then-near c =
-    record { outcome = sym (ap (λ (b : Bool). cond b (seat_of c.args.player.near) (seat_of c.args.player.far)) c.if-near.true);  premise = c.requires.near }
+    record { outcome = sym (ap (λ (b : Bool). cond b (seat_of c.args.player.near) (seat_of c.args.player.far)) c.if-near.true); premise = c.requires.near }
 
 pub returns : goal.returns
 returns c =
-    record { outcome = sym (ap (λ (b : Bool). cond b (seat_of c.args.player.near) (seat_of c.args.player.far)) c.if-near.false);  premise = c.requires.far }
+    record { outcome = sym (ap (λ (b : Bool). cond b (seat_of c.args.player.near) (seat_of c.args.player.far)) c.if-near.false); premise = c.requires.far }

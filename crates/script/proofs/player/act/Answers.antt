@@ -15,14 +15,14 @@ slice_bounds-start_at-end c = sym (length-take-le _ _ c.requires.more_in_bounds)
 
 pub returns-in-Nothing : goal.returns-in-Nothing
 returns-in-Nothing c =
-    record { outcome = ap seat_of c.untouched.ensures.0 ∙ asks c.args.reading c.args.bytes.now c.args.line.now (seat_of c.args.seat) c.in-Nothing.is;  premise = subst ReadySeat (sym c.untouched.ensures.0) c.requires.ready_seat;  written = ap (λ (n : ℕ). take n c.args.line.now) c.untouched.ensures.1 ∙ writes c.args.reading c.args.bytes.now c.args.line.now (seat_of c.args.seat) c.in-Nothing.is }
+    record { outcome = ap seat_of c.untouched.ensures.0 ∙ asks c.args.reading c.args.bytes.now c.args.line.now (seat_of c.args.seat) c.in-Nothing.is; premise = subst ReadySeat (sym c.untouched.ensures.0) c.requires.ready_seat; written = ap (λ (n : ℕ). take n c.args.line.now) c.untouched.ensures.1 ∙ writes c.args.reading c.args.bytes.now c.args.line.now (seat_of c.args.seat) c.in-Nothing.is }
 
 pub returns-in-Start : goal.returns-in-Start
 returns-in-Start c =
     let said = c.start_at.ensures in
-    record { outcome = said.outcome ∙ asks c.args.reading c.args.bytes.now c.args.line.now (seat_of c.args.seat) c.in-Start.is;  premise = said.premise;  written = ap (λ (n : ℕ). take n c.args.line.now) said.written ∙ writes c.args.reading c.args.bytes.now c.args.line.now (seat_of c.args.seat) c.in-Start.is }
+    record { outcome = said.outcome ∙ asks c.args.reading c.args.bytes.now c.args.line.now (seat_of c.args.seat) c.in-Start.is; premise = said.premise; written = ap (λ (n : ℕ). take n c.args.line.now) said.written ∙ writes c.args.reading c.args.bytes.now c.args.line.now (seat_of c.args.seat) c.in-Start.is }
 
 pub returns-in-Call : goal.returns-in-Call
 returns-in-Call c =
     let said = c.call_at.ensures in
-    record { outcome = said.outcome ∙ asks c.args.reading c.args.bytes.now c.args.line.now (seat_of c.args.seat) c.in-Call.is;  premise = said.premise;  written = said.written ∙ writes c.args.reading c.args.bytes.now c.args.line.now (seat_of c.args.seat) c.in-Call.is }
+    record { outcome = said.outcome ∙ asks c.args.reading c.args.bytes.now c.args.line.now (seat_of c.args.seat) c.in-Call.is; premise = said.premise; written = said.written ∙ writes c.args.reading c.args.bytes.now c.args.line.now (seat_of c.args.seat) c.in-Call.is }
