@@ -14,7 +14,6 @@ use Rattle.message.specs.declared.route.Route.{Route}
 use Rattle.message.specs.declared.envelope.Kind.{Kind}
 use Rattle.message.specs.declared.envelope.Envelope.{Envelope}
 use Rattle.message.specs.declared.reply.ReplyOperation.{ReplyOperation}
-use Rattle.message.specs.declared.reply.Reply.{Reply}
 use Rattle.message.specs.Limits.{envelope_bytes}
 use Rattle.message.specs.Reading.{reading}
 use Rattle.message.specs.Layout.{read_body}

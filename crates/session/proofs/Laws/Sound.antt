@@ -7,7 +7,6 @@ use native.Mathlib.Omega.{arith}
 use lib.Dec.{eqb}
 use lib.ListN.{length, length-set, length-replicate}
 use borrow.Author.Tests.{eqb-true}
-use Rattle.detail.specs.Groups.{documents}
 use Rattle.message.specs.declared.envelope.Kind.{Kind}
 use Rattle.message.specs.Envelope.{serial_of, body_of}
 use Rattle.message.specs.Content.{content_of}

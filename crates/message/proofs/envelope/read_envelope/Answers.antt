@@ -1,15 +1,14 @@
 -- `read_envelope`: a length that the kind has not is refused; else kind, digits and serial decide.
 use mathlib.Core.Path.{◌≡◌, ap, sym, ◌∙◌}
-use mathlib.Core.Bool.{Bool, true, false, not, ◌&&◌}
+use mathlib.Core.Bool.{Bool, true, false, not}
 use mathlib.Core.List.{List, []}
 use Prim.Native.Nat.{ℕ, ◌≤◌}
 use native.Mathlib.Omega.{arith}
-use lib.Dec.{eqb, lit<}
+use lib.Dec.{lit<}
 use lib.ListN.{length}
-use Rattle.packed.specs.Part.{byte_at}
 use Rattle.codes.specs.Chain.{◌when◌}
-use Rattle.codes.specs.Field.{between, table_numbers}
-use Rattle.message.specs.Limits.{envelope_bytes, largest_serial}
+use Rattle.codes.specs.Field.{table_numbers}
+use Rattle.message.specs.Limits.{envelope_bytes}
 use Rattle.message.specs.declared.envelope.Kind.{Kind}
 use Rattle.message.specs.declared.envelope.Envelope.{Envelope}
 use Rattle.message.specs.Reading.{reading}

@@ -25,7 +25,7 @@ pub fields_of-h-requires : goal.fields_of-h-requires
 fields_of-h-requires c = enough c
 
 pub fields_good-requires : goal.fields_good-requires
-fields_good-requires c = record { header_bytes_in_bounds = enough (goal.at.fields_good-requires c).Then-fixed_shape;  h_value = c.fields_of-h.ensures }
+fields_good-requires c = record { header_bytes_in_bounds = enough (goal.at.fields_good-requires c).Then-fixed_shape; h_value = c.fields_of-h.ensures }
 
 pub returns-then-fields_good : goal.returns-then-fields_good
 returns-then-fields_good c =

@@ -25,7 +25,7 @@ returns-then-parties_good c =
     let good : parties_good c.args.date c.args.own c.args.partner c.args.represented.now ≡ true = sym c.parties_good.ensures ∙ c.if-parties_good.true in
     let made : c.fresh.result ≡ started c.args.date c.args.own c.args.partner c.args.represented.now = c.fresh.ensures ∙ ap (λ (p : Parties). fresh p Close.Open) c.parties_of.ensures in
     let said : record { number = 0; session = c.fresh.result } ≡ start c.args.date c.args.own c.args.partner c.args.represented.now = ap (λ (s : Session). chosen true s (fresh nobody Close.Forced)) made ∙ ap (λ (t : Bool). chosen t (started c.args.date c.args.own c.args.partner c.args.represented.now) (fresh nobody Close.Forced)) (sym good) in
-    record { outcome = said;  premise = subst (λ (s : Session). Ready (with_empty s)) (sym (ap (λ (o : StartOutcome). o.session) said)) (begun c.args.date c.args.own c.args.partner c.args.represented.now) }
+    record { outcome = said; premise = subst (λ (s : Session). Ready (with_empty s)) (sym (ap (λ (o : StartOutcome). o.session) said)) (begun c.args.date c.args.own c.args.partner c.args.represented.now) }
 
 pub returns : goal.returns
 unfolding start chosen ◌when◌
@@ -33,4 +33,4 @@ returns c =
     let wrong : parties_good c.args.date c.args.own c.args.partner c.args.represented.now ≡ false = sym c.parties_good.ensures ∙ c.if-parties_good.false in
     let made : c.fresh-2.result ≡ fresh nobody Close.Forced = c.fresh-2.ensures ∙ ap (λ (p : Parties). fresh p Close.Forced) c.nobody.ensures in
     let said : record { number = 24; session = c.fresh-2.result } ≡ start c.args.date c.args.own c.args.partner c.args.represented.now = ap (chosen false (started c.args.date c.args.own c.args.partner c.args.represented.now)) made ∙ ap (λ (t : Bool). chosen t (started c.args.date c.args.own c.args.partner c.args.represented.now) (fresh nobody Close.Forced)) (sym wrong) in
-    record { outcome = said;  premise = subst (λ (s : Session). Ready (with_empty s)) (sym (ap (λ (o : StartOutcome). o.session) said)) (begun c.args.date c.args.own c.args.partner c.args.represented.now) }
+    record { outcome = said; premise = subst (λ (s : Session). Ready (with_empty s)) (sym (ap (λ (o : StartOutcome). o.session) said)) (begun c.args.date c.args.own c.args.partner c.args.represented.now) }
