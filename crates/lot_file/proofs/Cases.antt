@@ -14,7 +14,7 @@ use Rattle.session.specs.Limits.{most_lots, most_lot_documents}
 use Rattle.lot_file.specs.Layout.{binary, binary_bytes, bytes_of, rows_of, table_of, bodies_of, file_of}
 use Rattle.lot_file.specs.Good.{row_in, rows_in, used, row_good, in_order, end_of, good}
 use Rattle.lot_file.specs.Reading.{lots_in, body_in, row_for, absent_refusal, found, body_found}
-use Rattle.lot_file.specs.Adding.{tray_good, add_refusal, added}
+use Rattle.lot_file.specs.Adding.{add_refusal, added}
 use Rattle.lot_file.specs.TakingOut.{without, taken_out}
 
 -- so many bytes of one value; a row of zeros

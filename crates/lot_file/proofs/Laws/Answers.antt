@@ -1,6 +1,6 @@
 -- What each call answers and leaves, outcome by outcome, from what its functions have found.
-use mathlib.Core.Path.{◌≡◌, refl, ap, sym, subst, ◌∙◌}
-use mathlib.Core.Bool.{Bool, true, false, not, ◌&&◌, ◌||◌, cond}
+use mathlib.Core.Path.{◌≡◌, refl, ap, sym, ◌∙◌}
+use mathlib.Core.Bool.{Bool, true, false, ◌&&◌, ◌||◌, cond}
 use mathlib.Core.List.{List, [], ◌∷◌, ◌++◌, map}
 use Prim.Native.Nat.{ℕ, suc, ◌+◌, ◌-◌, ◌*◌, ◌≤◌, ◌<◌}
 use native.Mathlib.Omega.{arith}
@@ -8,7 +8,6 @@ use lib.Dec.{eqb, leb, ltb}
 use lib.ListN.{length, take, drop, get_or, length-map}
 use borrow.Author.Tests.{lt-ltb, le-ltb, leb-false, ltb-false, eqb-true}
 use Rattle.packed.specs.Part.{part}
-use Rattle.packed.specs.Every.{member}
 use Rattle.packed.proofs.Laws.Told.{both}
 use Rattle.packed.proofs.Laws.Member.{neither}
 use Rattle.codes.specs.Chain.{◌when◌, ◌orelse◌}
@@ -19,7 +18,7 @@ use Rattle.lot_file.specs.declared.contents.Contents.{Contents}
 use Rattle.lot_file.specs.declared.answers.FindShown.{FindShown}
 use Rattle.lot_file.specs.Layout.{Stored, table_bytes, file_of, over}
 use Rattle.lot_file.specs.Good.{rows_in, used_rows, numbers_of, body_bytes, order_number, in_order, end_of, good}
-use Rattle.lot_file.specs.Reading.{lot_at, lots_in, body_in, present, no_row, row_for, check_refusal, absent_refusal, found_row, found, body_found}
+use Rattle.lot_file.specs.Reading.{lot_at, lots_in, body_in, present, no_row, row_for, check_refusal, absent_refusal, found, body_found}
 use Rattle.lot_file.specs.Adding.{tray_good, no_room, add_refusal, with_lot, added}
 use Rattle.lot_file.specs.TakingOut.{without, taken_out}
 use Rattle.lot_file.specs.Inner.Search.{place_of}
@@ -33,7 +32,7 @@ use Rattle.lot_file.proofs.Laws.Found.{numbered_place, without_place, row_inside
 
 -- what `contents_of` has told of a slice
 abbrev pub Judged : (rows most : ℕ) (s : List ℕ) → Contents → Type 0
-Judged rows most s c = (c.well-formed ≡ good rows most s) × (c.well-formed ≡ true → ToldOf rows s c)
+Judged rows most s c = record { verdict : c.good ≡ good rows most s; told : c.good ≡ true → ToldOf rows s c }
 
 pub checked_wrong : (rows most : ℕ) (s : List ℕ) → good rows most s ≡ false → check_refusal rows most s ≡ 25
 unfolding check_refusal ◌when◌
@@ -89,14 +88,14 @@ pub record Asked (rows most : ℕ) (s : List ℕ) (c : Contents) (n : ℕ) : Typ
   pub few : c.used ≤ rows
   pub table : table_bytes c.used ≤ length s
 
-pub asked : (rows most : ℕ) (s : List ℕ) (c : Contents) (n : ℕ) (o : Bool) → Judged rows most s c → o ≡ order_number n → c.well-formed && o ≡ true → Asked rows most s c n
+pub asked : (rows most : ℕ) (s : List ℕ) (c : Contents) (n : ℕ) (o : Bool) → Judged rows most s c → o ≡ order_number n → c.good && o ≡ true → Asked rows most s c n
 asked rows most s c n o j e taken =
-    let first = both c.well-formed o taken in
-    let clauses = sound rows most s (sym j.0 ∙ first.0) in
-    let told = j.1 first.0 in
+    let first = both c.good o taken in
+    let clauses = sound rows most s (sym j.verdict ∙ first.0) in
+    let told = j.told first.0 in
     let few = used_rows_lem rows s clauses.table in
     record {
-      passed = (λ i. sym j.0 i && sym e i) ∙ taken;
+      passed = (λ i. sym j.verdict i && sym e i) ∙ taken;
       clauses = clauses;
       counted = told.used;
       ended = told.end;
@@ -104,8 +103,8 @@ asked rows most s c n o j e taken =
       table = omega (arith, told.used, clauses.table);
     }
 
-pub unasked : (rows most : ℕ) (s : List ℕ) (c : Contents) (n : ℕ) (o : Bool) → Judged rows most s c → o ≡ order_number n → c.well-formed && o ≡ false → good rows most s && order_number n ≡ false
-unasked rows most s c n o j e left = (λ i. sym j.0 i && sym e i) ∙ left
+pub unasked : (rows most : ℕ) (s : List ℕ) (c : Contents) (n : ℕ) (o : Bool) → Judged rows most s c → o ≡ order_number n → c.good && o ≡ false → good rows most s && order_number n ≡ false
+unasked rows most s c n o j e left = (λ i. sym j.verdict i && sym e i) ∙ left
 
 pub lots_numbers : (s : List ℕ) (rs : List Row) → lot_numbers (map (lot_at s) rs) ≡ numbers_of rs
 lots_numbers s [] = refl

@@ -1,11 +1,11 @@
 -- Laws of numbers as bytes, two and four of them: what is read, and both round trips.
 use mathlib.Core.Path.{◌≡◌, ap, sym, ◌∙◌}
 use mathlib.Core.List.{List, [], ◌∷◌, ◌++◌}
-use Prim.Native.Nat.{ℕ, suc, ◌+◌, ◌*◌, ◌^◌, ◌/◌, ◌%◌, ◌≤◌, ◌<◌}
+use Prim.Native.Nat.{ℕ, suc, ◌+◌, ◌*◌, ◌/◌, ◌%◌, ◌≤◌, ◌<◌}
 use native.Mathlib.Numerals.{add-one}
 use native.Mathlib.Omega.{arith}
-use lib.ListN.{length, get_or, drop, take}
-use lib.Seq.{drop-cons, get_or-drop}
+use lib.ListN.{length, get_or}
+use lib.Seq.{drop-cons}
 use Rattle.packed.specs.Part.{part}
 use Rattle.packed.proofs.Laws.Part.{part_split}
 use Rattle.lot_file.specs.Layout.{binary, binary_bytes}

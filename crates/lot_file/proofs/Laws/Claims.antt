@@ -2,8 +2,8 @@
 -- holds what it was written of.
 use mathlib.Core.Path.{◌≡◌, refl, ap, sym, subst, ◌∙◌}
 use mathlib.Core.Bool.{Bool, true, false, not, ◌&&◌, ◌||◌, cond}
-use mathlib.Core.List.{List, [], ◌∷◌, ◌++◌, map}
-use Prim.Native.Nat.{ℕ, zero, suc, ◌+◌, ◌-◌, ◌*◌, ◌^◌, ◌≤◌, ◌<◌}
+use mathlib.Core.List.{List, [], ◌∷◌, ◌++◌}
+use Prim.Native.Nat.{ℕ, zero, suc, ◌+◌, ◌-◌, ◌*◌, ◌≤◌, ◌<◌}
 use native.Mathlib.Nat.{mul-le-mul_right}
 use native.Mathlib.Omega.{arith}
 use lib.Dec.{eqb, leb, ltb, lit<}
@@ -17,18 +17,18 @@ use Rattle.packed.proofs.Laws.Member.{neither, none_twice_last}
 use Rattle.codes.specs.Chain.{◌when◌, ◌orelse◌}
 use Rattle.document.specs.Limits.{document_bytes}
 use Rattle.session.specs.Limits.{most_lots, most_lot_documents}
-use Rattle.lot_file.specs.Layout.{Stored, table_bytes, bodies_of, file_of, over}
-use Rattle.lot_file.specs.Good.{used_rows, numbers_of, order_number, end_of, good}
-use Rattle.lot_file.specs.Reading.{lot_at, lots_in, body_in, present, absent_refusal, body_found}
+use Rattle.lot_file.specs.Layout.{Stored, table_bytes, file_of, over}
+use Rattle.lot_file.specs.Good.{used_rows, order_number, end_of, good}
+use Rattle.lot_file.specs.Reading.{lots_in, body_in, present, absent_refusal, body_found}
 use Rattle.lot_file.specs.Adding.{tray_good, lot_good, no_room, add_refusal, with_lot, added}
 use Rattle.lot_file.specs.TakingOut.{without, taken_out}
 use Rattle.lot_file.specs.Claims.{StartsFit, is_bytes, storable, SameReading, WhatIsGood, OfAdding, OfTakingOut, OfBoth, EveryLotFile}
 use Rattle.lot_file.proofs.Laws.Binary.{Bytes}
 use Rattle.lot_file.proofs.Laws.Lots.{lot_numbers, rows_count, rows_end}
-use Rattle.lot_file.proofs.Laws.Held.{Sound, sound, used_rows_lem, lots_count, held_rows, held_good, held_file, held}
+use Rattle.lot_file.proofs.Laws.Held.{sound, used_rows_lem, lots_count, held_rows, held_good, held_file, held}
 use Rattle.lot_file.proofs.Laws.Written.{Valid, file_length, written_rows, written_lots, written_good}
 use Rattle.lot_file.proofs.Laws.Answers.{lots_numbers, refused_46, unrefused, good_unrefused, adding_25, adding_4, adding_45, adding_0, nothing_added, one_added, nothing_taken, one_taken}
-use Rattle.lot_file.proofs.Laws.Lookup.{body_absent, new_body, old_body, new_there, old_there, numbers_last, rest_body, rest_there, rest_few, rest_fewer, rest_each, rest_alike, rest_last, bodies_few, bodies_rest, body_good}
+use Rattle.lot_file.proofs.Laws.Lookup.{new_body, old_body, new_there, old_there, numbers_last, rest_body, rest_there, rest_few, rest_fewer, rest_each, rest_alike, rest_last, bodies_few, bodies_rest, body_good}
 
 -- a tested list of bytes
 byte_at : (s : List ℕ) → is_bytes s ≡ true → Bytes s

@@ -1,35 +1,30 @@
 -- Laws of a lot that is looked for in a good slice: its place among the used rows, its row, where its body lies, and the slice once it is gone.
 use mathlib.Core.Path.{◌≡◌, refl, ap, sym, ◌∙◌}
-use mathlib.Core.Bool.{Bool, true, false, not, ◌&&◌, cond}
+use mathlib.Core.Bool.{Bool, true, false, cond}
 use mathlib.Core.List.{List, [], ◌∷◌, ◌++◌, map, flat_map, append_assoc}
-use Prim.Native.Nat.{ℕ, zero, suc, ◌+◌, ◌-◌, ◌*◌, ◌≤◌, ◌<◌}
-use native.Mathlib.Numerals.{add-one}
+use Prim.Native.Nat.{ℕ, zero, suc, ◌+◌, ◌-◌, ◌≤◌, ◌<◌}
 use native.Mathlib.Omega.{arith}
-use lib.Dec.{eqb, ltb}
+use lib.Dec.{eqb}
 use lib.ListN.{length, take, drop, get_or, replicate, length-map, length-append, length-drop}
-use lib.Seq.{sets, take_at, drop_at, drop-drop, split_at, length-take-le, drop-cons, get_or_at}
-use borrow.Author.Tests.{eqb-true, lt-ltb}
+use lib.Seq.{sets, take_at, drop_at, get_or_at}
+use borrow.Author.Tests.{eqb-true}
 use Rattle.packed.specs.Part.{part}
-use Rattle.packed.specs.Every.{every, member}
+use Rattle.packed.specs.Every.{every}
 use Rattle.packed.proofs.Laws.Told.{both}
 use Rattle.packed.proofs.Laws.Every.{every_append, every_cons}
 use Rattle.codes.specs.Numbered.{numbered}
-use Rattle.document.specs.Limits.{document_bytes}
 use Rattle.lot_file.specs.declared.row.Row.{Row}
-use Rattle.lot_file.specs.declared.contents.Contents.{Contents}
-use Rattle.lot_file.specs.Layout.{Stored, row_bytes, table_bytes, bytes_of, row_of, rows_of, table_of, bodies_of, file_of, over}
-use Rattle.lot_file.specs.Good.{rows_in, used_rows, numbers_of, body_bytes, in_order, end_of}
-use Rattle.lot_file.specs.Reading.{lot_at, lots_in, body_in, present, no_row, row_for}
+use Rattle.lot_file.specs.Layout.{Stored, row_bytes, table_bytes, bytes_of, row_of, rows_of, bodies_of, file_of, over}
+use Rattle.lot_file.specs.Good.{rows_in, used_rows, body_bytes, in_order, end_of}
+use Rattle.lot_file.specs.Reading.{lot_at, lots_in, no_row}
 use Rattle.lot_file.specs.Adding.{with_lot, lot_good}
 use Rattle.lot_file.specs.TakingOut.{without}
 use Rattle.lot_file.specs.Inner.Search.{place_of}
-use Rattle.lot_file.specs.Inner.Contents.{ToldOf}
 use Rattle.lot_file.specs.Inner.Moving.{appended, row_at, restarted, table_closed, closed}
 use Rattle.lot_file.proofs.Laws.Binary.{Bytes}
 use Rattle.lot_file.proofs.Laws.Rows.{rows_next, rows_split, rows_length}
-use Rattle.lot_file.proofs.Laws.Lots.{told, rows_append, rows_count, rows_end, rows_numbers, lot_numbers, end_behind, read_bodies}
+use Rattle.lot_file.proofs.Laws.Lots.{told, rows_append, rows_count, rows_end, lot_numbers, end_behind, read_bodies}
 use Rattle.lot_file.proofs.Laws.Held.{Sound, used_rows_lem, used_are, lots_count, held_rows, held_good, held}
-use Rattle.lot_file.proofs.Laws.Search.{place_member}
 use Rattle.lot_file.proofs.Laws.Rewritten.{start_after, added_file, taken_file}
 use Rattle.lot_file.proofs.Laws.Contents.{order_append, end_append}
 

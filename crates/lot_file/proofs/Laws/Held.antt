@@ -1,20 +1,19 @@
 -- What a good slice is: the file of the lots that it holds, and the bytes past it.
 use mathlib.Core.Path.{◌≡◌, refl, ap, sym, ◌∙◌}
-use mathlib.Core.Bool.{Bool, true, false, ◌&&◌}
-use mathlib.Core.List.{List, [], ◌∷◌, ◌++◌, map, flat_map}
-use Prim.Native.Nat.{ℕ, zero, suc, ◌+◌, ◌-◌, ◌*◌, ◌≤◌, ◌<◌}
+use mathlib.Core.Bool.{true, ◌&&◌}
+use mathlib.Core.List.{List, [], ◌∷◌, ◌++◌, flat_map}
+use Prim.Native.Nat.{ℕ, ◌+◌, ◌-◌, ◌≤◌}
 use native.Mathlib.Omega.{arith}
 use lib.Dec.{eqb, leb}
 use lib.ListN.{length, take, drop, replicate, length-map, take-append-drop}
-use lib.Seq.{take-add, length-take-le}
+use lib.Seq.{take-add}
 use borrow.Author.Tests.{eqb-true, leb-true}
 use Rattle.packed.specs.Part.{part}
 use Rattle.packed.specs.Every.{every, none_twice}
 use Rattle.packed.proofs.Laws.Told.{both}
 use Rattle.packed.proofs.Laws.Every.{every_cons}
 use Rattle.packed.proofs.Laws.Part.{part_length}
-use Rattle.lot_file.specs.declared.row.Row.{Row}
-use Rattle.lot_file.specs.Layout.{Stored, table_bytes, bytes_of, rows_of, table_of, bodies_of, file_of, over}
+use Rattle.lot_file.specs.Layout.{table_bytes, bytes_of, rows_of, table_of, bodies_of, file_of}
 use Rattle.lot_file.specs.Good.{rows_in, used_rows, numbers_of, row_good, in_order, end_of, rest_zero, good}
 use Rattle.lot_file.specs.Reading.{lot_at, lots_in}
 use Rattle.lot_file.specs.Adding.{lot_good}

@@ -1,24 +1,24 @@
 -- Laws of lots and their rows: how the rows of some lots are made, and how the lots of some rows are read.
 use mathlib.Core.Path.{◌≡◌, refl, ap, sym, ◌∙◌}
-use mathlib.Core.Bool.{Bool, true, false, ◌&&◌, cond}
+use mathlib.Core.Bool.{true, ◌&&◌}
 use mathlib.Core.List.{List, [], ◌∷◌, ◌++◌, map, flat_map, append_assoc}
-use Prim.Native.Nat.{ℕ, zero, suc, ◌+◌, ◌-◌, ◌*◌, ◌/◌, ◌%◌, ◌≤◌, ◌<◌}
+use Prim.Native.Nat.{ℕ, suc, ◌+◌, ◌-◌, ◌*◌, ◌%◌, ◌≤◌, ◌<◌}
 use native.Mathlib.Nat.{zero-add, add-zero, suc-add}
 use native.Mathlib.Omega.{arith}
 use lib.Dec.{eqb, leb}
-use lib.ListN.{length, take, drop, length-append, length-take, length-drop}
+use lib.ListN.{length, take, drop, length-append}
 use lib.Seq.{drop-drop, take_at, drop_at}
 use borrow.Author.Tests.{eqb-true, leb-true, eq-eqb, le-leb}
 use Rattle.packed.specs.Part.{part}
 use Rattle.packed.specs.Every.{every}
-use Rattle.packed.proofs.Laws.Told.{both, three}
+use Rattle.packed.proofs.Laws.Told.{both}
 use Rattle.packed.proofs.Laws.Every.{every_cons}
 use Rattle.packed.proofs.Laws.Part.{part_length, part_split}
 use Rattle.document.specs.Limits.{document_bytes}
 use Rattle.document.specs.Part.{count_in}
 use Rattle.message.specs.Limits.{largest_order_number}
 use Rattle.lot_file.specs.declared.row.Row.{Row}
-use Rattle.lot_file.specs.Layout.{Stored, row_bytes, table_bytes, bytes_of, row_of, rows_of, bodies_of}
+use Rattle.lot_file.specs.Layout.{Stored, table_bytes, bytes_of, row_of, rows_of, bodies_of}
 use Rattle.lot_file.specs.Good.{rows_in, used, numbers_of, body_bytes, order_number, row_good, in_order, end_of}
 use Rattle.lot_file.specs.Reading.{lot_at}
 use Rattle.lot_file.specs.Adding.{tray_good, lot_good}

@@ -1,16 +1,14 @@
 -- A slice of which two runs are written anew, and no other byte, is a file laid over the slice: how adding and taking out come to the file of the
 -- new lots.
 use mathlib.Core.Path.{◌≡◌, refl, ap, sym, ◌∙◌}
-use mathlib.Core.List.{List, [], ◌∷◌, ◌++◌, map, flat_map, append_assoc, append-nil}
-use Prim.Native.Nat.{ℕ, suc, ◌+◌, ◌-◌, ◌*◌, ◌≤◌, ◌<◌}
+use mathlib.Core.List.{List, [], ◌∷◌, ◌++◌, flat_map, append_assoc, append-nil}
+use Prim.Native.Nat.{ℕ, suc, ◌+◌, ◌-◌, ◌≤◌, ◌<◌}
 use native.Mathlib.Omega.{arith}
-use lib.ListN.{length, take, drop, replicate, length-append, length-replicate, replicate-append-replicate}
+use lib.ListN.{length, drop, replicate, length-append, length-replicate, replicate-append-replicate}
 use lib.Seq.{sets, sets-eq, take_at, drop_at, drop-append-add}
-use Rattle.packed.specs.Every.{every}
 use Rattle.packed.proofs.Laws.FlatMap.{flat_append}
-use Rattle.lot_file.specs.declared.row.Row.{Row}
 use Rattle.lot_file.specs.Layout.{Stored, row_bytes, table_bytes, bytes_of, row_of, rows_of, table_of, bodies_of, file_of, over}
-use Rattle.lot_file.specs.Adding.{with_lot, lot_good}
+use Rattle.lot_file.specs.Adding.{with_lot}
 use Rattle.lot_file.proofs.Laws.Rows.{row_length}
 use Rattle.lot_file.proofs.Laws.Lots.{table_count, rows_append}
 

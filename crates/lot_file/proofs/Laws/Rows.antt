@@ -1,19 +1,17 @@
 -- Laws of rows: ten bytes each, read and written again; the first rows of a slice in two runs; and what the rows of a slice are as bytes.
 use mathlib.Core.Path.{◌≡◌, refl, ap, sym, subst, ◌∙◌}
-use mathlib.Core.Bool.{Bool, true, false, not, cond}
-use mathlib.Core.List.{List, [], ◌∷◌, ◌++◌, map, flat_map, append_assoc}
-use Prim.Native.Nat.{ℕ, zero, suc, ◌+◌, ◌-◌, ◌*◌, ◌≤◌, ◌<◌}
+use mathlib.Core.Bool.{Bool, true, false, cond}
+use mathlib.Core.List.{List, [], ◌∷◌, ◌++◌, flat_map}
+use Prim.Native.Nat.{ℕ, zero, suc, ◌+◌, ◌-◌, ◌≤◌, ◌<◌}
 use native.Mathlib.Nat.{zero-add, add-zero, suc-add}
 use native.Mathlib.Omega.{arith}
 use lib.Dec.{eqb}
-use lib.ListN.{length, take, drop, get_or, length-map, length-append, length-drop}
+use lib.ListN.{length, take, drop, length-append, length-drop}
 use lib.Seq.{take-add, drop-drop, take_at, drop_at, get_or-drop}
-use borrow.Author.Tests.{eqb-true, eq-eqb, ne_eqb}
+use borrow.Author.Tests.{eq-eqb, ne_eqb}
 use Rattle.packed.specs.Part.{part}
-use Rattle.packed.specs.Every.{every}
 use Rattle.packed.specs.Pieces.{cut}
 use Rattle.packed.proofs.Laws.Part.{part_part, part_split}
-use Rattle.packed.proofs.Laws.Every.{every_cons}
 use Rattle.lot_file.specs.declared.row.Row.{Row}
 use Rattle.lot_file.specs.Layout.{binary, binary_bytes, bytes_of, row_bytes, table_bytes}
 use Rattle.lot_file.specs.Good.{row_in, rows_in, used}
