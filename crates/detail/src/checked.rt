@@ -1,4 +1,4 @@
-// The detail check for C: bytes and numbers in, numbers out. include/line.h says how it is called.
+// The detail check as C has it: bytes and numbers in, numbers out. The crate detail_c exports it.
 ghost use Rattle.std.specs.Prelude.{◌≡◌};
 ghost use Rattle.amounts.specs.Totals.{zeros};
 ghost use Rattle.detail.specs.Checked.{four_numbers, checked};
@@ -48,8 +48,7 @@ fn check(body: &[u8], own: u16, represented: &[u16]) -> Checked
 }
 
 // The check for any own number of 32 bits, so that one too large for an entity is refused and not cut to 16.
-#[unsafe(no_mangle)]
-pub extern "C" fn line_check_detail(body: &[u8], own: u32, represented: &[u16]) -> Checked
+pub fn line_check_detail(body: &[u8], own: u32, represented: &[u16]) -> Checked
     ensures { result ≡ checked own represented.now body.now }
 {
     if (LARGEST_ENTITY as u32) < own {
