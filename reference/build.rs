@@ -14,7 +14,7 @@ fn main() {
         println!("cargo:rerun-if-changed={}", archive.display());
         assert!(
             archive.is_file(),
-            "\n\nThere is no {}.\nMake it with `rt staticlib {name}`, run in the repository's root.\n",
+            "\n\nThere is no {}.\nMake it with `tools/build`, run in the repository's root.\n",
             archive.display()
         );
         println!("cargo:rustc-link-lib=static={name}");

@@ -2,6 +2,7 @@
 // directions'). Each has its own type, so that the compiler refuses one where another is due. What the words mean stands
 // in specs/.
 #![tactic(auto)]
+
 ghost use Rattle.std.specs.Prelude.{◌≡◌};
 ghost use Rattle.amounts.specs.Totals.{zeros, plus, same};
 ghost use Rattle.amounts.specs.Inner.Fits.{SumFits};

@@ -1,5 +1,4 @@
 use mathlib.Core.Path.{refl, sym, ◌∙◌}
-use Prim.Native.Nat.{◌-◌}
 use native.Mathlib.Omega.{arith}
 use Rattle.codes.specs.declared.code.Code.{Code}
 use Rattle.codes.specs.declared.code.ReadCode.{ReadCode}
@@ -23,11 +22,10 @@ loop-i-smaller c = omega arith
 
 pub loop-i-preserved : goal.loop-i-preserved
 unfolding codes
-loop-i-preserved c =
-    (
-      omega arith,
-      sym (passed_at code_byte ReadCode.Known ReadCode.Unknown codes c.args.byte c.loop-i.i Code.Accepted (omega arith) (λ e. c.if-code_byte-byte.false (c.code_byte.ensures ∙ e))) ∙ c.loop-i.invariant.1,
-    )
+loop-i-preserved c = (
+  omega arith,
+  sym (passed_at code_byte ReadCode.Known ReadCode.Unknown codes c.args.byte c.loop-i.i Code.Accepted (omega arith) (λ e. c.if-code_byte-byte.false (c.code_byte.ensures ∙ e))) ∙ c.loop-i.invariant.1,
+)
 
 pub returns : goal.returns
 unfolding codes

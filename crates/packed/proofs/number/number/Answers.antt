@@ -36,4 +36,4 @@ pub returns : goal.returns
 returns c =
     let all : c.loop-i.i - c.args.at ≡ c.args.n = omega arith in
     let grown = number_grown c.args.at c.args.n c.args.s.now (λ (i : ℕ). (c.shared_slice_known-1.given i).fits) (omega arith) in
-    record { value = rw all at c.loop-i.invariant.2;  bound = omega (arith, rw all at c.loop-i.invariant.2, grown) }
+    record { value = rw all at c.loop-i.invariant.2; bound = omega (arith, rw all at c.loop-i.invariant.2, grown) }

@@ -1,6 +1,5 @@
 -- `piece_at`: past the end nothing is left, and a piece shorter than k is all that is left.
 use mathlib.Core.Path.{ap, sym, ◌∙◌}
-use Prim.Native.Nat.{◌-◌}
 use native.Mathlib.Omega.{arith}
 use lib.ListN.{take, drop, length-drop, drop_of_length-le}
 use lib.Seq.{take_all, take-nil}
