@@ -91,6 +91,9 @@ pub fn say(
     let turn = perform(presenter, order, part, &mut message);
     let here = turn.centre;
     let sent = piece_at(&message, 0, turn.written);
+    if lost {
+        print_text(rt, "lost ")?;
+    }
     let first = hear(rt, here, receiver, sent, gathered, file)?;
     if lost {
         let there = first.receiver;
