@@ -3,7 +3,7 @@
 // that fails ends it.
 #![tactic(auto)]
 
-ghost use Rattle.std.specs.Prelude.{◌+◌, ◌≤◌, length, IfOk};
+ghost use Rattle.std.specs.Prelude.{◌≡◌, ◌+◌, ◌≤◌, length, take, IfOk, OnErr};
 ghost use Rattle.stream.specs.Stream.{Filled};
 
 use script::play::{Stop, play};
@@ -27,7 +27,8 @@ pub struct Stream {
 // Reads once behind what waits, and says how many bytes came.
 fn read_more(script: &mut impl Read, input: &mut [u8], filled: usize) -> io::Result<usize>
     requires { filled ≤ length input.old }
-    ensures { IfOk result (λ came. filled + came ≤ length input.old) }
+    ensures came { IfOk result (λ came. filled + came ≤ length input.old) }
+    ensures waiting { take filled input.new ≡ take filled input.old }
 {
     script.read(&mut input[filled..])
 }
@@ -61,7 +62,8 @@ fn answer(
     wire: &mut [u8],
 ) -> io::Result<Stream>
     requires { Filled (length input.old) s }
-    ensures { IfOk result (λ next. Filled (length input.old) next) }
+    ensures next { IfOk result (λ next. Filled (length input.old) next) }
+    ensures err { OnErr result (input.new ≡ input.old) }
 {
     let player = s.player;
     let filled = s.filled;
@@ -83,7 +85,8 @@ fn answer(
 // With what has come, as long as there is room; nothing comes at the end of the input.
 fn listen(script: &mut impl Read, s: Stream, input: &mut [u8]) -> io::Result<Stream>
     requires { Filled (length input.old) s }
-    ensures { IfOk result (λ next. Filled (length input.old) next) }
+    ensures next { IfOk result (λ next. Filled (length input.old) next) }
+    ensures waiting { take s.filled input.new ≡ take s.filled input.old }
 {
     let player = s.player;
     let filled = s.filled;
@@ -120,7 +123,8 @@ fn turn(
     wire: &mut [u8],
 ) -> io::Result<Stream>
     requires { Filled (length input.old) s }
-    ensures { IfOk result (λ next. Filled (length input.old) next) }
+    ensures next { IfOk result (λ next. Filled (length input.old) next) }
+    ensures err { OnErr result (take s.filled input.new ≡ take s.filled input.old) }
 {
     let heard = listen(script, s, input)?;
     answer(rt, heard, input, output, wire)
