@@ -13,7 +13,7 @@ import sys
 from pathlib import Path
 
 INSIDE = r"[\w\-'≡≢≤≥<>·◌+*/^%&|∷₀-₉]"
-DECLARED = re.compile(r"^\s*(?:(?:pub|abbrev|unfoldable|opaque)\s+)*([a-zàé][\w\-'≢≡₀-₉]*)((?:\s*\{[^}]*\})*)\s*:\s(.*)$")
+DECLARED = re.compile(r"^\s*(?:(?:pub|abbrev|unfoldable|opaque)\s+)*([a-zàé][\w\-'≢≡₀-₉]*)((?:\s*\{[^}]*\})*)\s*:(?:\s(.*))?$")
 # what the kit's library declares too, and imports name
 LIBRARY = {"or-false"}
 GOAL = re.compile(r"^(tie\.|goal\.|\{M : Type 1\} → statement)")
@@ -48,7 +48,7 @@ def declared(path):
     for line in path.read_text().split("\n"):
         line = line.split("--")[0] if line.lstrip().startswith("--") else line
         found = DECLARED.match(line)
-        if found and not GOAL.match(found[3]):
+        if found and not GOAL.match(found[3] or ""):
             yield found[1]
 
 

@@ -1,5 +1,5 @@
 // What a receiver answers to a message; some of the codes also stop a send. A new code is a variant, its number, its row
-// and the count here, its number and its row in specs/Code.antt, a clause of `found-again`, a byte of `known_bytes`, and a
+// and the count here, its number and its row in specs/Code.antt, a clause of `found_again`, a byte of `known_bytes`, and a
 // case of `session` in which a reply carries it; the check refuses while one of them is missing.
 ghost use Rattle.std.specs.Prelude.{◌≡◌};
 ghost use Rattle.codes.specs.Code.{code_number, code_byte, read_code};

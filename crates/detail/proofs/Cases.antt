@@ -123,7 +123,7 @@ two first second = with_byte 4 0x02 first ++ drop head_bytes second
 abbrev pub two_groups : (second : List ℕ) → List ℕ
 two_groups second = with_byte 4 0x04 (printed ++ drop head_bytes printed ++ drop head_bytes printed ++ drop head_bytes printed) ++ second
 
-codes-due :
+codes_due :
     let cases : List (Case ℕ) =
     -- free bytes and keys are not read, digits are
     code (with_byte 1 0xFF (sets printed 51 (replicate 4 0xFF))) is 0
@@ -165,10 +165,10 @@ codes-due :
     in
     AllDue cases
 unfolding computing
-codes-due = refl
+codes_due = refl
 
 -- a presenter's own, of a part for entity 0072: an operation, 1 to 200 whole documents; then 01 for fields, 03 and 44, and never 06
-own-due :
+own_due :
     let part = drop head_bytes printed in
     let cases : List (Case ℕ) =
     presenter_code presented_number 72 part is 0
@@ -190,4 +190,4 @@ own-due :
     in
     AllDue cases
 unfolding computing
-own-due = refl
+own_due = refl

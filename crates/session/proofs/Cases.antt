@@ -122,7 +122,7 @@ fifth_again time =
       engine = record { session = seen_at time five.session; presenting = five.presenting; receiving = five.receiving };
     }
 
-starred-cases :
+starred_cases :
     -- beside a reply: number of the call, operation, code, open lot or 0, its documents
     let cases : List (Case Answer) =
     -- the printed body, and as it is changed
@@ -161,7 +161,7 @@ starred-cases :
     in
     AllDue cases
 unfolding computing
-starred-cases = refl
+starred_cases = refl
 
 -- an engine of which so many lots were accepted both ways, and one that has used so many serials
 abbrev many_lots : (lots : ℕ) → Counters → Counters
@@ -254,7 +254,7 @@ places = refl
 
 -- Beside the starred cases, every other number that the state, the clock, the line or the buffer decides, each where it begins and where it does
 -- not yet, and every close: one table, one theorem.
-every-number :
+every_number :
     let cases : List (Case Answer) =
     -- 20, 30, 31, 32
     number_of presenter (sending 86400 (Sent.header 7)) is Answer.number 20
@@ -350,4 +350,4 @@ every-number :
     in
     AllDue cases
 unfolding computing
-every-number = refl
+every_number = refl

@@ -40,7 +40,7 @@ receiver_before = record { session = open_receiver.session; presenting = open_re
 abbrev accepted_before : Engine
 accepted_before = after (arriving 80000 2 total ∷ []) receiver_before
 
-still-ended :
+still_ended :
     let cases : List (Case Answer) =
     number_of presenter_before (sending 80000 total) is Answer.number 0
     ∷ reply_of receiver_before (arriving 80000 2 total) is Answer.reply 0 87 0 0 0
@@ -49,10 +49,10 @@ still-ended :
     in
     AllDue cases
 unfolding computing
-still-ended = refl
+still_ended = refl
 
 -- one lot, one document, nominal 0, commission 0
-still-reported :
+still_reported :
     let cases : List (Case Report) =
     report accepted_before.session is record {
       presented = record { lots = 0; gathered = empty };
@@ -65,7 +65,7 @@ still-reported :
     in
     AllDue cases
 unfolding computing
-still-reported = refl
+still_reported = refl
 
 -- the premise of every call holds of all three, so each call on them does what its contract says
 one_fits : Fits most_lot_documents one

@@ -55,7 +55,7 @@ abbrev mixed : Call
 mixed = Call.receive 80000 (whole_message (envelope_from End.near 2) (two_groups as_return))
 
 -- for each known code a message that gets it, in the order of the numbers
-known-given :
+known_given :
     let cases : List (Case Answer) =
     reply_of receiver (arriving 80000 1 (Sent.header 7)) is Answer.reply 0 86 0 7 0
     ∷ reply_of receiver (arriving 80000 1 (Sent.header 0)) is Answer.reply 0 86 1 0 0
@@ -73,4 +73,4 @@ known-given :
     in
     AllDue cases × AllGiven cases
 unfolding computing
-known-given = (refl, refl)
+known_given = (refl, refl)

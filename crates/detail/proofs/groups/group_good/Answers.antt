@@ -11,13 +11,13 @@ unfolding group_good
 returns-then-g-lt-HEAD_BYTES c = rw (get_or-eq_default c.args.g.now 0 {n = 3} (omega arith), and-false)
 
 pub overflow_cast-count : goal.overflow_cast-count
-overflow_cast-count c = omega (arith, (c.shared_slice_known-1.given 3).fits)
+overflow_cast-count c = omega (arith, (c.type_inv.g 3).fits)
 
 pub overflow_mul-result : goal.overflow_mul-result
-overflow_mul-result c = omega (arith, (c.shared_slice_known-1.given 3).fits)
+overflow_mul-result c = omega (arith, (c.type_inv.g 3).fits)
 
 pub overflow_add-result : goal.overflow_add-result
-overflow_add-result c = omega (arith, (c.shared_slice_known-1.given 3).fits)
+overflow_add-result c = omega (arith, (c.type_inv.g 3).fits)
 
 pub returns : goal.returns
 unfolding group_good

@@ -16,7 +16,7 @@ returns c =
     let digits = c.all_digits-digits.ensures in
     let fields = (λ i. digits.fields i && c.values_good.ensures i) ∙ sym (fields_split c.args.operation c.args.receiving c.args.d.now) in
     let amounts = digits.amounts ∙ sym (amounts_split c.args.operation c.args.receiving c.args.d.now) in
-    let grown = number_grown 43 4 c.args.d.now (λ (i : ℕ). (c.shared_slice_known-1.given i).fits) (omega arith) in record {
+    let grown = number_grown 43 4 c.args.d.now (λ (i : ℕ). (c.type_inv.d i).fits) (omega arith) in record {
       found =
           λ i. record { fields = fields i; amounts = amounts i; served = c.drawee_served.ensures i; something = ltb 0 (c.number-nominal.ensures.value i); totals = totals 1 (c.number-nominal.ensures.value i) (c.number4-commission.ensures i) };
       bound =

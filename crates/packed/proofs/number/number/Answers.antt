@@ -12,7 +12,7 @@ eight : (c : goal.In-loop-i) → c.loop-i.value ≤ 16666666666666665
 eight c =
     let a = c.args in
     let k = c.loop-i.i - a.at in
-    let grown = number_grown a.at k a.s.now (λ (i : ℕ). (c.shared_slice_known-1.given i).fits) (omega arith) in
+    let grown = number_grown a.at k a.s.now (λ (i : ℕ). (c.type_inv.s i).fits) (omega arith) in
     omega (arith, c.loop-i.invariant.2, grown_eight k (number (part a.at k a.s.now)) (omega arith) grown)
 
 pub loop-i-init : goal.loop-i-init
@@ -35,5 +35,5 @@ loop-i-preserved c =
 pub returns : goal.returns
 returns c =
     let all : c.loop-i.i - c.args.at ≡ c.args.n = omega arith in
-    let grown = number_grown c.args.at c.args.n c.args.s.now (λ (i : ℕ). (c.shared_slice_known-1.given i).fits) (omega arith) in
+    let grown = number_grown c.args.at c.args.n c.args.s.now (λ (i : ℕ). (c.type_inv.s i).fits) (omega arith) in
     record { value = rw all at c.loop-i.invariant.2; bound = omega (arith, rw all at c.loop-i.invariant.2, grown) }

@@ -9,16 +9,16 @@ use Rattle.packed.proofs.number.number2.Goals as goal
 
 -- the two bytes
 first : (c : goal.After-shared_slice_known-2-1) → get_or c.args.s.now c.args.at 0 < 256
-first c = (c.shared_slice_known-1.given c.args.at).fits
+first c = (c.type_inv.s c.args.at).fits
 
 second : (c : goal.After-shared_slice_known-2-1) → get_or c.args.s.now (c.args.at + 1) 0 < 256
-second c = (c.shared_slice_known-2-1.given (c.args.at + 1)).fits
+second c = (c.type_inv.s (c.args.at + 1)).fits
 
 pub overflow_cast-both : goal.overflow_cast-both
-overflow_cast-both c = omega (arith, (c.shared_slice_known-1.given c.args.at).fits)
+overflow_cast-both c = omega (arith, (c.type_inv.s c.args.at).fits)
 
 pub overflow_mul-both : goal.overflow_mul-both
-overflow_mul-both c = omega (arith, (c.shared_slice_known-1.given c.args.at).fits)
+overflow_mul-both c = omega (arith, (c.type_inv.s c.args.at).fits)
 
 pub overflow_cast-both-2 : goal.overflow_cast-both-2
 overflow_cast-both-2 c = omega (arith, second c)

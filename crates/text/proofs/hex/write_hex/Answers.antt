@@ -13,7 +13,7 @@ pub loop-i-init : goal.loop-i-init
 loop-i-init c = (omega arith, refl, rw add-zero)
 
 pub hex_digit-requires : goal.hex_digit-requires
-hex_digit-requires c = omega (arith, c.shared_slice_known-in-loop-i-1.given c.loop-i.i)
+hex_digit-requires c = omega (arith, c.type_inv.bytes c.loop-i.i)
 
 pub bounds-d-at-in-loop-i : goal.bounds-d-at-in-loop-i
 bounds-d-at-in-loop-i c = simp length-set (omega arith)
