@@ -1,3 +1,2 @@
 -- Laws of the three counters, one file a notion.
 pub mod Totals
-pub mod Difference

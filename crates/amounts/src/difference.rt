@@ -13,6 +13,9 @@ fn difference(a: u64, b: u64) -> i64
     (a as i64) - (b as i64)
 }
 
+// The two that follow differ in the type that they take. One function for both would need a trait and two impls of it, which is
+// more than it would save.
+
 // The nominal position where `a` is presented and `b` received.
 pub fn nominal_difference(a: Nominal, b: Nominal) -> i64
     requires { DifferenceFits a.0 b.0 }
@@ -29,12 +32,9 @@ pub fn commission_difference(a: Commission, b: Commission) -> i64
     difference(a.0, b.0)
 }
 
-// A number without its sign. Below zero one is added before the sign is turned, so that the lowest number fits as well.
+// A number without its sign, the lowest as well.
 pub fn magnitude(n: i64) -> u64
     ensures { result ≡ nat_abs n }
 {
-    if n < 0 {
-        return (-(n + 1)) as u64 + 1;
-    }
-    n as u64
+    n.unsigned_abs()
 }

@@ -10,19 +10,19 @@ ghost use Rattle.amounts.specs.Inner.Fits.{SumFits};
 pub mod difference;
 
 // How many documents.
-#[derive(Clone, Copy)]
+#[derive(Clone, Copy, PartialEq, Eq, Default)]
 pub struct Documents(pub u64);
 
 // What the documents are worth together.
-#[derive(Clone, Copy)]
+#[derive(Clone, Copy, PartialEq, Eq, Default)]
 pub struct Nominal(pub u64);
 
 // The commission on them.
-#[derive(Clone, Copy)]
+#[derive(Clone, Copy, PartialEq, Eq, Default)]
 pub struct Commission(pub u64);
 
 // The three over some documents: a detail, a lot, a direction.
-#[derive(Clone, Copy)]
+#[derive(Clone, Copy, PartialEq, Eq, Default)]
 pub struct Totals {
     pub documents: Documents,
     pub nominal: Nominal,
@@ -34,11 +34,7 @@ impl Totals {
     pub fn zeros() -> Totals
         ensures { result ≡ zeros }
     {
-        Totals {
-            documents: Documents(0),
-            nominal: Nominal(0),
-            commission: Commission(0),
-        }
+        Totals::default()
     }
 
     // The exact sum, counter by counter.
@@ -57,8 +53,6 @@ impl Totals {
     pub fn same(self, other: Totals) -> bool
         ensures { result ≡ same self other }
     {
-        (self.documents.0 == other.documents.0)
-            & (self.nominal.0 == other.nominal.0)
-            & (self.commission.0 == other.commission.0)
+        self == other
     }
 }

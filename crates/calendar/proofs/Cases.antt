@@ -8,7 +8,7 @@ use Rattle.codes.proofs.Cases.{◌is◌, AllDue}
 use Rattle.document.specs.Rules.{month_days}
 use Rattle.calendar.specs.Rule.{all_days, from, later, those, next_day, table_of}
 use Rattle.calendar.specs.Generator.{ascending, good_list, table_refusal, places_after}
-use Rattle.calendar.specs.Dates.{is_day2028, total, day_number, dates_from, date_of}
+use Rattle.calendar.specs.Dates.{is_day2028, day_number, dates_from, date_of}
 use Rattle.calendar.specs.Year.{holidays, is_holiday, unworked2028, next_in2028}
 use Rattle.calendar.specs.Compensation.{on_day, compensation}
 use Rattle.calendar.specs.Shown.{shown}
@@ -69,12 +69,12 @@ all_due : AllDue
     ∷ found 128 is 2
     ∷ found 1010128 is 2
     ∷ [])
-unfolding next_day unworked2028 those later from member holidays day_number total month_days good_list ascending every table_refusal ◌when◌ ◌orelse◌ compensation on_day next_in2028 table_of is_day2028 date_of dates_from
+unfolding next_day unworked2028 those later from member holidays day_number month_days good_list ascending every table_refusal ◌when◌ ◌orelse◌ compensation on_day next_in2028 table_of is_day2028 date_of dates_from
 all_due = refl
 
 -- the five holidays by their numbers, and no other day
 holidays_numbered : those is_holiday all_days ≡ 1 ∷ 6 ∷ 122 ∷ 286 ∷ 360 ∷ []
-unfolding those later from member holidays day_number total month_days
+unfolding those later from member holidays day_number month_days
 holidays_numbered = refl
 
 -- what is left in lent places: behind the table all is kept, and where the call is refused everywhere

@@ -1,5 +1,5 @@
 -- Days of 2028, a leap year, as dates DDMM28 and as numbers from 1 to 366, over one table of the lengths of the months.
-use Rattle.std.specs.Prelude.{ℕ, suc, ◌+◌, ◌*◌, ◌/◌, ◌%◌, ◌≤◌, ◌≡◌, Bool, true, ◌&&◌, List, [], ◌∷◌, ◌++◌, map, eqb, take}
+use Rattle.std.specs.Prelude.{ℕ, suc, ◌+◌, ◌*◌, ◌/◌, ◌%◌, ◌≤◌, ◌≡◌, Bool, true, ◌&&◌, List, [], ◌∷◌, ◌++◌, map, eqb, take, sum}
 use Rattle.document.specs.Rules.{month_days, day_and_month}
 use Rattle.calendar.specs.Rule.{year_days, from, entry_of}
 
@@ -21,14 +21,9 @@ month_in date = date / 100 % 100
 unfoldable pub is_day2028 : (date : ℕ) → Bool
 is_day2028 date = eqb (date % 100) year && day_and_month (date / 100)
 
--- numbers added up
-unfoldable pub total : List ℕ → ℕ
-total [] = 0
-total (n ∷ ns) = n + total ns
-
 -- the number of a date: the days of the months before, and the day
 unfoldable pub day_number : (date : ℕ) → ℕ
-day_number date = total (take (month_in date) month_days) + day_in date
+day_number date = sum (take (month_in date) month_days) + day_in date
 
 -- the dates of some months, in order, and of all
 unfoldable pub dates_from : (month : ℕ) (lengths : List ℕ) → List ℕ

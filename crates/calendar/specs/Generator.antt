@@ -1,9 +1,9 @@
 -- 02, card 1: which list the generator takes, what it answers, and what it leaves in the places that it is lent.
-use Rattle.std.specs.Prelude.{ℕ, Bool, true, not, ◌&&◌, cond, List, [], ◌∷◌, ◌++◌, ltb, eqb, length, drop}
+use Rattle.std.specs.Prelude.{ℕ, Bool, true, not, ◌&&◌, cond, List, [], ◌∷◌, ◌++◌, ltb, eqb, length, drop, Result, Ok, Err}
 use Rattle.packed.specs.Every.{every}
 use Rattle.codes.specs.Field.{between}
 use Rattle.codes.specs.Chain.{◌when◌, ◌orelse◌}
-use Rattle.calendar.specs.declared.generator.TableAnswer.{TableAnswer}
+use Rattle.calendar.specs.declared.generator.TableRefusal.{TableRefusal}
 use Rattle.calendar.specs.Rule.{year_days, table_of}
 
 -- each day of a list is below the one after it
@@ -17,10 +17,10 @@ unfoldable pub good_list : List ℕ → Bool
 good_list ds = ascending ds && every (between 1 year_days) ds
 
 -- the paper's number of each answer; 23 as for every lent buffer that is too short
-abbrev pub table_number : TableAnswer → ℕ
-table_number TableAnswer.Made = 0
-table_number TableAnswer.WrongList = 40
-table_number TableAnswer.ShortBuffer = 23
+abbrev pub table_number : Result (Unit {0}) TableRefusal → ℕ
+table_number (Ok made) = 0
+table_number (Err TableRefusal.WrongList) = 40
+table_number (Err TableRefusal.ShortBuffer) = 23
 
 -- the first that applies
 unfoldable pub table_refusal : (unworked : List ℕ) (places : ℕ) → ℕ

@@ -1,8 +1,8 @@
-// What C is shown of a compensation date.
+// What C is shown of a compensation date; C has no Result, so a number stands beside the date.
 ghost use Rattle.std.specs.Prelude.{◌≡◌};
 ghost use Rattle.calendar.specs.Shown.{shown};
 
-use crate::compensation::Compensation;
+use crate::compensation::NoDate;
 
 // 0 where the date was found, 1 where none is left in the year, 2 where there is no such day; the date is 0 unless found.
 #[repr(C)]
@@ -12,15 +12,14 @@ pub struct CompensationShown {
     pub date: u32,
 }
 
-pub fn shown(c: Compensation) -> CompensationShown
-    ensures { result ≡ shown c }
+pub fn shown(compensation: Result<u32, NoDate>) -> CompensationShown
+    ensures { result ≡ shown compensation }
 {
-    match c {
-        Compensation::On(date) => CompensationShown {
-            found: 0,
-            date: date,
+    match compensation {
+        Ok(date) => CompensationShown { found: 0, date },
+        Err(none) => CompensationShown {
+            found: none as u8,
+            date: 0,
         },
-        Compensation::NoneLeft => CompensationShown { found: 1, date: 0 },
-        Compensation::NoDay => CompensationShown { found: 2, date: 0 },
     }
 }

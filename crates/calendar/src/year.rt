@@ -90,16 +90,12 @@ pub fn table() -> [u16; PLACES]
     NEXT_DAYS
 }
 
-// Its entry of a day, 0 for a number that is no day of the year.
+// Its entry of a day, 0 for a number that is no day of the year; a number as in the table, since `next_in2028` says so.
 pub fn next_day(day: u16) -> u16
     ensures { result ≡ next_in2028 day }
 {
-    if day == 0 {
+    if day == 0 || YEAR_DAYS < day {
         return 0;
     }
-    if YEAR_DAYS < day {
-        return 0;
-    }
-    let days = table();
-    days[day as usize - 1]
+    table()[usize::from(day) - 1]
 }

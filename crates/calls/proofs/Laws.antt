@@ -1,5 +1,5 @@
 -- One file a notion.
-pub mod Course
 pub mod Said
+pub mod Answer
 pub mod Arrival
 pub mod Detail

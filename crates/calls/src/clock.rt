@@ -7,7 +7,6 @@ ghost use Rattle.session.specs.Premise.{Sound, Kept};
 ghost use Rattle.session.specs.Outcome.{held};
 ghost use Rattle.calls.specs.Said.{called_said};
 
-use crate::answer::answer_number;
 use crate::called::Called;
 use crate::time::clock_refusal;
 use session::hours::at_close;
@@ -31,16 +30,11 @@ fn close_at(time: u32, ended: bool, close: Close) -> Close
 fn ticked(session: Session, time: u32) -> Session
     ensures { result ≡ ticked time session }
 {
-    let parties = session.parties;
-    let presenting = session.presenting;
-    let receiving = session.receiving;
-    let close = session.close;
+    let ended = session.presenting.ended & session.receiving.ended;
     Session {
-        parties: parties,
-        presenting: presenting,
-        receiving: receiving,
         seen: time,
-        close: close_at(time, presenting.ended & receiving.ended, close),
+        close: close_at(time, ended, session.close),
+        ..session
     }
 }
 
@@ -50,16 +44,12 @@ pub fn clock(session: Session, time: u32) -> Called
     ensures outcome { (t : Running) (line : List ℕ) → called_said result t line ≡ clock time (held session t line) }
     ensures premise { Kept session result.session }
 {
-    let close = session.close;
-    let answer = clock_refusal(time, session.seen, close);
-    if answer_number(answer) == 0 {
-        return Called {
-            answer: answer,
+    let answer = clock_refusal(time, session.seen, session.close);
+    match answer {
+        Ok(_) => Called {
+            answer,
             session: ticked(session, time),
-        };
-    }
-    Called {
-        answer: answer,
-        session: session,
+        },
+        Err(_) => Called { answer, session },
     }
 }

@@ -9,12 +9,17 @@ ghost use Rattle.session.specs.Sequence.{lot_sequence};
 use crate::sequence::lot_sequence;
 use codes::chain::{or_else, when};
 use codes::code::Code;
-use session::counters::OpenLot;
 use session::limits::passes_lot;
 use session::running::{Running, documents_in};
 
 // The code of a detail whose bytes earn this one and whose documents add so much.
-pub fn detail_code(code: Code, ended: bool, lot: OpenLot, running: Running, adds: Running) -> Code
+pub fn detail_code(
+    code: Code,
+    ended: bool,
+    lot: Option<u16>,
+    running: Running,
+    adds: Running,
+) -> Code
     ensures { code_number result ≡ (code_number code orelse lot_sequence ended lot orelse 12 when passes_lot (documents_in running + documents_in adds)) }
 {
     or_else(

@@ -1,4 +1,6 @@
 // The report, which is never refused and changes nothing.
+#![tactic(auto, unfolding(session::specs::Report::report))]
+
 ghost use Rattle.std.specs.Prelude.{◌≡◌};
 ghost use Rattle.amounts.specs.Inner.Fits.{DifferenceFits};
 ghost use Rattle.session.specs.Running.{stated};
@@ -16,10 +18,9 @@ use session::session::Session;
 fn tally(counters: Counters) -> Tally
     ensures { result ≡ tally counters }
 {
-    let gathered = counters.gathered;
     Tally {
         lots: counters.lots,
-        gathered: gathered,
+        gathered: counters.gathered,
     }
 }
 
@@ -30,9 +31,7 @@ fn awaited(pending: Effect) -> Awaited
     match pending {
         Effect::LotTotal(lot) => Awaited::LotTotal(lot),
         Effect::SessionTotal => Awaited::SessionTotal,
-        Effect::Nothing => Awaited::Neither,
-        Effect::Header(_) => Awaited::Neither,
-        Effect::Detail(_) => Awaited::Neither,
+        Effect::Nothing | Effect::Header(_) | Effect::Detail(_) => Awaited::Neither,
     }
 }
 
@@ -55,16 +54,13 @@ pub fn report(session: Session) -> Report
     requires { Sound session }
     ensures { result ≡ report session }
 {
-    let presenting = session.presenting;
-    let pending = presenting.pending;
-    let presented = presenting.counters;
+    let presented = session.presenting.counters;
     let received = session.receiving.counters;
-    let close = session.close;
     Report {
         presented: tally(presented),
         received: tally(received),
-        close: close,
+        close: session.close,
         positions: positions(presented.gathered, received.gathered),
-        awaited: awaited(pending),
+        awaited: awaited(session.presenting.pending),
     }
 }

@@ -3,90 +3,52 @@
 // and how the session stands or which code the reply has.
 #![tactic(auto)]
 
-ghost use Rattle.std.specs.Prelude.{IfOk};
-ghost use Rattle.session.specs.Engine.{Ready};
-ghost use Rattle.centre.specs.Turn.{engine_of};
-
-use calls::answer::answer_number;
 use centre::call::{clock_call, receive_call};
-use centre::end::{Centre, begun};
+use centre::end::Centre;
+use codes::answer::answer_number;
 use lent::example::receive_with_local;
 use session::running::stated;
-use session::session::{Close, Session};
+use session::session::Close;
 use std::io;
 
-fn print_text(rt: &impl Print, words: &str) -> io::Result<()> {
-    print!(rt; "{words}")
-}
-
-// A number in two digits.
-fn print_number(rt: &impl Print, n: u8) -> io::Result<()> {
-    print!(rt; "{n:02}")
-}
-
-// A code as it travels.
-fn print_code(rt: &impl Print, byte: u8) -> io::Result<()> {
-    println!(rt; "{byte:02x}")
-}
-
-fn print_close(rt: &impl Print, close: Close) -> io::Result<()> {
+fn word_of(close: Close) -> &'static str {
     match close {
-        Close::Open => print_text(rt, ", open\n"),
-        Close::Ordered => print_text(rt, ", ordered\n"),
-        Close::Forced => print_text(rt, ", forced\n"),
+        Close::Open => "open",
+        Close::Ordered => "ordered",
+        Close::Forced => "forced",
     }
 }
 
 // The centre 0072 just started, with 0081 for its partner, on 14 March 2028.
-fn started() -> Centre
-    ensures { Ready (engine_of result) }
-{
-    let nobody = [0u16; 1];
-    let start = Session::start(140328, 72, 81, &nobody[..0]);
-    let session = start.session;
-    begun(session)
+fn started() -> Centre {
+    Centre::started(140328, 72, 81)
 }
 
 fn clock_case(rt: &impl Print, time: u32) -> io::Result<()> {
     let turn = clock_call(started(), time);
-    let session = turn.centre.session;
-    let close = session.close;
-    print!(rt; "clock {time}: ")?;
-    print_number(rt, turn.number)?;
-    print_close(rt, close)
+    let close = word_of(turn.centre.session.close);
+    println!(rt; "clock {time}: {:02}, {close}", turn.number)
 }
 
 // A message as the first of a session, with lent running totals.
 fn receive_case(rt: &impl Print, time: u32, message: &[u8]) -> io::Result<()> {
     let centre = started();
-    let session = centre.session;
-    let running = centre.receiving;
     let mut reply = [0u8; 16];
-    let outcome = receive_with_local(session, running, time, message, &mut reply);
-    let received = outcome.received;
-    let answer = received.answer;
-    print!(rt; "receive {time}: ")?;
-    print_number(rt, answer_number(answer))?;
-    print_text(rt, ", code ")?;
-    print_code(rt, reply[15])
+    let outcome = receive_with_local(centre.session, centre.receiving, time, message, &mut reply);
+    let number = answer_number(outcome.received.answer);
+    println!(rt; "receive {time}: {number:02}, code {:02x}", reply[15])
 }
 
 // Receives a message, and prints the running totals that it leaves.
-fn heard(rt: &impl Print, c: Centre, message: &[u8]) -> io::Result<Centre>
-    requires { Ready (engine_of c) }
-    ensures { IfOk result (λ next. Ready (engine_of next)) }
-{
+fn heard(rt: &impl Print, c: Centre, message: &[u8]) -> io::Result<Centre> {
     let mut reply = [0u8; 16];
     let turn = receive_call(c, 75_600, message, &mut reply);
     let next = turn.centre;
-    let running = next.receiving;
-    let totals = stated(running);
-    print!(rt;
-        "running: {} {} {}",
-        totals.documents.0, totals.nominal.0, totals.commission.0
+    let totals = stated(next.receiving);
+    println!(rt;
+        "running: {} {} {}, code {:02x}",
+        totals.documents.0, totals.nominal.0, totals.commission.0, reply[15]
     )?;
-    print_text(rt, ", code ")?;
-    print_code(rt, reply[15])?;
     Ok(next)
 }
 

@@ -2,8 +2,16 @@
 use Prim.Native.Nat.{ℕ}
 use mathlib.Core.Path.{◌≡◌, ap}
 use mathlib.Core.List.{List}
+use Rattle.session.specs.declared.running.Running.{Running}
+use Rattle.session.specs.declared.session.Session.{Session}
+use Rattle.session.specs.Parties.{Direction, opposite}
+use Rattle.session.specs.Premise.{Carried, Kept, KeptBeside}
 use Rattle.session.specs.Outcome.{Outcome}
 use Rattle.session.specs.Engine.{Call, meaning, direction_of, Engine, lent, Performed, performed_by, performed}
+
+-- a call that is lent no running totals keeps those of a direction as they were
+pub same_running : (d : Direction) {before after : Session} {running : Running} → Kept before after → Carried d before running → KeptBeside d before after running
+same_running d kept carried = record { sound = kept.sound; carried = kept.carried d _ carried; other = kept.carried (opposite d) }
 
 -- from the number, the bytes written and the engine
 pub together : {number number' written written' : ℕ} {engine engine' : Engine} → number ≡ number' → written ≡ written' → engine ≡ engine' → (line : List ℕ) → ◌≡◌ {A = Performed} (record { number = number; written = written; line = line; engine = engine }) (record { number = number'; written = written'; line = line; engine = engine' })

@@ -1,2 +1,3 @@
--- What a call does to one end of a line.
+-- What always holds of one end of a line, and what a call does to it.
+pub mod Premise
 pub mod Turn

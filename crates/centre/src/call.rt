@@ -1,16 +1,16 @@
 // Every call on a centre that has a time, each in the same form, and one function for all of them.
 ghost use Rattle.std.specs.Prelude.{◌≡◌, List, ℕ};
 ghost use Rattle.session.specs.Sending.{Send};
-ghost use Rattle.session.specs.Engine.{Call, Ready, performed, performed_by};
+ghost use Rattle.session.specs.Engine.{Call, performed, performed_by};
 ghost use Rattle.session.specs.Parties.{Direction};
-ghost use Rattle.session.specs.Premise.{Kept, KeptBeside};
+ghost use Rattle.session.specs.Premise.{KeptBeside};
 ghost use Rattle.presenting.specs.Said.{send_said};
 ghost use Rattle.centre.specs.Turn.{engine_of, turn_of, call_of};
 
-use crate::end::{Centre, with_presented, with_received, with_session};
+use crate::end::Centre;
 use crate::turn::Turn;
-use calls::answer::answer_number;
 use calls::clock::clock;
+use codes::answer::answer_number;
 use presenting::answer::{SendOutcome, send_number, send_written};
 use presenting::reply::take_reply;
 use presenting::sending::{send_detail, send_header, send_lot_total, send_session_total};
@@ -29,139 +29,86 @@ pub enum Order {
     Clock(u32),
 }
 
-// What a send gives where it is lent no running totals.
+// What a send gives: it leaves the running totals of the presented lot as they were.
 fn sent(c: Centre, outcome: SendOutcome) -> Turn
-    requires ready { Ready (engine_of c) }
-    requires kept { Kept c.session outcome.session }
-    ensures outcome { (line : List ℕ) → turn_of result line ≡ performed_by Direction.presenting (send_said outcome c.presenting line) (engine_of c) }
-    ensures premise { Ready (engine_of result.centre) }
+    requires { KeptBeside Direction.presenting c.session outcome.session c.presenting }
+    ensures { (line : List ℕ) → turn_of result line ≡ performed_by Direction.presenting (send_said outcome c.presenting line) (engine_of c) }
 {
-    let answer = outcome.answer;
-    let session = outcome.session;
     Turn {
-        number: send_number(answer),
-        written: send_written(answer),
-        centre: with_session(c, session),
-    }
-}
-
-// What it gives where it is lent those of the presented lot.
-fn sent_beside(c: Centre, outcome: SendOutcome) -> Turn
-    requires ready { Ready (engine_of c) }
-    requires kept_beside { KeptBeside Direction.presenting c.session outcome.session c.presenting }
-    ensures outcome { (line : List ℕ) → turn_of result line ≡ performed_by Direction.presenting (send_said outcome c.presenting line) (engine_of c) }
-    ensures premise { Ready (engine_of result.centre) }
-{
-    let answer = outcome.answer;
-    let session = outcome.session;
-    let running = c.presenting;
-    Turn {
-        number: send_number(answer),
-        written: send_written(answer),
-        centre: with_presented(c, session, running),
+        number: send_number(outcome.answer),
+        written: send_written(outcome.answer),
+        centre: c.with_presented(outcome.session, c.presenting),
     }
 }
 
 fn header_call(c: Centre, time: u32, moment: u32, office: u16, number: u16, line: &mut [u8]) -> Turn
-    requires { Ready (engine_of c) }
-    ensures outcome { turn_of result line.new ≡ performed (Call.send time (Send.header moment office number)) line.old (engine_of c) }
-    ensures premise { Ready (engine_of result.centre) }
+    ensures { turn_of result line.new ≡ performed (Call.send time (Send.header moment office number)) line.old (engine_of c) }
 {
-    let session = c.session;
-    sent(c, send_header(session, time, moment, office, number, line))
+    sent(
+        c,
+        send_header(c.session, time, moment, office, number, line),
+    )
 }
 
 fn detail_call(c: Centre, time: u32, operation: u8, part: &[u8], line: &mut [u8]) -> Turn
-    requires { Ready (engine_of c) }
-    ensures outcome { turn_of result line.new ≡ performed (Call.send time (Send.detail operation part.now)) line.old (engine_of c) }
-    ensures premise { Ready (engine_of result.centre) }
+    ensures { turn_of result line.new ≡ performed (Call.send time (Send.detail operation part.now)) line.old (engine_of c) }
 {
-    let session = c.session;
-    let running = c.presenting;
-    sent_beside(
+    sent(
         c,
-        send_detail(session, running, time, operation, part, line),
+        send_detail(c.session, c.presenting, time, operation, part, line),
     )
 }
 
 fn lot_total_call(c: Centre, time: u32, line: &mut [u8]) -> Turn
-    requires { Ready (engine_of c) }
-    ensures outcome { turn_of result line.new ≡ performed (Call.send time Send.lot_total) line.old (engine_of c) }
-    ensures premise { Ready (engine_of result.centre) }
+    ensures { turn_of result line.new ≡ performed (Call.send time Send.lot_total) line.old (engine_of c) }
 {
-    let session = c.session;
-    let running = c.presenting;
-    sent_beside(c, send_lot_total(session, running, time, line))
+    sent(c, send_lot_total(c.session, c.presenting, time, line))
 }
 
 fn session_total_call(c: Centre, time: u32, line: &mut [u8]) -> Turn
-    requires { Ready (engine_of c) }
-    ensures outcome { turn_of result line.new ≡ performed (Call.send time Send.session_total) line.old (engine_of c) }
-    ensures premise { Ready (engine_of result.centre) }
+    ensures { turn_of result line.new ≡ performed (Call.send time Send.session_total) line.old (engine_of c) }
 {
-    let session = c.session;
-    sent(c, send_session_total(session, time, line))
+    sent(c, send_session_total(c.session, time, line))
 }
 
 pub fn receive_call(c: Centre, time: u32, message: &[u8], line: &mut [u8]) -> Turn
-    requires { Ready (engine_of c) }
-    ensures outcome { turn_of result line.new ≡ performed (Call.receive time message.now) line.old (engine_of c) }
-    ensures premise { Ready (engine_of result.centre) }
+    ensures { turn_of result line.new ≡ performed (Call.receive time message.now) line.old (engine_of c) }
 {
-    let session = c.session;
-    let running = c.receiving;
-    let outcome = receive(session, running, time, message, line);
-    let gathered = outcome.running;
+    let outcome = receive(c.session, c.receiving, time, message, line);
     let received = outcome.received;
-    let answer = received.answer;
-    let next = received.session;
     Turn {
-        number: answer_number(answer),
+        number: answer_number(received.answer),
         written: received.written,
-        centre: with_received(c, next, gathered),
+        centre: c.with_received(received.session, outcome.running),
     }
 }
 
 pub fn reply_call(c: Centre, time: u32, reply: &[u8]) -> Turn
-    requires { Ready (engine_of c) }
-    ensures outcome { (line : List ℕ) → turn_of result line ≡ performed (Call.reply time reply.now) line (engine_of c) }
-    ensures premise { Ready (engine_of result.centre) }
+    ensures { (line : List ℕ) → turn_of result line ≡ performed (Call.reply time reply.now) line (engine_of c) }
 {
-    let session = c.session;
-    let running = c.presenting;
-    let outcome = take_reply(session, running, time, reply);
-    let gathered = outcome.running;
+    let outcome = take_reply(c.session, c.presenting, time, reply);
     let called = outcome.called;
-    let answer = called.answer;
-    let next = called.session;
     Turn {
-        number: answer_number(answer),
+        number: answer_number(called.answer),
         written: 0,
-        centre: with_presented(c, next, gathered),
+        centre: c.with_presented(called.session, outcome.running),
     }
 }
 
 pub fn clock_call(c: Centre, time: u32) -> Turn
-    requires { Ready (engine_of c) }
-    ensures outcome { (line : List ℕ) → turn_of result line ≡ performed (Call.clock time) line (engine_of c) }
-    ensures premise { Ready (engine_of result.centre) }
+    ensures { (line : List ℕ) → turn_of result line ≡ performed (Call.clock time) line (engine_of c) }
 {
-    let session = c.session;
-    let ticked = clock(session, time);
-    let answer = ticked.answer;
-    let next = ticked.session;
+    let ticked = clock(c.session, time);
     Turn {
-        number: answer_number(answer),
+        number: answer_number(ticked.answer),
         written: 0,
-        centre: with_session(c, next),
+        centre: c.with_session(ticked.session),
     }
 }
 
-// Any of them.
+// Any of them. A match and no closure: an order is read from a script, and the definition `call_of` has the same cases.
 pub fn perform(c: Centre, order: Order, bytes: &[u8], line: &mut [u8]) -> Turn
-    requires { Ready (engine_of c) }
-    ensures outcome { turn_of result line.new ≡ performed (call_of order bytes.now) line.old (engine_of c) }
-    ensures premise { Ready (engine_of result.centre) }
+    ensures { turn_of result line.new ≡ performed (call_of order bytes.now) line.old (engine_of c) }
 {
     match order {
         Order::Header(time, moment, office, number) => header_call(

@@ -1,49 +1,21 @@
-// A body that comes through a reader. Nothing is known of what is read, only how much of the room it takes, and whether a
-// read failed.
-ghost use Rattle.std.specs.Prelude.{◌≤◌, length};
+// A body that comes through a reader. Nothing is known of what is read, only how much of the room it takes.
+ghost use Rattle.std.specs.Prelude.{IfOk};
 ghost use Rattle.io.specs.Counts.{IsPrefixLen};
 
+use std::io;
 use std::io::Read;
 
-// How many bytes have come, and that the last read failed.
-#[derive(Clone, Copy)]
-pub struct Input {
-    pub count: usize,
-    pub failed: bool,
-}
-
-// Reads once behind what has come.
-fn read_behind(from: &mut impl Read, input: &mut [u8], count: usize) -> Input
-    requires { count ≤ length input.old }
-    ensures { (count ≤ result.count) × (result.count ≤ length input.old) }
+// Reads until the input ends, the room is full or a read fails, and says how many bytes have come; std's `read_exact` does not
+// say so where the input ends before.
+pub fn read_input(from: &mut impl Read, input: &mut [u8]) -> io::Result<usize>
+    ensures { IfOk result (λ count. IsPrefixLen count input.new) }
 {
-    match from.read(&mut input[count..]) {
-        Ok(more) => Input {
-            count: count + more,
-            failed: false,
-        },
-        Err(_) => Input {
-            count: count,
-            failed: true,
-        },
-    }
-}
-
-// Reads until the input ends, the room is full or a read fails.
-pub fn read_input(from: &mut impl Read, input: &mut [u8]) -> Input
-    ensures { IsPrefixLen result.count input.new }
-{
-    let mut count: usize = 0;
+    let mut count = 0;
     while count < input.len() {
-        let read = read_behind(from, input, count);
-        let came = read.count;
-        if came == count {
-            return read;
+        match from.read(&mut input[count..])? {
+            0 => break,
+            more => count += more,
         }
-        count = came;
     }
-    Input {
-        count: count,
-        failed: false,
-    }
+    Ok(count)
 }

@@ -16,9 +16,8 @@ pub fn write_line(c: Checked, line: &mut [u8]) -> usize
     ensures long { result ≡ length (line_of c) }
     ensures short { result ≤ most_line_bytes }
 {
-    let code = c.code;
-    line[0] = b'0' + code / 10 % 10;
-    line[1] = b'0' + code % 10;
+    line[0] = b'0' + c.code / 10 % 10;
+    line[1] = b'0' + c.code % 10;
     let nominal_at = put_number(line, 2, c.documents);
     let commission_at = put_number(line, nominal_at, c.nominal);
     let end = put_number(line, commission_at, c.commission);

@@ -23,8 +23,7 @@ const ROOM: usize = 65_536;
 fn checked(body: &[u8]) -> Checked
     ensures { result ≡ program_checked body.now }
 {
-    let nobody = [0u16; 1];
-    line_check_detail(body, 72, &nobody[..0])
+    line_check_detail(body, 72, &[])
 }
 
 // The line for a body stands at the start of the buffer, and is so long.
@@ -37,14 +36,11 @@ fn answer(body: &[u8], line: &mut [u8]) -> usize
 }
 
 fn main(rt: HostRuntime) -> io::Result<()> {
-    let mut input = [0u8; ROOM];
-    let mut from = rt.stdin();
-    let read = read_input(&mut from, &mut input);
-    let n = read.count;
-    if read.failed {
+    let mut input = [0; ROOM];
+    let Ok(count) = read_input(&mut rt.stdin(), &mut input) else {
         return eprintln!(rt; "check_detail: standard input cannot be read");
-    }
-    let mut line = [0u8; LINE_BYTES];
-    let written = answer(&input[..n], &mut line);
+    };
+    let mut line = [0; LINE_BYTES];
+    let written = answer(&input[..count], &mut line);
     rt.write_all(&line[..written])
 }

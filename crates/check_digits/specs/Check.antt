@@ -1,8 +1,8 @@
 -- 02, card 5: the three checks of what a clerk has keyed, a number and the check digit that is printed beside it.
-use Rattle.std.specs.Prelude.{ℕ, ◌^◌, ◌%◌, ◌<◌, ◌≡◌, Bool, not, ◌&&◌, ltb, eqb}
+use Rattle.std.specs.Prelude.{ℕ, ◌^◌, ◌%◌, ◌<◌, ◌≡◌, Bool, not, ◌&&◌, ltb, eqb, Result, Ok, Err}
 use Rattle.codes.specs.Chain.{◌when◌}
 use Rattle.check_digits.specs.Weighted.{weighted_digit}
-use Rattle.check_digits.specs.declared.check.KeyedAnswer.{KeyedAnswer}
+use Rattle.check_digits.specs.declared.check.KeyedRefusal.{KeyedRefusal}
 
 -- 'Document digit: the number modulo 7'
 abbrev pub document_modulus : ℕ
@@ -39,9 +39,9 @@ abbrev pub keyed_refusal : Check → (n digit : ℕ) → ℕ
 keyed_refusal c n digit = 43 when not (passes c n digit)
 
 -- the paper's number of each answer
-abbrev pub keyed_number : KeyedAnswer → ℕ
-keyed_number KeyedAnswer.Passes = 0
-keyed_number KeyedAnswer.Fails = 43
+abbrev pub keyed_number : Result (Unit {0}) KeyedRefusal → ℕ
+keyed_number (Ok right) = 0
+keyed_number (Err refusal) = 43
 
 -- whatever the number, no digit above 9 passes
 abbrev pub FailsAboveNine : Check → Type 0

@@ -1,8 +1,7 @@
 -- 01, 'Given because of the input' and 'Given because of the state', and 02, card 6: the codes that travel in replies.
-use Rattle.std.specs.Prelude.{ℕ, Bool, true, false, List, [], ◌∷◌}
+use Rattle.std.specs.Prelude.{ℕ, Bool, List, [], ◌∷◌, Option, Some, None, is_some}
 use Rattle.packed.specs.Writing.{packed_byte}
 use Rattle.codes.specs.declared.code.Code.{Code}
-use Rattle.codes.specs.declared.code.ReadCode.{ReadCode}
 use Rattle.codes.specs.Numbered.{numbered}
 
 -- the paper's number of each, and in short what it says
@@ -42,17 +41,12 @@ unfoldable pub code_byte : Code → ℕ
 code_byte c = packed_byte (code_number c)
 
 -- what a byte says where a reply has its code: the listed code that it carries, else that it is unknown
-unfoldable pub read_code : ℕ → ReadCode
-read_code b = numbered code_byte ReadCode.Known ReadCode.Unknown codes b
-
--- whether there is one
-abbrev pub is_known : ReadCode → Bool
-is_known (ReadCode.Known c) = true
-is_known ReadCode.Unknown = false
+unfoldable pub read_code : ℕ → Option Code
+read_code b = numbered code_byte Some None codes b
 
 -- 22 otherwise: the byte carries a listed code
 unfoldable pub known_code : ℕ → Bool
-known_code b = is_known (read_code b)
+known_code b = is_some (read_code b)
 
 -- the code of a number; 01 where no code has it, so that nothing but 0 accepts
 unfoldable pub code_numbered : ℕ → Code

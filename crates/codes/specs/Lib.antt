@@ -2,6 +2,7 @@
 pub mod Numbered
 pub mod Code
 pub mod Refusal
+pub mod Answer
 pub mod Chain
 pub mod Body
 pub mod Field

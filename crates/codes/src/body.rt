@@ -12,8 +12,8 @@ pub const LONGEST_BODY: usize = 10_400;
 pub fn operation_of(body: &[u8]) -> u8
     ensures { result ≡ operation_of body.now }
 {
-    if body.len() < 3 {
-        return 0;
+    match body {
+        [_, _, operation, ..] => *operation,
+        _ => 0,
     }
-    body[2]
 }

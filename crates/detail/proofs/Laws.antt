@@ -5,3 +5,4 @@ pub mod Codes
 pub mod Checked
 pub mod Writing
 pub mod RoundTrip
+pub mod Chunks

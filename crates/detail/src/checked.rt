@@ -4,10 +4,12 @@ ghost use Rattle.amounts.specs.Totals.{zeros};
 ghost use Rattle.detail.specs.Checked.{four_numbers, checked};
 
 use crate::reading::read_detail;
+use crate::verdict::Verdict;
 use codes::code::code_number;
 use codes::refusal::{Refusal, refusal_number};
-use document::entities::{LARGEST_ENTITY, entities_good};
+use document::entities::entities_good;
 
+// Numbers side by side, since this is the C interface.
 #[repr(C)]
 #[derive(Clone, Copy)]
 pub struct Checked {
@@ -33,26 +35,24 @@ fn wrong_start() -> Checked
 fn check(body: &[u8], own: u16, represented: &[u16]) -> Checked
     ensures { result ≡ checked own represented.now body.now }
 {
-    if entities_good(own, represented) {
-        let verdict = read_detail(body, own, represented);
-        let code = verdict.code;
-        let totals = verdict.totals;
-        return Checked {
-            code: code_number(code),
-            documents: totals.documents.0,
-            nominal: totals.nominal.0,
-            commission: totals.commission.0,
-        };
+    if !entities_good(own, represented) {
+        return wrong_start();
     }
-    wrong_start()
+    let Verdict { code, totals } = read_detail(body, own, represented);
+    Checked {
+        code: code_number(code),
+        documents: totals.documents.0,
+        nominal: totals.nominal.0,
+        commission: totals.commission.0,
+    }
 }
 
 // The check for any own number of 32 bits, so that one too large for an entity is refused and not cut to 16.
 pub fn line_check_detail(body: &[u8], own: u32, represented: &[u16]) -> Checked
     ensures { result ≡ checked own represented.now body.now }
 {
-    if (LARGEST_ENTITY as u32) < own {
-        return wrong_start();
+    match u16::try_from(own) {
+        Ok(own) => check(body, own, represented),
+        Err(_) => wrong_start(),
     }
-    check(body, own as u16, represented)
 }

@@ -11,7 +11,6 @@ ghost use Rattle.detail.specs.Groups.{group_good, groups, documents};
 use crate::groups::{GROUP_BYTES, HEAD_BYTES};
 use document::DOCUMENT_BYTES;
 use document::found::{Found, read_document};
-use packed::pieces::piece_at;
 
 // What is found in the documents of a part. They are fewer than its bytes, and that bound is enough for the sums.
 pub fn read_documents(part: &[u8], operation: u8, receiving: u16, represented: &[u16]) -> Found
@@ -20,12 +19,10 @@ pub fn read_documents(part: &[u8], operation: u8, receiving: u16, represented: &
     ensures found { result ≡ found_in operation receiving represented.now (pieces document_bytes part.now) }
     ensures bound { Within (length part.now) result.totals }
 {
+    let (documents, _) = part.as_chunks::<DOCUMENT_BYTES>();
     let mut found = Found::nothing();
-    let mut end = DOCUMENT_BYTES;
-    while end <= part.len() {
-        let at = end - DOCUMENT_BYTES;
-        found = found.join(read_document(&part[at..end], operation, receiving, represented));
-        end += DOCUMENT_BYTES;
+    for d in documents {
+        found = found.join(read_document(d, operation, receiving, represented));
     }
     found
 }
@@ -37,11 +34,8 @@ pub fn read_groups(body: &[u8], operation: u8, receiving: u16, represented: &[u1
     ensures { result ≡ found_in operation receiving represented.now (documents body.now) }
 {
     let mut found = Found::nothing();
-    let mut at: usize = 0;
-    while at < body.len() {
-        let g = piece_at(body, at, GROUP_BYTES);
+    for g in body.chunks(GROUP_BYTES) {
         found = found.join(read_documents(&g[HEAD_BYTES..], operation, receiving, represented));
-        at += GROUP_BYTES;
     }
     found
 }

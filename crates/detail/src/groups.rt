@@ -5,7 +5,6 @@ ghost use Rattle.detail.specs.Groups.{group_good, groups, one_operation};
 
 use codes::body::{MARK, operation_of};
 use document::{DOCUMENT_BYTES, PRESENTED, RETURNED};
-use packed::pieces::piece_at;
 
 // Free byte, mark, operation and count.
 pub const HEAD_BYTES: usize = 4;
@@ -19,14 +18,13 @@ pub const GROUP_BYTES: usize = HEAD_BYTES + FULL_COUNT * DOCUMENT_BYTES;
 pub fn group_good(g: &[u8]) -> bool
     ensures { result ≡ group_good g.now }
 {
-    if g.len() < HEAD_BYTES {
+    let [_, MARK, operation, count, documents @ ..] = g else {
         return false;
-    }
-    let count = g[3] as usize;
-    (g[1] == MARK)
-        & ((g[2] == PRESENTED) | (g[2] == RETURNED))
-        & ((1 <= count) & (count <= FULL_COUNT))
-        & (g.len() == HEAD_BYTES + count * DOCUMENT_BYTES)
+    };
+    let count = *count as usize;
+    ((*operation == PRESENTED) | (*operation == RETURNED))
+        & (1..=FULL_COUNT).contains(&count)
+        & (documents.len() == count * DOCUMENT_BYTES)
 }
 
 // What the heads of all groups say together.
@@ -44,15 +42,9 @@ pub fn read_heads(body: &[u8]) -> Heads
     let operation = operation_of(body);
     let mut good = true;
     let mut one = true;
-    let mut at: usize = 0;
-    while at < body.len() {
-        let g = piece_at(body, at, GROUP_BYTES);
-        good = good & group_good(g);
-        one = one & (operation_of(g) == operation);
-        at += GROUP_BYTES;
+    for g in body.chunks(GROUP_BYTES) {
+        good &= group_good(g);
+        one &= operation_of(g) == operation;
     }
-    Heads {
-        good: good,
-        one: one,
-    }
+    Heads { good, one }
 }

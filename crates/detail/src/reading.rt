@@ -10,8 +10,8 @@ use crate::documents::{read_documents, read_groups};
 use crate::groups::read_heads;
 use crate::verdict::{Verdict, judge, refused};
 use codes::body::{LONGEST_BODY, operation_of};
-use codes::chain::{is_accepted, or_else, when};
 use codes::code::Code;
+use document::found::Found;
 use document::{DOCUMENT_BYTES, MOST_DETAIL_DOCUMENTS, PRESENTED_NUMBER, RETURNED_NUMBER};
 use packed::writing::packed_byte;
 
@@ -20,36 +20,28 @@ pub fn read_detail(body: &[u8], own: u16, represented: &[u16]) -> Verdict
     ensures code { code_number result.code ≡ receiver_code own represented.now body.now }
     ensures totals { result.totals ≡ accepted_totals (code_number result.code) (documents body.now) }
 {
-    if (body.len() < 1) | (LONGEST_BODY < body.len()) {
+    if body.is_empty() | (LONGEST_BODY < body.len()) {
         return refused(Code::WrongField);
     }
     let heads = read_heads(body);
-    let code = or_else(
-        when(Code::WrongField, !heads.good),
-        when(Code::MixedOperations, !heads.one),
-    );
-    if is_accepted(code) {
-        let found = read_groups(body, operation_of(body), own, represented);
-        let totals = found.totals;
-        return judge(
-            found.fields,
-            found.amounts,
-            found.served,
-            found.something,
-            totals,
-        );
+    if !heads.good {
+        return refused(Code::WrongField);
     }
-    refused(code)
+    if !heads.one {
+        return refused(Code::MixedOperations);
+    }
+    judge(read_groups(body, operation_of(body), own, represented))
 }
 
 // Whether a detail may be sent from an operation, the plain number, and a part.
+#[tactic(auto, unfolding(crate::specs::Codes::part_sendable))]
 pub fn part_sendable(operation: u8, part: &[u8]) -> bool
     ensures { result ≡ part_sendable operation part.now }
 {
     let documents = part.len() / DOCUMENT_BYTES;
     ((operation == PRESENTED_NUMBER) | (operation == RETURNED_NUMBER))
         & (part.len() % DOCUMENT_BYTES == 0)
-        & ((1 <= documents) & (documents <= MOST_DETAIL_DOCUMENTS))
+        & (1..=MOST_DETAIL_DOCUMENTS).contains(&documents)
 }
 
 // A part that is to be sent, with the operation's plain number. What was found of drawees is left aside.
@@ -57,11 +49,12 @@ pub fn read_part(operation: u8, part: &[u8], partner: u16) -> Verdict
     ensures code { code_number result.code ≡ presenter_code operation partner part.now }
     ensures totals { result.totals ≡ accepted_totals (code_number result.code) (pieces document_bytes part.now) }
 {
-    if part_sendable(operation, part) {
-        let nobody = [0u16; 1];
-        let found = read_documents(part, packed_byte(operation as u64), partner, &nobody[..0]);
-        let totals = found.totals;
-        return judge(found.fields, found.amounts, true, found.something, totals);
+    if !part_sendable(operation, part) {
+        return refused(Code::WrongField);
     }
-    refused(Code::WrongField)
+    let found = read_documents(part, packed_byte(operation as u64), partner, &[]);
+    judge(Found {
+        served: true,
+        ..found
+    })
 }

@@ -5,23 +5,14 @@ ghost use Rattle.codes.specs.Code.{code_number};
 ghost use Rattle.detail.specs.Inner.Verdict.{judged, if_accepted};
 
 use amounts::Totals;
-use codes::chain::{is_accepted, or_else, when};
 use codes::code::Code;
+use document::found::Found;
 
+// A code beside the totals, and no Result: 00 is one of the codes of a reply, and a refusal has totals too, which are zeros.
 #[derive(Clone, Copy)]
 pub struct Verdict {
     pub code: Code,
     pub totals: Totals,
-}
-
-// The totals where a code accepts.
-fn if_accepted(code: Code, totals: Totals) -> Totals
-    ensures { result ≡ if_accepted (code_number code) totals }
-{
-    if is_accepted(code) {
-        return totals;
-    }
-    Totals::zeros()
 }
 
 // A code that accepts nothing.
@@ -29,28 +20,30 @@ pub fn refused(code: Code) -> Verdict
     ensures { (result.code ≡ code) × (result.totals ≡ zeros) }
 {
     Verdict {
-        code: code,
+        code,
         totals: Totals::zeros(),
     }
 }
 
-// The first of 01, 03, 06 and 44 that a document earns, or 00.
-pub fn judge(fields: bool, amounts: bool, served: bool, something: bool, totals: Totals) -> Verdict
-    ensures code { code_number result.code ≡ judged fields amounts served something }
-    ensures totals { result.totals ≡ if_accepted (code_number result.code) totals }
+// The first of 01, 03, 06 and 44 that a document earns, or 00 and the totals.
+pub fn judge(found: Found) -> Verdict
+    ensures code { code_number result.code ≡ judged found.fields found.amounts found.served found.something }
+    ensures totals { result.totals ≡ if_accepted (code_number result.code) found.totals }
 {
-    let code = or_else(
-        when(Code::WrongField, !fields),
-        or_else(
-            when(Code::WrongAmount, !amounts),
-            or_else(
-                when(Code::WrongDrawee, !served),
-                when(Code::ForNothing, !something),
-            ),
-        ),
-    );
+    if !found.fields {
+        return refused(Code::WrongField);
+    }
+    if !found.amounts {
+        return refused(Code::WrongAmount);
+    }
+    if !found.served {
+        return refused(Code::WrongDrawee);
+    }
+    if !found.something {
+        return refused(Code::ForNothing);
+    }
     Verdict {
-        code: code,
-        totals: if_accepted(code, totals),
+        code: Code::Accepted,
+        totals: found.totals,
     }
 }

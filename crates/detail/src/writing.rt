@@ -9,7 +9,6 @@ ghost use Rattle.detail.specs.Writing.{written_group, written_detail};
 use crate::groups::{FULL_COUNT, HEAD_BYTES};
 use codes::body::MARK;
 use document::{DOCUMENT_BYTES, MOST_DETAIL_DOCUMENTS};
-use packed::pieces::piece_at;
 use packed::writing::copy;
 
 // The bytes of a full group's documents.
@@ -27,7 +26,7 @@ pub fn written_bytes(part: &[u8]) -> usize
     if LONGEST_PART < part.len() {
         return 0;
     }
-    part.len() + (part.len() + FILL_BYTES - 1) / FILL_BYTES * HEAD_BYTES
+    part.len() + part.len().div_ceil(FILL_BYTES) * HEAD_BYTES
 }
 
 // Writes one group of at most four documents at `to`; every other byte keeps its value.
@@ -36,10 +35,8 @@ fn write_group(out: &mut [u8], to: usize, operation_byte: u8, documents: &[u8])
     requires documents_len_bound { length documents.now ≤ fill_bytes }
     ensures { out.new ≡ sets out.old to (written_group operation_byte documents.now) }
 {
-    out[to] = 0;
-    out[to + 1] = MARK;
-    out[to + 2] = operation_byte;
-    out[to + 3] = (documents.len() / DOCUMENT_BYTES) as u8;
+    let count = (documents.len() / DOCUMENT_BYTES) as u8;
+    copy(out, to, &[0, MARK, operation_byte, count]);
     copy(out, to + HEAD_BYTES, documents);
 }
 
@@ -50,13 +47,10 @@ pub fn write_detail(out: &mut [u8], operation_byte: u8, part: &[u8]) -> usize
     ensures length { result ≡ length (written_detail operation_byte part.now) }
     ensures bytes { out.new ≡ sets out.old 0 (written_detail operation_byte part.now) }
 {
-    let mut to: usize = 0;
-    let mut at: usize = 0;
-    while at < part.len() {
-        let documents = piece_at(part, at, FILL_BYTES);
+    let mut to = 0;
+    for documents in part.chunks(FILL_BYTES) {
         write_group(out, to, operation_byte, documents);
         to += HEAD_BYTES + documents.len();
-        at += FILL_BYTES;
     }
     to
 }

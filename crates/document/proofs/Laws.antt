@@ -1,5 +1,4 @@
 -- Laws of a document, one file a notion.
 pub mod Fields
-pub mod Entities
 pub mod Found
 pub mod Amounts

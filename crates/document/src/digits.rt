@@ -1,9 +1,10 @@
 // The digits of a document: those of its fields and those of its amounts, which earn different codes.
-ghost use Rattle.std.specs.Prelude.{◌≡◌, length};
-ghost use Rattle.document.specs.Limits.{document_bytes};
+ghost use Rattle.std.specs.Prelude.{◌≡◌};
 ghost use Rattle.document.specs.Inner.Digits.{field_digits, amount_digits, digits_to_key};
 
-use crate::{COMMISSION, COMMISSION_BYTES, DRAWEE, NOMINAL, NOMINAL_BYTES, UNREAD_KEY};
+use crate::{
+    COMMISSION, COMMISSION_BYTES, DOCUMENT_BYTES, DRAWEE, NOMINAL, NOMINAL_BYTES, UNREAD_KEY,
+};
 use packed::digits::{are_digits, is_digits};
 
 // The bytes of the fields between the two amounts.
@@ -26,26 +27,22 @@ const THIRD_RUN: usize = UNREAD_KEY - RUN;
 
 // Whether everything up to the key is digits. One loop over three runs of this width, without a branch, is what a compiler
 // makes the fastest code of.
-fn sweep(d: &[u8]) -> bool
-    requires { length d.now ≡ document_bytes }
+fn sweep(d: &[u8; DOCUMENT_BYTES]) -> bool
     ensures { result ≡ digits_to_key d.now }
 {
     let mut first = true;
     let mut second = true;
     let mut third = true;
-    let mut i: usize = 0;
-    while i < RUN {
-        first = first & is_digits(d[i]);
-        second = second & is_digits(d[SECOND_RUN + i]);
-        third = third & is_digits(d[THIRD_RUN + i]);
-        i += 1;
+    for i in 0..RUN {
+        first &= is_digits(d[i]);
+        second &= is_digits(d[SECOND_RUN + i]);
+        third &= is_digits(d[THIRD_RUN + i]);
     }
     first & second & third
 }
 
 // Amounts lie between fields. One sweep serves a good document; only after a fault is it asked where the fault lies.
-pub fn all_digits(d: &[u8]) -> AllDigits
-    requires { length d.now ≡ document_bytes }
+pub fn all_digits(d: &[u8; DOCUMENT_BYTES]) -> AllDigits
     ensures fields { result.fields ≡ field_digits d.now }
     ensures amounts { result.amounts ≡ amount_digits d.now }
 {

@@ -1,20 +1,15 @@
 // Code 06: the drawee of a presented document is one that the receiving centre stands for.
-ghost use Rattle.std.specs.Prelude.{◌≡◌, length};
-ghost use Rattle.document.specs.Limits.{document_bytes};
+ghost use Rattle.std.specs.Prelude.{◌≡◌};
 ghost use Rattle.document.specs.Drawee.{drawee_served};
 
 use crate::entities::is_member;
-use crate::{DRAWEE, PRESENTED};
+use crate::{DOCUMENT_BYTES, DRAWEE, PRESENTED};
 use packed::number::number2;
 
 // Whether a document does not earn 06. The commonest drawee is own, and costs no search.
-pub fn drawee_served(d: &[u8], operation: u8, own: u16, represented: &[u16]) -> bool
-    requires { length d.now ≡ document_bytes }
+pub fn drawee_served(d: &[u8; DOCUMENT_BYTES], operation: u8, own: u16, represented: &[u16]) -> bool
     ensures { result ≡ drawee_served operation own represented.now d.now }
 {
     let drawee = number2(d, DRAWEE);
-    if (operation != PRESENTED) | (drawee == own) {
-        return true;
-    }
-    is_member(drawee, represented)
+    (operation != PRESENTED) | (drawee == own) || is_member(drawee, represented)
 }

@@ -9,7 +9,8 @@ pub mod entities;
 pub mod found;
 pub mod rules;
 
-// The operation byte of a group of presented documents, and of a group of returns; and the plain numbers of the two.
+// The operation byte of a group of presented documents, and of a group of returns; and the plain numbers of the two. They stay
+// bytes: what comes on the line may be any byte, and an enum would ask more of callers.
 pub const PRESENTED: u8 = 0x30;
 
 pub const RETURNED: u8 = 0x40;

@@ -1,10 +1,9 @@
 // The rules on the values of fields, one function for each rule of the table.
-ghost use Rattle.std.specs.Prelude.{◌≡◌, length};
-ghost use Rattle.document.specs.Limits.{document_bytes};
+ghost use Rattle.std.specs.Prelude.{◌≡◌};
 ghost use Rattle.document.specs.Inner.Values.{values_good};
 ghost use Rattle.document.specs.Rules.{identification, day_and_month, province, truncation, key_or_reason};
 
-use crate::RETURNED;
+use crate::{DOCUMENT_BYTES, RETURNED};
 use packed::number::{number, number2};
 
 // Where the fields stand that have a rule and no other test.
@@ -29,39 +28,35 @@ fn identification(v: u16) -> bool
 }
 
 // The days of each month from 00, which has none, to 12.
-const MONTH_DAYS: [u16; 13] = [0, 31, 29, 31, 30, 31, 30, 31, 31, 30, 31, 30, 31];
+pub const MONTH_DAYS: [u16; 13] = [0, 31, 29, 31, 30, 31, 30, 31, 31, 30, 31, 30, 31];
 
 pub fn day_and_month(v: u16) -> bool
     ensures { result ≡ day_and_month v }
 {
-    let month = (v % 100) as usize;
-    if 12 < month {
-        return false;
-    }
-    (1 <= v / 100) & (v / 100 <= MONTH_DAYS[month])
+    let days = MONTH_DAYS.get((v % 100) as usize).copied().unwrap_or(0);
+    (1..=days).contains(&(v / 100))
 }
 
 fn province(v: u64) -> bool
     ensures { result ≡ province v }
 {
-    (1 <= v) & (v <= 52)
+    (1..=52).contains(&v)
 }
 
 fn truncation(v: u64) -> bool
     ensures { result ≡ truncation v }
 {
-    (1 <= v) & (v <= 2)
+    (1..=2).contains(&v)
 }
 
 fn key_or_reason(operation: u8, v: u16) -> bool
     ensures { result ≡ key_or_reason operation v }
 {
-    (operation != RETURNED) | ((1 <= v) & (v <= 49)) | ((51 <= v) & (v <= 99))
+    (operation != RETURNED) | (1..=49).contains(&v) | (51..=99).contains(&v)
 }
 
 // Whether every field has a value that it takes, whatever its digits.
-pub fn values_good(d: &[u8], operation: u8, receiving: u16) -> bool
-    requires { length d.now ≡ document_bytes }
+pub fn values_good(d: &[u8; DOCUMENT_BYTES], operation: u8, receiving: u16) -> bool
     ensures { result ≡ values_good operation receiving d.now }
 {
     identification(number2(d, IDENTIFICATION))

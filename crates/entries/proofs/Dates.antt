@@ -5,10 +5,10 @@ use Prim.Native.Nat.{ℕ, ◌/◌, ◌%◌}
 use native.Mathlib.Omega.{arith}
 use borrow.Author.Tests.{le-leb, eqb-true, eq-eqb}
 use lib.Dec.{eqb, leb}
+use Rattle.std.specs.Prelude.{Ok}
 use Rattle.packed.proofs.Laws.Told.{both}
 use Rattle.document.specs.Rules.{day_and_month}
 use Rattle.session.specs.Parties.{largest_date, leap_day, real_date}
-use Rattle.calendar.specs.declared.compensation.Compensation.{Compensation}
 use Rattle.calendar.specs.Dates.{year, is_day2028}
 use Rattle.calendar.specs.Compensation.{compensation, Says}
 use Rattle.calendar.proofs.Laws.Dates.{day_short}
@@ -26,7 +26,7 @@ same_dates date = go (eqb (date % 100) year) refl (day_and_month (date / 100)) r
         let leap : date % 4 ≡ 0 = omega (arith, eqb-true (date % 100) year e) in
         rw (le-leb date largest_date (omega (arith, day)), eq-eqb (date % 4) 0 leap, or-true (not (eqb (date / 100) leap_day)))
 
-pub starts : (date given : ℕ) → compensation date ≡ Compensation.On given → real_date given ≡ true
+pub starts : (date given : ℕ) → compensation date ≡ Ok given → real_date given ≡ true
 starts date given e =
     let day = (subst (Says date) e (every_answer_true date)).1 in
     (both (real_date given) (eqb (given % 100) year) (sym (same_dates given) ∙ day)).0

@@ -12,6 +12,7 @@ ghost use Rattle.exchange.specs.Evening.{exchanged};
 
 use exchange::evening::exchange;
 use exchange::shown::Evening;
+use outgoing::Trays;
 use script::play::{Stop, play};
 use script::player::fresh;
 
@@ -27,8 +28,7 @@ pub struct ScriptPlayed {
 
 fn stop_number(stop: Stop) -> u8 {
     match stop {
-        Stop::Done => 0,
-        Stop::Unfinished => 0,
+        Stop::Done | Stop::Unfinished => 0,
         Stop::Full => 1,
     }
 }
@@ -45,11 +45,10 @@ pub extern "C" fn line_play_script(
     ensures kept { drop result.written output.new ≡ drop result.written output.old }
 {
     let played = play(fresh(), script, true, output, wire);
-    let stop = played.stop;
     ScriptPlayed {
         read: played.read as u64,
         written: played.written as u64,
-        stop: stop_number(stop),
+        stop: stop_number(played.stop),
     }
 }
 
@@ -63,10 +62,13 @@ pub extern "C" fn line_exchange<'a>(
 ) -> Evening
     ensures { result ≡ exchanged near_presentations.now near_returns.now far_presentations.now far_returns.now }
 {
-    exchange(
-        near_presentations,
-        near_returns,
-        far_presentations,
-        far_returns,
-    )
+    let near = Trays {
+        presentations: near_presentations,
+        returns: near_returns,
+    };
+    let far = Trays {
+        presentations: far_presentations,
+        returns: far_returns,
+    };
+    exchange(near, far)
 }

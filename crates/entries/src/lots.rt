@@ -6,7 +6,7 @@ ghost use Rattle.lot_file.specs.Adding.{add_refusal, added};
 ghost use Rattle.lot_file.specs.TakingOut.{taken_out};
 
 use lot_file::add::add;
-use lot_file::answers::{FindShown, add_number, check_number, find_shown, take_number};
+use lot_file::answers::{FindShown, answer_number, find_shown};
 use lot_file::check::check;
 use lot_file::find::find;
 use lot_file::take_out::take_out;
@@ -16,7 +16,7 @@ use lot_file::take_out::take_out;
 pub extern "C" fn line_lot_file_check(file: &[u8]) -> u8
     ensures { result ≡ check_refusal most_lots most_lot_documents file.now }
 {
-    check_number(check(file))
+    answer_number(check(file))
 }
 
 // Where the body of a lot starts, and how many documents it has.
@@ -33,7 +33,7 @@ pub extern "C" fn line_lot_file_add(file: &mut [u8], number: u32, tray: &[u8]) -
     ensures answer { result ≡ add_refusal most_lots most_lot_documents file.old number tray.now }
     ensures after { file.new ≡ added most_lots most_lot_documents file.old number tray.now }
 {
-    add_number(add(file, number, tray))
+    answer_number(add(file, number, tray))
 }
 
 // Takes a lot out.
@@ -42,5 +42,5 @@ pub extern "C" fn line_lot_file_take_out(file: &mut [u8], number: u32) -> u8
     ensures answer { result ≡ absent_refusal most_lots most_lot_documents file.old number }
     ensures after { file.new ≡ taken_out most_lots most_lot_documents file.old number }
 {
-    take_number(take_out(file, number))
+    answer_number(take_out(file, number))
 }

@@ -14,39 +14,33 @@ fn evening(rt: &(impl Print + Files), name: &str) -> io::Result<()> {
     play_from(rt, &mut script)
 }
 
-// What the line can lose.
-fn losses(rt: &(impl Print + Files)) -> io::Result<()> {
-    evening(rt, "lost_message.script")?;
-    evening(rt, "lost_reply_header.script")?;
-    evening(rt, "lost_reply_detail.script")?;
-    evening(rt, "lost_reply_lot.script")?;
-    evening(rt, "lost_reply_session.script")?;
-    evening(rt, "both_losing.script")?;
-    evening(rt, "hour_later.script")
-}
-
-// What the close leaves behind, and clocks that differ.
-fn hours(rt: &(impl Print + Files)) -> io::Result<()> {
-    evening(rt, "lost_reply_close.script")?;
-    evening(rt, "closes_differ.script")?;
-    evening(rt, "clocks_margin.script")?;
-    evening(rt, "clocks_preclose.script")?;
-    evening(rt, "clocks_close.script")?;
-    evening(rt, "clock_set_back.script")
-}
-
-// Details and lots that are refused, and the limits.
-fn refusals(rt: &(impl Print + Files)) -> io::Result<()> {
-    evening(rt, "duplicate.script")?;
-    evening(rt, "zeros.script")?;
-    evening(rt, "for_nothing.script")?;
-    evening(rt, "many_lots.script")?;
-    evening(rt, "full_lot.script")
-}
+// An ordinary evening; what the line can lose; what the close leaves behind, and clocks that differ; details and lots that are
+// refused, and the limits.
+const EVENINGS: [&str; 19] = [
+    "ordinary.script",
+    "lost_message.script",
+    "lost_reply_header.script",
+    "lost_reply_detail.script",
+    "lost_reply_lot.script",
+    "lost_reply_session.script",
+    "both_losing.script",
+    "hour_later.script",
+    "lost_reply_close.script",
+    "closes_differ.script",
+    "clocks_margin.script",
+    "clocks_preclose.script",
+    "clocks_close.script",
+    "clock_set_back.script",
+    "duplicate.script",
+    "zeros.script",
+    "for_nothing.script",
+    "many_lots.script",
+    "full_lot.script",
+];
 
 fn main(rt: HostRuntime) -> io::Result<()> {
-    evening(&rt, "ordinary.script")?;
-    losses(&rt)?;
-    hours(&rt)?;
-    refusals(&rt)
+    for name in EVENINGS {
+        evening(&rt, name)?;
+    }
+    Ok(())
 }

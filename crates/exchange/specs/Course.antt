@@ -1,18 +1,18 @@
 -- The course that this driver takes, round by round, every call at the opening; 01 leaves it to the caller.
-use Rattle.std.specs.Prelude.{ℕ, zero, suc, ◌+◌, ◌≡◌, true, ◌||◌, cond, List, eqb, length}
+use Rattle.std.specs.Prelude.{ℕ, zero, suc, ◌+◌, ◌||◌, cond, List, eqb, length}
 use Rattle.session.specs.Hours.{opening}
 use Rattle.session.specs.Limits.{most_lots, passes_lot}
 use Rattle.session.specs.Running.{documents_in}
 use Rattle.session.specs.Sending.{Send}
 use Rattle.session.specs.Engine.{Call, Engine}
 use Rattle.centre.specs.Turn.{engine_of}
-use Rattle.exchange.specs.declared.cursors.Cursors.{Cursors}
+use Rattle.outgoing.specs.declared.Cursors.{Cursors}
 use Rattle.exchange.specs.declared.progress.Progress.{Progress}
 use Rattle.exchange.specs.declared.round.Round.{Round}
-use Rattle.exchange.specs.Cursors.{unmoved, within, part_at, next_operation, moved, same}
+use Rattle.exchange.specs.Cursors.{unmoved, part_at, next_operation, moved, same}
 use Rattle.document.specs.Part.{count_in}
 use Rattle.exchange.specs.Fixed.{moment, office, lot_parts}
-use Rattle.exchange.specs.Round.{Rounded, rounded, BothReady}
+use Rattle.exchange.specs.Round.{Rounded, rounded}
 
 -- both ends of a direction and the two line buffers
 pub record Ends : Type 0 where
@@ -32,11 +32,6 @@ ends_of r message reply = record { presenter = engine_of r.presenter; receiver =
 
 abbrev pub standing_of : Progress → (message reply : List ℕ) → Standing
 standing_of p message reply = record { ends = ends_of p.last message reply; cursors = p.cursors }
-
--- the premise of every call at both ends, and cursors within their trays
-pub record Safe (presentations returns : List ℕ) (p : Progress) : Type 0 where
-  pub ready : BothReady p.last
-  pub good : within presentations returns p.cursors ≡ true
 
 -- what a round leaves
 abbrev pub ends_after : Rounded → Ends

@@ -2,7 +2,7 @@
 use Rattle.std.specs.Prelude.{ℕ, ◌+◌, Bool, ◌&&◌, cond, List, eqb}
 use Rattle.document.specs.Operation.{presented_number, returned_number}
 use Rattle.outgoing.specs.Outgoing.{both_good, remain, next}
-use Rattle.exchange.specs.declared.cursors.Cursors.{Cursors}
+use Rattle.outgoing.specs.declared.Cursors.{Cursors}
 
 -- nothing is sent yet
 abbrev pub unmoved : Cursors

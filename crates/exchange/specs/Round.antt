@@ -1,7 +1,7 @@
 -- A round of a direction, made of what its calls mean: send; if that is not refused, receive what was written; if that is not refused, take the
 -- reply that was written.
 use Rattle.std.specs.Prelude.{ℕ, cond, List, [], eqb}
-use Rattle.session.specs.Engine.{Call, Engine, Ready, Performed, performed, said_by}
+use Rattle.session.specs.Engine.{Call, Engine, Performed, performed, said_by}
 use Rattle.centre.specs.Turn.{engine_of}
 use Rattle.exchange.specs.declared.round.Round.{Round}
 
@@ -52,8 +52,3 @@ answer_of r reply = record { presenter = engine_of r.presenter; receiver = engin
 
 abbrev pub round_of : Round → (message reply : List ℕ) → Rounded
 round_of r message reply = record { sent = r.sent; message = message; answer = answer_of r reply }
-
--- the premise of every call, at both ends
-pub record BothReady (r : Round) : Type 0 where
-  pub presenter : Ready (engine_of r.presenter)
-  pub receiver : Ready (engine_of r.receiver)

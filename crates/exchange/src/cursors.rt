@@ -1,14 +1,9 @@
-// The cursors of an end's two trays, counted in documents, and how the driver moves them.
+// How the driver moves the cursors of an end's two trays.
 ghost use Rattle.std.specs.Prelude.{◌≡◌, true};
-ghost use Rattle.exchange.specs.Cursors.{presenting, next_operation, moved, same, within};
+ghost use Rattle.exchange.specs.Cursors.{presenting, next_operation, moved, within};
 
 use document::{DOCUMENT_BYTES, PRESENTED_NUMBER, RETURNED_NUMBER};
-
-#[derive(Clone, Copy)]
-pub struct Cursors {
-    pub presentations: usize,
-    pub returns: usize,
-}
+use outgoing::{Cursors, Trays};
 
 // Whether the next part is one of the presentations.
 fn presenting(presentations: &[u8], cursors: Cursors) -> bool
@@ -28,25 +23,18 @@ pub fn operation(presentations: &[u8], cursors: Cursors) -> u8
 }
 
 // Past so many documents more, of the tray that the next part is of.
-pub fn moved(presentations: &[u8], returns: &[u8], cursors: Cursors, documents: usize) -> Cursors
-    requires { within presentations.now returns.now (moved presentations.now documents cursors) ≡ true }
-    ensures { result ≡ moved presentations.now documents cursors }
+pub fn moved(trays: Trays, cursors: Cursors, documents: usize) -> Cursors
+    requires { within trays.presentations.now trays.returns.now (moved trays.presentations.now documents cursors) ≡ true }
+    ensures { result ≡ moved trays.entry.presentations.now documents cursors }
 {
-    if presenting(presentations, cursors) {
+    if presenting(trays.presentations, cursors) {
         return Cursors {
             presentations: cursors.presentations + documents,
-            returns: cursors.returns,
+            ..cursors
         };
     }
     Cursors {
-        presentations: cursors.presentations,
         returns: cursors.returns + documents,
+        ..cursors
     }
-}
-
-// Whether nothing was moved.
-pub fn same(a: Cursors, b: Cursors) -> bool
-    ensures { result ≡ same a b }
-{
-    (a.presentations == b.presentations) & (a.returns == b.returns)
 }

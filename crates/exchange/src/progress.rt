@@ -1,13 +1,13 @@
 // How a direction stands between two rounds: the last one, with both ends in it, and the cursors of the presenter's trays.
 ghost use Rattle.std.specs.Prelude.{◌≡◌};
 ghost use Rattle.centre.specs.Turn.{call_of};
-ghost use Rattle.exchange.specs.Round.{BothReady};
 ghost use Rattle.exchange.specs.Course.{ends_of, round_made};
 
-use crate::cursors::Cursors;
 use crate::round::Round;
 use crate::rounds::round;
 use centre::call::Order;
+use message::envelope::{MESSAGE_ROOM, REPLY_ROOM};
+use outgoing::Cursors;
 use session::session::Session;
 
 #[derive(Clone, Copy)]
@@ -16,17 +16,16 @@ pub struct Progress {
     pub cursors: Cursors,
 }
 
+// The two line buffers: what the presenter writes, and what the receiver does.
+#[derive(Drop)]
+pub struct Lines {
+    pub message: [u8; MESSAGE_ROOM],
+    pub reply: [u8; REPLY_ROOM],
+}
+
 // One more round, at the opening. Only a detail reads the bytes beside it.
-pub fn one_more(
-    ends: Round,
-    order: Order,
-    bytes: &[u8],
-    message: &mut [u8],
-    reply: &mut [u8],
-) -> Round
-    requires { BothReady ends }
-    ensures outcome { ends_of result message.new reply.new ≡ round_made (call_of order bytes.now) (ends_of ends message.old reply.old) }
-    ensures premise { BothReady result }
+pub fn one_more(ends: Round, order: Order, bytes: &[u8], lines: &mut Lines) -> Round
+    ensures { ends_of result lines.new.message lines.new.reply ≡ round_made (call_of order bytes.now) (ends_of ends lines.old.message lines.old.reply) }
 {
     round(
         ends.presenter,
@@ -34,7 +33,7 @@ pub fn one_more(
         order,
         bytes,
         Session::OPENING,
-        message,
-        reply,
+        &mut lines.message,
+        &mut lines.reply,
     )
 }

@@ -1,8 +1,7 @@
 // A round of a direction: the presenter sends, the receiver takes the message and replies, the presenter takes the reply.
 ghost use Rattle.std.specs.Prelude.{◌≡◌};
 ghost use Rattle.centre.specs.Turn.{engine_of, call_of};
-ghost use Rattle.exchange.specs.Round.{BothReady, answer_of, round_of, answered, rounded};
-ghost use Rattle.session.specs.Engine.{Ready};
+ghost use Rattle.exchange.specs.Round.{answer_of, round_of, answered, rounded};
 
 use crate::round::Round;
 use centre::call::{Order, perform, receive_call, reply_call};
@@ -17,29 +16,23 @@ pub fn answered(
     message: &[u8],
     reply: &mut [u8],
 ) -> Round
-    requires presenter_ready { Ready (engine_of presenter) }
-    requires receiver_ready { Ready (engine_of receiver) }
     ensures outcome { answer_of result reply.new ≡ answered time message.now reply.old (engine_of presenter) (engine_of receiver) }
     ensures unsent { result.sent ≡ 0 }
-    ensures premise { BothReady result }
 {
     let heard = receive_call(receiver, time, message, reply);
-    let there = heard.centre;
     if heard.number == 0 {
-        let written = heard.written;
-        let told = reply_call(presenter, time, &reply[..written]);
-        let here = told.centre;
+        let told = reply_call(presenter, time, &reply[..heard.written]);
         return Round {
-            presenter: here,
-            receiver: there,
+            presenter: told.centre,
+            receiver: heard.centre,
             sent: 0,
             received: heard.number,
             replied: told.number,
         };
     }
     Round {
-        presenter: presenter,
-        receiver: there,
+        presenter,
+        receiver: heard.centre,
         sent: 0,
         received: heard.number,
         replied: 0,
@@ -57,20 +50,15 @@ pub fn round(
     message: &mut [u8],
     reply: &mut [u8],
 ) -> Round
-    requires presenter_ready { Ready (engine_of presenter) }
-    requires receiver_ready { Ready (engine_of receiver) }
-    ensures outcome { round_of result message.new reply.new ≡ rounded (call_of order part.now) time message.old reply.old (engine_of presenter) (engine_of receiver) }
-    ensures premise { BothReady result }
+    ensures { round_of result message.new reply.new ≡ rounded (call_of order part.now) time message.old reply.old (engine_of presenter) (engine_of receiver) }
 {
     let turn = perform(presenter, order, part, message);
-    let sender = turn.centre;
     if turn.number == 0 {
-        let written = turn.written;
-        return answered(sender, receiver, time, &message[..written], reply);
+        return answered(turn.centre, receiver, time, &message[..turn.written], reply);
     }
     Round {
-        presenter: sender,
-        receiver: receiver,
+        presenter: turn.centre,
+        receiver,
         sent: turn.number,
         received: 0,
         replied: 0,

@@ -8,7 +8,7 @@ use session::running::{Running, empty, stated};
 use session::session::Close;
 
 #[repr(C)]
-#[derive(Clone, Copy)]
+#[derive(Clone, Copy, Default)]
 pub struct Sums {
     pub lots: u64,
     pub documents: u64,
@@ -17,7 +17,7 @@ pub struct Sums {
 }
 
 #[repr(C)]
-#[derive(Clone, Copy)]
+#[derive(Clone, Copy, Default)]
 pub struct Side {
     pub presented: Sums,
     pub received: Sums,
@@ -42,7 +42,7 @@ fn sums_of(lots: u64, gathered: Running) -> Sums
 {
     let totals = stated(gathered);
     Sums {
-        lots: lots,
+        lots,
         documents: totals.documents.0,
         nominal: totals.nominal.0,
         commission: totals.commission.0,
@@ -52,13 +52,10 @@ fn sums_of(lots: u64, gathered: Running) -> Sums
 fn close_number(close: Close) -> u8
     ensures { result ≡ close_number close }
 {
-    match close {
-        Close::Open => 0,
-        Close::Ordered => 1,
-        Close::Forced => 2,
-    }
+    close as u8
 }
 
+// A match, since `as` takes no variant that carries a lot.
 fn awaited_number(awaited: Awaited) -> u8
     ensures { result ≡ awaited_number awaited }
 {
@@ -84,25 +81,20 @@ fn awaited_lot(awaited: Awaited) -> Lot
     ensures { result ≡ awaited_lot awaited }
 {
     match awaited {
-        Awaited::Neither => no_lot(),
         Awaited::LotTotal(lot) => lot,
-        Awaited::SessionTotal => no_lot(),
+        Awaited::Neither | Awaited::SessionTotal => no_lot(),
     }
 }
 
 pub fn side_of(r: Report) -> Side
     ensures { result ≡ side_of r }
 {
-    let presented = r.presented;
-    let received = r.received;
-    let close = r.close;
-    let awaited = r.awaited;
-    let lot = awaited_lot(awaited);
+    let lot = awaited_lot(r.awaited);
     Side {
-        presented: sums_of(presented.lots as u64, presented.gathered),
-        received: sums_of(received.lots as u64, received.gathered),
-        close: close_number(close),
-        awaited: awaited_number(awaited),
+        presented: sums_of(r.presented.lots as u64, r.presented.gathered),
+        received: sums_of(r.received.lots as u64, r.received.gathered),
+        close: close_number(r.close),
+        awaited: awaited_number(r.awaited),
         lot_number: lot.number as u64,
         lot: sums_of(0, lot.gathered),
         nominal_position: r.positions.nominal,
@@ -114,15 +106,5 @@ pub fn side_of(r: Report) -> Side
 pub fn no_side() -> Side
     ensures { result ≡ no_side }
 {
-    let nothing = sums_of(0, empty());
-    Side {
-        presented: nothing,
-        received: nothing,
-        close: 0,
-        awaited: 0,
-        lot_number: 0,
-        lot: nothing,
-        nominal_position: 0,
-        commission_position: 0,
-    }
+    Side::default()
 }

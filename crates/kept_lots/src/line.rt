@@ -1,13 +1,8 @@
 // The line between the two ends: what one says the other hears and keeps, and the reply comes back or is lost.
-ghost use Rattle.std.specs.Prelude.{IfOk};
-ghost use Rattle.session.specs.Engine.{Ready};
-ghost use Rattle.centre.specs.Turn.{engine_of};
-ghost use Rattle.exchange.specs.Round.{BothReady};
-
-use crate::keeping::keep;
+use crate::keeping::{Kept, keep};
 use crate::print::print_text;
 use centre::call::{Order, perform};
-use centre::end::{Centre, begun};
+use centre::end::Centre;
 use exchange::round::Round;
 use exchange::rounds::answered;
 use message::envelope::{MESSAGE_ROOM, REPLY_ROOM};
@@ -15,25 +10,17 @@ use packed::pieces::piece_at;
 use session::session::Session;
 use std::io;
 
+// 14 March 2028, as DDMMYY.
+const DATE: u32 = 14_03_28;
+
 // Where a reply has its code.
 const CODE: usize = REPLY_ROOM - 1;
 
-fn started(own: u16, partner: u16) -> Centre
-    ensures { Ready (engine_of result) }
-{
-    let nobody = [0u16; 1];
-    let start = Session::start(140328, own, partner, &nobody[..0]);
-    let session = start.session;
-    begun(session)
-}
-
 // 0081, which presents, and 0072, which receives.
-pub fn both_started() -> Round
-    ensures { BothReady result }
-{
+pub fn both_started() -> Round {
     Round {
-        presenter: started(81, 72),
-        receiver: started(72, 81),
+        presenter: Centre::started(DATE, 81, 72),
+        receiver: Centre::started(DATE, 72, 81),
         sent: 0,
         received: 0,
         replied: 0,
@@ -52,18 +39,12 @@ fn hear(
     presenter: Centre,
     receiver: Centre,
     message: &[u8],
-    gathered: &mut [u8],
-    file: &mut [u8],
-) -> io::Result<Round>
-    requires presenter_ready { Ready (engine_of presenter) }
-    requires receiver_ready { Ready (engine_of receiver) }
-    ensures { IfOk result (λ ends. BothReady ends) }
-{
+    kept: &mut Kept,
+) -> io::Result<Round> {
     let mut reply = [0u8; REPLY_ROOM];
     let next = answered(presenter, receiver, Session::OPENING, message, &mut reply);
-    let there = next.receiver;
     print_reply(rt, reply[CODE])?;
-    keep(rt, receiver, there, message, gathered, file)?;
+    keep(rt, receiver, next.receiver, message, kept)?;
     Ok(next)
 }
 
@@ -79,25 +60,17 @@ pub fn say(
     order: Order,
     part: &[u8],
     lost: bool,
-    gathered: &mut [u8],
-    file: &mut [u8],
-) -> io::Result<Round>
-    requires { BothReady ends }
-    ensures { IfOk result (λ after. BothReady after) }
-{
+    kept: &mut Kept,
+) -> io::Result<Round> {
     let mut message = message_room();
-    let presenter = ends.presenter;
-    let receiver = ends.receiver;
-    let turn = perform(presenter, order, part, &mut message);
-    let here = turn.centre;
+    let turn = perform(ends.presenter, order, part, &mut message);
     let sent = piece_at(&message, 0, turn.written);
     if lost {
         print_text(rt, "lost ")?;
     }
-    let first = hear(rt, here, receiver, sent, gathered, file)?;
+    let first = hear(rt, turn.centre, ends.receiver, sent, kept)?;
     if lost {
-        let there = first.receiver;
-        return hear(rt, here, there, sent, gathered, file);
+        return hear(rt, turn.centre, first.receiver, sent, kept);
     }
     Ok(first)
 }

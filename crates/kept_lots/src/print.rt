@@ -1,6 +1,6 @@
 // The lines of the evening.
 use document::DOCUMENT_BYTES;
-use lot_file::answers::{find_shown, take_number};
+use lot_file::answers::{answer_number, find_shown};
 use lot_file::find::{body, find};
 use lot_file::take_out::take_out;
 use std::io;
@@ -47,7 +47,7 @@ pub fn print_found(rt: &impl Print, file: &[u8], number: u32) -> io::Result<()> 
 }
 
 pub fn print_taken(rt: &impl Print, file: &mut [u8], number: u32) -> io::Result<()> {
-    let code = take_number(take_out(file, number));
+    let code = answer_number(take_out(file, number));
     print_lot(rt, "taken out ", number)?;
     print_code(rt, code)
 }

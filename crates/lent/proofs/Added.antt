@@ -7,6 +7,8 @@ use mathlib.Core.Bool.{Bool, true, false, cond}
 use mathlib.Core.List.{List}
 use lib.Dec.{eqb}
 use lib.ListN.{length}
+use Rattle.std.specs.Prelude.{Ok}
+use Rattle.codes.specs.Answer.{answer_number}
 use Rattle.codes.specs.Body.{operation_of}
 use Rattle.detail.specs.Groups.{documents}
 use Rattle.message.specs.declared.content.Content.{Content}
@@ -15,11 +17,10 @@ use Rattle.message.specs.Envelope.{body_of}
 use Rattle.session.specs.declared.counters.Counters.{Counters}
 use Rattle.session.specs.declared.effect.Effect.{Effect}
 use Rattle.session.specs.declared.running.Running.{Running}
-use Rattle.session.specs.declared.session.Answer.{Answer}
 use Rattle.session.specs.declared.session.Session.{Session}
 use Rattle.session.specs.Running.{gather, detail_adds}
 use Rattle.session.specs.Course.{course, advance}
-use Rattle.session.specs.Outcome.{Held, held, Outcome, answer_number, decided, silent}
+use Rattle.session.specs.Outcome.{Held, held, Outcome, decided, silent}
 use Rattle.session.specs.Reply.{is_accepted, reply_refusal, replied, take_reply}
 use Rattle.session.specs.Receiving.{received_effect, earned_code, is_next, after_message, after_new, after_repeat, receive_refusal, replying, receive}
 use Rattle.calls.specs.declared.called.Called.{Called}
@@ -40,7 +41,7 @@ by_code true more c h = refl
 by_code false more c h = refl
 
 -- the reply call, where a detail awaits its reply
-pub reply_adds : (time : ℕ) (bytes line : List ℕ) (s : Session) (h t more : Running) (r : Called) → called_said r t line ≡ take_reply time bytes (held s h line) → r.answer ≡ Answer.Done → s.presenting.pending ≡ Effect.Detail more → t ≡ cond (is_accepted bytes) (gather h more) h
+pub reply_adds : (time : ℕ) (bytes line : List ℕ) (s : Session) (h t more : Running) (r : Called) → called_said r t line ≡ take_reply time bytes (held s h line) → r.answer ≡ Ok tt → s.presenting.pending ≡ Effect.Detail more → t ≡ cond (is_accepted bytes) (gather h more) h
 unfolding take_reply
 reply_adds time bytes line s h t more r e is at =
     ap (λ (o : Outcome). o.left.running) (done (reply_refusal time bytes s) (held s h line) (silent (replied time (is_accepted bytes) (held s h line))) (called_said r t line) e (ap answer_number is))
@@ -48,7 +49,7 @@ reply_adds time bytes line s h t more r e is at =
     ∙ by_code (is_accepted bytes) more s.presenting.counters h
 
 -- receiving, where a detail is the next message
-pub receive_adds : (time : ℕ) (bytes before after : List ℕ) (s : Session) (h t : Running) (r : Received) → received_said r t after ≡ receive time bytes (held s h before) → r.answer ≡ Answer.Done → is_next bytes s.receiving.serial ≡ true → content_of (body_of bytes) ≡ Content.Detail
+pub receive_adds : (time : ℕ) (bytes before after : List ℕ) (s : Session) (h t : Running) (r : Received) → received_said r t after ≡ receive time bytes (held s h before) → r.answer ≡ Ok tt → is_next bytes s.receiving.serial ≡ true → content_of (body_of bytes) ≡ Content.Detail
     → t ≡ cond (eqb (earned_code time (body_of bytes) s.parties h s.receiving) 0) (gather h (detail_adds (operation_of (body_of bytes)) (documents (body_of bytes)))) h
 unfolding receive received_effect
 receive_adds time bytes before after s h t r e is next at =

@@ -28,6 +28,6 @@ pub fn receive_with_local(
     let received = receive(session, &mut totals, time, message, line);
     ReceiveOutcome {
         running: totals,
-        received: received,
+        received,
     }
 }

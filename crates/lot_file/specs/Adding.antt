@@ -3,7 +3,6 @@ use Rattle.std.specs.Prelude.{ℕ, ◌-◌, Bool, not, ◌&&◌, ◌||◌, cond,
 use Rattle.codes.specs.Chain.{◌when◌, ◌orelse◌}
 use Rattle.codes.specs.Field.{between}
 use Rattle.document.specs.Part.{is_whole, count_in}
-use Rattle.lot_file.specs.declared.answers.AddAnswer.{AddAnswer}
 use Rattle.lot_file.specs.Layout.{Stored, table_bytes, file_of, over}
 use Rattle.lot_file.specs.Good.{used_rows, order_number, end_of, good}
 use Rattle.lot_file.specs.Reading.{lots_in, present}
@@ -27,13 +26,6 @@ add_refusal rows most slice number tray =
     25 when not (good rows most slice && order_number number && tray_good most tray)
     orelse 4 when present rows slice number
     orelse 45 when no_room rows slice tray
-
--- the paper's number of each answer
-abbrev pub add_number : AddAnswer → ℕ
-add_number AddAnswer.Added = 0
-add_number AddAnswer.Wrong = 25
-add_number AddAnswer.Repeated = 4
-add_number AddAnswer.NoRoom = 45
 
 -- the lots with one more
 abbrev pub with_lot : (lots : List Stored) (number : ℕ) (body : List ℕ) → List Stored

@@ -1,5 +1,6 @@
--- The lot file: the layout, when a slice is good, the lots that it holds, and the slice after adding and after taking out.
+-- The lot file: the layout, what the calls answer, when a slice is good, the lots that it holds, and the slice after adding and after taking out.
 pub mod Layout
+pub mod Answers
 pub mod Good
 pub mod Reading
 pub mod Adding

@@ -5,8 +5,6 @@ use Rattle.packed.specs.Every.{member}
 use Rattle.codes.specs.Chain.{◌when◌, ◌orelse◌}
 use Rattle.codes.specs.Numbered.{numbered}
 use Rattle.lot_file.specs.declared.row.Row.{Row}
-use Rattle.lot_file.specs.declared.answers.CheckAnswer.{CheckAnswer}
-use Rattle.lot_file.specs.declared.answers.FindAnswer.{FindAnswer}
 use Rattle.lot_file.specs.declared.answers.FindShown.{FindShown}
 use Rattle.lot_file.specs.Layout.{Stored}
 use Rattle.lot_file.specs.Good.{used_rows, numbers_of, body_bytes, order_number, good}
@@ -43,16 +41,6 @@ unfoldable pub absent_refusal : (rows most : ℕ) (slice : List ℕ) (number : �
 absent_refusal rows most slice number =
     25 when not (good rows most slice && order_number number)
     orelse 46 when not (present rows slice number)
-
--- the paper's number of each answer, and where the body starts and how many documents it has, 0 beside a code
-abbrev pub check_number : CheckAnswer → ℕ
-check_number CheckAnswer.Good = 0
-check_number CheckAnswer.Wrong = 25
-
-abbrev pub find_shown : FindAnswer → FindShown
-find_shown (FindAnswer.Found start documents) = record { code = 0; start = start; documents = documents }
-find_shown FindAnswer.Wrong = record { code = 25; start = 0; documents = 0 }
-find_shown FindAnswer.Absent = record { code = 46; start = 0; documents = 0 }
 
 -- the row that an unrefused call finds
 abbrev pub found_row : (rows most : ℕ) (slice : List ℕ) (number : ℕ) → Row

@@ -1,14 +1,7 @@
 -- 02, card 7: 'A lot that its bank has collected is taken out, later rows and bodies move down, bytes past the new last body keep their values.'
 use Rattle.std.specs.Prelude.{ℕ, cond, List, [], ◌∷◌, eqb}
-use Rattle.lot_file.specs.declared.answers.TakeAnswer.{TakeAnswer}
 use Rattle.lot_file.specs.Layout.{Stored, file_of, over}
 use Rattle.lot_file.specs.Reading.{lots_in, absent_refusal}
-
--- the paper's number of each answer
-abbrev pub take_number : TakeAnswer → ℕ
-take_number TakeAnswer.TakenOut = 0
-take_number TakeAnswer.Wrong = 25
-take_number TakeAnswer.Absent = 46
 
 -- the lots but the one of a number
 unfoldable pub without : (number : ℕ) → List Stored → List Stored

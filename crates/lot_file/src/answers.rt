@@ -1,24 +1,27 @@
-// What the calls of a lot file answer, and the paper's number of each.
+// What the calls of a lot file answer, and the paper's number of each refusal.
 ghost use Rattle.std.specs.Prelude.{◌≡◌};
-ghost use Rattle.lot_file.specs.Reading.{check_number, find_shown};
-ghost use Rattle.lot_file.specs.Adding.{add_number};
-ghost use Rattle.lot_file.specs.TakingOut.{take_number};
+ghost use Rattle.lot_file.specs.Answers.{refusal_number, answer_number, find_shown};
 
+// Why a call is refused; each variant is the paper's number.
 #[derive(Clone, Copy)]
-pub enum CheckAnswer {
-    Good,
-    Wrong,
+pub enum LotRefusal {
+    Repeated = 4,
+    Wrong = 25,
+    NoRoom = 45,
+    Absent = 46,
 }
 
-// Where the body starts, and how many documents it has.
+// What checking, adding and taking out answer.
+pub type Answer = Result<(), LotRefusal>;
+
+// Where the body of a lot starts, and how many documents it has.
 #[derive(Clone, Copy)]
-pub enum FindAnswer {
-    Found(u64, u64),
-    Wrong,
-    Absent,
+pub struct Found {
+    pub start: u64,
+    pub documents: u64,
 }
 
-// The same as C has it: the paper's number, and zeros beside a code.
+// The same as C has it: the paper's number, and zeros beside a refusal.
 #[repr(C)]
 #[derive(Clone, Copy)]
 pub struct FindShown {
@@ -27,69 +30,35 @@ pub struct FindShown {
     pub documents: u64,
 }
 
-#[derive(Clone, Copy)]
-pub enum AddAnswer {
-    Added,
-    Wrong,
-    Repeated,
-    NoRoom,
+fn refusal_number(r: LotRefusal) -> u8
+    ensures { result ≡ refusal_number r }
+{
+    r as u8
 }
 
-#[derive(Clone, Copy)]
-pub enum TakeAnswer {
-    TakenOut,
-    Wrong,
-    Absent,
-}
-
-pub fn check_number(a: CheckAnswer) -> u8
-    ensures { result ≡ check_number a }
+// The paper's number, 0 where nothing is refused.
+pub fn answer_number(a: Answer) -> u8
+    ensures { result ≡ answer_number a }
 {
     match a {
-        CheckAnswer::Good => 0,
-        CheckAnswer::Wrong => 25,
+        Ok(()) => 0,
+        Err(r) => refusal_number(r),
     }
 }
 
-pub fn find_shown(a: FindAnswer) -> FindShown
-    ensures { result ≡ find_shown a }
+pub fn find_shown(found: Result<Found, LotRefusal>) -> FindShown
+    ensures { result ≡ find_shown found }
 {
-    match a {
-        FindAnswer::Found(start, documents) => FindShown {
+    match found {
+        Ok(Found { start, documents }) => FindShown {
             code: 0,
-            start: start,
-            documents: documents,
+            start,
+            documents,
         },
-        FindAnswer::Wrong => FindShown {
-            code: 25,
+        Err(r) => FindShown {
+            code: refusal_number(r),
             start: 0,
             documents: 0,
         },
-        FindAnswer::Absent => FindShown {
-            code: 46,
-            start: 0,
-            documents: 0,
-        },
-    }
-}
-
-pub fn add_number(a: AddAnswer) -> u8
-    ensures { result ≡ add_number a }
-{
-    match a {
-        AddAnswer::Added => 0,
-        AddAnswer::Wrong => 25,
-        AddAnswer::Repeated => 4,
-        AddAnswer::NoRoom => 45,
-    }
-}
-
-pub fn take_number(a: TakeAnswer) -> u8
-    ensures { result ≡ take_number a }
-{
-    match a {
-        TakeAnswer::TakenOut => 0,
-        TakeAnswer::Wrong => 25,
-        TakeAnswer::Absent => 46,
     }
 }

@@ -5,7 +5,7 @@
 
 pub mod add;
 pub mod answers;
-mod binary;
+mod asked;
 pub mod check;
 mod contents;
 pub mod find;

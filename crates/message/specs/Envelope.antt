@@ -1,5 +1,5 @@
 -- 01, 'Envelope': the 12 bytes before every body.
-use Rattle.std.specs.Prelude.{ℕ, ◌+◌, Bool, not, ◌&&◌, List, [], ◌∷◌, ◌++◌, eqb, length, drop}
+use Rattle.std.specs.Prelude.{Result, Ok, Err, ℕ, ◌+◌, Bool, not, ◌&&◌, List, [], ◌∷◌, ◌++◌, eqb, length, drop}
 use Rattle.packed.specs.Part.{byte_at}
 use Rattle.codes.specs.Chain.{◌when◌}
 use Rattle.codes.specs.Field.{Field, row, any, between, field_number, table_good, table_numbers, table_written}
@@ -7,7 +7,6 @@ use Rattle.codes.specs.Refusal.{refusal_number}
 use Rattle.codes.specs.declared.refusal.Refusal.{Refusal}
 use Rattle.message.specs.declared.envelope.Kind.{Kind}
 use Rattle.message.specs.declared.envelope.Envelope.{Envelope}
-use Rattle.message.specs.declared.envelope.ReadEnvelope.{ReadEnvelope}
 use Rattle.message.specs.Limits.{first_position, envelope_bytes, largest_serial, message_room, reply_room}
 use Rattle.message.specs.Route.{route_values}
 use Rattle.message.specs.Reading.{Reading, reading}
@@ -66,9 +65,9 @@ abbrev pub serial_of : List ℕ → ℕ
 serial_of bytes = (envelope_of bytes).serial
 
 -- what the answer of a reading says
-abbrev pub envelope_said : ReadEnvelope → Reading
-envelope_said (ReadEnvelope.Read e) = reading 0 (envelope_values e)
-envelope_said ReadEnvelope.Wrong = reading (refusal_number Refusal.WrongEnvelope) []
+abbrev pub envelope_said : Result Envelope Refusal → Reading
+envelope_said (Ok e) = reading 0 (envelope_values e)
+envelope_said (Err r) = reading (refusal_number r) []
 
 -- as it is written: the kind, then the fields
 abbrev pub written_envelope : Kind → Envelope → List ℕ

@@ -1,11 +1,10 @@
 -- 01, 'Header': what opens a lot.
-use Rattle.std.specs.Prelude.{ℕ, ◌/◌, ◌%◌, Bool, ◌&&◌, List, [], ◌∷◌, ◌++◌, leb, ltb}
+use Rattle.std.specs.Prelude.{Result, Ok, Err, ℕ, ◌/◌, ◌%◌, Bool, ◌&&◌, List, [], ◌∷◌, ◌++◌, leb, ltb}
 use Rattle.codes.specs.Field.{Field, field, any, between, exactly, field_number}
 use Rattle.codes.specs.Code.{code_number}
 use Rattle.codes.specs.declared.code.Code.{Code}
 use Rattle.message.specs.declared.route.Route.{Route}
 use Rattle.message.specs.declared.header.Header.{Header}
-use Rattle.message.specs.declared.header.ReadHeader.{ReadHeader}
 use Rattle.message.specs.Limits.{first_position, header_bytes, largest_order_number, largest_centre}
 use Rattle.message.specs.Reading.{Reading, reading}
 use Rattle.message.specs.Route.{route_values}
@@ -55,9 +54,9 @@ abbrev pub header_of : List ℕ → Header
 header_of body = record { time = field_number first_position body time_field; centre = field_number first_position body centre_field; number = field_number first_position body order_field }
 
 -- what the answer of a reading says
-abbrev pub header_said : Route → ReadHeader → Reading
-header_said route (ReadHeader.Read h) = reading 0 (header_values route h)
-header_said route ReadHeader.Wrong = reading (code_number Code.WrongField) []
+abbrev pub header_said : Route → Result Header Code → Reading
+header_said route (Ok h) = reading 0 (header_values route h)
+header_said route (Err c) = reading (code_number c) []
 
 -- what a presenter may put into a header; the rest is the session's
 unfoldable pub header_sendable : (time centre number : ℕ) → Bool

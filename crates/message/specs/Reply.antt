@@ -1,5 +1,5 @@
 -- 01, 'Reply body': what answers a message.
-use Rattle.std.specs.Prelude.{ℕ, Bool, not, ◌&&◌, ◌||◌, List, [], ◌∷◌, eqb, length}
+use Rattle.std.specs.Prelude.{Result, Ok, Err, ℕ, Bool, not, ◌&&◌, ◌||◌, List, [], ◌∷◌, eqb, length}
 use Rattle.packed.specs.Part.{byte_at}
 use Rattle.packed.specs.Number.{byte_value}
 use Rattle.packed.specs.Writing.{packed_byte}
@@ -11,7 +11,6 @@ use Rattle.codes.specs.declared.refusal.Refusal.{Refusal}
 use Rattle.message.specs.declared.content.Content.{Content}
 use Rattle.message.specs.declared.reply.ReplyOperation.{ReplyOperation}
 use Rattle.message.specs.declared.reply.Reply.{Reply}
-use Rattle.message.specs.declared.reply.ReadReply.{ReadReply}
 use Rattle.message.specs.Limits.{reply_bytes}
 use Rattle.message.specs.Reading.{Reading, reading}
 
@@ -47,9 +46,9 @@ abbrev pub read_reply : List ℕ → Reading
 read_reply body = reading (22 when not (reply_good body)) (byte_value (operation_of body) ∷ byte_value (byte_at 4 body) ∷ [])
 
 -- what the answer of a reading says
-abbrev pub reply_said : ReadReply → Reading
-reply_said (ReadReply.Read r) = reading 0 (operation_number r.operation ∷ code_number r.code ∷ [])
-reply_said ReadReply.Unknown = reading (refusal_number Refusal.UnknownReply) []
+abbrev pub reply_said : Result Reply Refusal → Reading
+reply_said (Ok r) = reading 0 (operation_number r.operation ∷ code_number r.code ∷ [])
+reply_said (Err r) = reading (refusal_number r) []
 
 -- a body that answers: free byte, mark, operation, code
 abbrev pub written_reply_body : Reply → List ℕ

@@ -1,13 +1,11 @@
 -- 01, 'Layouts', its last sentence, of whole messages and whole replies: writing then reading gives the fields back; reading an accepted body then
 -- writing gives its bytes, free bytes becoming 00. All four are proved in proofs/Laws/Line.
-use Rattle.std.specs.Prelude.{◌≡◌, true, List, ◌++◌, ℕ, take}
+use Rattle.std.specs.Prelude.{Ok, ◌≡◌, true, List, ◌++◌, ℕ, take}
 use Rattle.codes.specs.Body.{cleared}
 use Rattle.codes.specs.Field.{table_takes}
 use Rattle.message.specs.declared.envelope.Envelope.{Envelope}
 use Rattle.message.specs.declared.envelope.Kind.{Kind}
-use Rattle.message.specs.declared.envelope.ReadEnvelope.{ReadEnvelope}
 use Rattle.message.specs.declared.reply.Reply.{Reply}
-use Rattle.message.specs.declared.reply.ReadReply.{ReadReply}
 use Rattle.message.specs.Limits.{envelope_bytes}
 use Rattle.message.specs.Reading.{reading}
 use Rattle.message.specs.Layout.{read_body}
@@ -25,7 +23,7 @@ BodyFits e x = table_takes (layout_of e.route x).fields (values_of e.route x) �
 
 -- some bytes are read as this envelope
 abbrev pub EnvelopeRead : Kind → Envelope → (bytes : List ℕ) → Type 0
-EnvelopeRead kind e bytes = read_envelope kind bytes ≡ envelope_said (ReadEnvelope.Read e)
+EnvelopeRead kind e bytes = read_envelope kind bytes ≡ envelope_said (Ok e)
 
 -- a body is read as this one
 abbrev pub BodyRead : Envelope → Body → (body : List ℕ) → Type 0
@@ -49,8 +47,8 @@ MessageReadThenWritten = (e : Envelope) (x : Body) (bytes : List ℕ) → Messag
 
 -- a reply that is written and read
 abbrev pub ReplyWrittenThenRead : Type 0
-ReplyWrittenThenRead = (e : Envelope) (r : Reply) → EnvelopeFits e → EnvelopeRead Kind.Reply e (whole_reply e r) × (read_reply (body_of (whole_reply e r)) ≡ reply_said (ReadReply.Read r))
+ReplyWrittenThenRead = (e : Envelope) (r : Reply) → EnvelopeFits e → EnvelopeRead Kind.Reply e (whole_reply e r) × (read_reply (body_of (whole_reply e r)) ≡ reply_said (Ok r))
 
 -- a reply that is read and written
 abbrev pub ReplyReadThenWritten : Type 0
-ReplyReadThenWritten = (e : Envelope) (r : Reply) (bytes : List ℕ) → EnvelopeRead Kind.Reply e bytes → read_reply (body_of bytes) ≡ reply_said (ReadReply.Read r) → whole_reply e r ≡ cleared_body bytes
+ReplyReadThenWritten = (e : Envelope) (r : Reply) (bytes : List ℕ) → EnvelopeRead Kind.Reply e bytes → read_reply (body_of bytes) ≡ reply_said (Ok r) → whole_reply e r ≡ cleared_body bytes

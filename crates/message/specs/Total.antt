@@ -1,10 +1,10 @@
 -- 01, 'Lot total' and 'Session total': what ends a lot, and what ends a direction.
-use Rattle.std.specs.Prelude.{ℕ, List, [], ◌∷◌, get_or}
+use Rattle.std.specs.Prelude.{Result, Ok, Err, ℕ, List, [], ◌∷◌, get_or}
 use Rattle.amounts.specs.Totals.{totals}
 use Rattle.codes.specs.Field.{Field, field, amount, any, table_numbers}
 use Rattle.codes.specs.Code.{code_number}
+use Rattle.codes.specs.declared.code.Code.{Code}
 use Rattle.message.specs.declared.total.Total.{Total}
-use Rattle.message.specs.declared.total.ReadTotal.{ReadTotal}
 use Rattle.message.specs.Limits.{first_position, lot_total_bytes, session_total_bytes}
 use Rattle.message.specs.Reading.{Reading, reading}
 use Rattle.message.specs.Layout.{Layout}
@@ -44,6 +44,6 @@ abbrev pub total_of : List Field → List ℕ → Total
 total_of fields body = let v = get_or (table_numbers first_position fields body) in record { number = v 0 0; stated = totals (v 1 0) (v 2 0) (v 3 0) }
 
 -- what the answer of a reading says
-abbrev pub total_said : ReadTotal → Reading
-total_said (ReadTotal.Read t) = reading 0 (total_values t)
-total_said (ReadTotal.Wrong c) = reading (code_number c) []
+abbrev pub total_said : Result Total Code → Reading
+total_said (Ok t) = reading 0 (total_values t)
+total_said (Err c) = reading (code_number c) []

@@ -22,22 +22,17 @@ pub enum Content {
     Unknown,
 }
 
+#[tactic(auto, unfolding(crate::specs::Content::by_operation))]
 fn by_operation(operation: u8) -> Content
     ensures { result ≡ by_operation operation }
 {
-    if operation == HEADER {
-        return Content::Header;
+    match operation {
+        HEADER => Content::Header,
+        PRESENTED | RETURNED => Content::Detail,
+        LOT_TOTAL => Content::LotTotal,
+        SESSION_TOTAL => Content::SessionTotal,
+        _ => Content::Unknown,
     }
-    if (operation == PRESENTED) | (operation == RETURNED) {
-        return Content::Detail;
-    }
-    if operation == LOT_TOTAL {
-        return Content::LotTotal;
-    }
-    if operation == SESSION_TOTAL {
-        return Content::SessionTotal;
-    }
-    Content::Unknown
 }
 
 // A body under three bytes has no operation and is unknown.

@@ -7,6 +7,7 @@ ghost use Rattle.message.specs.Envelope.{kind_byte, length_good, envelope_of, re
 use crate::reply::REPLY_BYTES;
 use crate::route::{Route, read_route, write_route};
 use codes::body::LONGEST_BODY;
+use codes::refusal::Refusal;
 use packed::digits::are_digits;
 use packed::number::number4;
 use packed::writing::put;
@@ -28,11 +29,11 @@ const SERIAL: usize = 8;
 // All bytes but the kind.
 const DIGITS: usize = ENVELOPE_BYTES - ROUTE;
 
-// What follows an envelope.
+// What follows an envelope, by its first byte.
 #[derive(Clone, Copy)]
 pub enum Kind {
-    Message,
-    Reply,
+    Message = 0x01,
+    Reply = 0x02,
 }
 
 #[derive(Clone, Copy)]
@@ -41,20 +42,10 @@ pub struct Envelope {
     pub serial: u32,
 }
 
-// An envelope, or 21.
-#[derive(Clone, Copy)]
-pub enum ReadEnvelope {
-    Read(Envelope),
-    Wrong,
-}
-
 fn kind_byte(kind: Kind) -> u8
     ensures { result ≡ kind_byte kind }
 {
-    match kind {
-        Kind::Message => 0x01,
-        Kind::Reply => 0x02,
-    }
+    kind as u8
 }
 
 // Whether envelope and body have a length that the kind allows.
@@ -62,7 +53,7 @@ fn length_good(kind: Kind, n: usize) -> bool
     ensures { result ≡ length_good kind n }
 {
     match kind {
-        Kind::Message => (ENVELOPE_BYTES + 1 <= n) & (n <= MESSAGE_ROOM),
+        Kind::Message => (ENVELOPE_BYTES + 1..=MESSAGE_ROOM).contains(&n),
         Kind::Reply => n == REPLY_ROOM,
     }
 }
@@ -78,20 +69,22 @@ fn fields_of(bytes: &[u8]) -> Envelope
     }
 }
 
-// The envelope of bytes that should be a message, or that should be a reply.
-pub fn read_envelope(bytes: &[u8], kind: Kind) -> ReadEnvelope
+// The envelope of bytes that should be a message, or that should be a reply; otherwise 21.
+pub fn read_envelope(bytes: &[u8], kind: Kind) -> Result<Envelope, Refusal>
     ensures { envelope_said result ≡ read_envelope kind bytes.now }
 {
-    if length_good(kind, bytes.len()) {
-        let e = fields_of(bytes);
-        if (bytes[0] == kind_byte(kind))
-            & are_digits(bytes, ROUTE, DIGITS)
-            & ((1 <= e.serial) & (e.serial <= LARGEST_SERIAL))
-        {
-            return ReadEnvelope::Read(e);
-        }
+    if !length_good(kind, bytes.len()) {
+        return Err(Refusal::WrongEnvelope);
     }
-    ReadEnvelope::Wrong
+    let e = fields_of(bytes);
+    if (bytes[0] == kind_byte(kind))
+        & are_digits(bytes, ROUTE, DIGITS)
+        & (1..=LARGEST_SERIAL).contains(&e.serial)
+    {
+        Ok(e)
+    } else {
+        Err(Refusal::WrongEnvelope)
+    }
 }
 
 // Writes an envelope at the start of the line buffer; every other byte keeps its value.
@@ -99,8 +92,7 @@ pub fn write_envelope(line: &mut [u8], kind: Kind, e: Envelope)
     requires { envelope_bytes ≤ length line.old }
     ensures { line.new ≡ sets line.old 0 (written_envelope kind e) }
 {
-    let route = e.route;
     line[0] = kind_byte(kind);
-    write_route(line, ROUTE, route);
+    write_route(line, ROUTE, e.route);
     put(line, SERIAL, 4, e.serial as u64);
 }

@@ -10,7 +10,8 @@ ghost use Rattle.message.specs.Header.{time_of_day, order_number, header_fields,
 
 use crate::content::HEADER;
 use crate::layout::{FIELDS, fixed_shape, write_head};
-use crate::route::{Route, read_route, same_route, write_route};
+use crate::route::{Route, read_route, write_route};
+use codes::code::Code;
 use packed::digits::are_digits;
 use packed::number::{number, number2, number4};
 use packed::writing::put;
@@ -43,13 +44,6 @@ pub struct Header {
     pub number: u16,
 }
 
-// A header, or 01.
-#[derive(Clone, Copy)]
-pub enum ReadHeader {
-    Read(Header),
-    Wrong,
-}
-
 fn time_of_day(v: u32) -> bool
     ensures { result ≡ time_of_day v }
 {
@@ -59,10 +53,11 @@ fn time_of_day(v: u32) -> bool
 fn order_number(v: u16) -> bool
     ensures { result ≡ order_number v }
 {
-    (1 <= v) & (v <= LARGEST_ORDER_NUMBER)
+    (1..=LARGEST_ORDER_NUMBER).contains(&v)
 }
 
 // Whether a presenter may write a header of these.
+#[tactic(auto, unfolding(crate::specs::Header::header_sendable))]
 pub fn header_sendable(time: u32, centre: u16, number: u16) -> bool
     ensures { result ≡ header_sendable time centre number }
 {
@@ -89,22 +84,24 @@ fn fields_good(body: &[u8], h: Header, route: Route) -> bool
 {
     are_digits(body, FIELDS, DIGITS)
         & time_of_day(h.time)
-        & same_route(read_route(body, ROUTE), route)
+        & (read_route(body, ROUTE) == route)
         & order_number(h.number)
         & (number(body, ZERO, 1) == 0)
 }
 
-// A received body, in a direction of this route.
-pub fn read_header(body: &[u8], route: Route) -> ReadHeader
+// A received body, in a direction of this route; otherwise 01.
+pub fn read_header(body: &[u8], route: Route) -> Result<Header, Code>
     ensures { header_said route result ≡ read_body (header route) body.now }
 {
-    if fixed_shape(body, HEADER_BYTES, HEADER) {
-        let h = fields_of(body);
-        if fields_good(body, h, route) {
-            return ReadHeader::Read(h);
-        }
+    if !fixed_shape(body, HEADER_BYTES, HEADER) {
+        return Err(Code::WrongField);
     }
-    ReadHeader::Wrong
+    let h = fields_of(body);
+    if fields_good(body, h, route) {
+        Ok(h)
+    } else {
+        Err(Code::WrongField)
+    }
 }
 
 // Writes a header's body at the start of `out`; every other byte keeps its value.

@@ -5,19 +5,18 @@ ghost use Rattle.codes.specs.Body.{free, mark};
 ghost use Rattle.message.specs.Layout.{fixed_shape};
 
 use codes::body::MARK;
+use packed::writing::copy;
 
 // Where the fields begin.
 pub const FIELDS: usize = 3;
 
 // Whether a body has the length, the mark and the operation.
+#[tactic(auto, unfolding(crate::specs::Layout::fixed_shape))]
 pub fn fixed_shape(body: &[u8], bytes: usize, operation: u8) -> bool
     requires { 3 ≤ bytes }
     ensures { result ≡ fixed_shape bytes operation body.now }
 {
-    if body.len() == bytes {
-        return (body[1] == MARK) & (body[2] == operation);
-    }
-    false
+    body.len() == bytes && body[1] == MARK && body[2] == operation
 }
 
 // Writes what stands before the fields; every other byte keeps its value.
@@ -25,7 +24,5 @@ pub fn write_head(out: &mut [u8], operation: u8)
     requires { 3 ≤ length out.old }
     ensures { out.new ≡ sets out.old 0 (free ∷ mark ∷ operation ∷ []) }
 {
-    out[0] = 0;
-    out[1] = MARK;
-    out[2] = operation;
+    copy(out, 0, &[0, MARK, operation]);
 }

@@ -11,3 +11,4 @@ pub mod line;
 pub mod reply;
 pub mod route;
 pub mod total;
+mod widths;

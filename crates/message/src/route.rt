@@ -9,7 +9,7 @@ use packed::number::{number, number2};
 use packed::writing::put;
 
 // The date is the number DDMMYY.
-#[derive(Clone, Copy)]
+#[derive(Clone, Copy, PartialEq, Eq)]
 pub struct Route {
     pub date: u32,
     pub presenting: u16,
@@ -20,7 +20,7 @@ pub struct Route {
 pub fn same_route(r: Route, s: Route) -> bool
     ensures { result ≡ same_route r s }
 {
-    (r.date == s.date) & (r.presenting == s.presenting) & (r.receiving == s.receiving)
+    r == s
 }
 
 // The seven bytes from `at` on, whatever their digits.

@@ -18,13 +18,13 @@ use std::io;
 // More than the longest text.
 const ROOM: usize = 65_536;
 
-// The table, made by the generator.
+// The table, made by the generator, which takes this list: that is proved.
 fn made() -> [u16; PLACES]
     ensures { result ≡ table_of unworked2028 }
 {
     let unworked = unworked_days();
-    let mut days = [0u16; PLACES];
-    next_days(&unworked, &mut days);
+    let mut days = [0; PLACES];
+    next_days(&unworked, &mut days).unwrap();
     days
 }
 
@@ -34,12 +34,11 @@ fn answer(text: &mut [u8]) -> usize
     ensures counts { IsPrefixLen result text.new }
     ensures written { take result text.new ≡ program_text }
 {
-    let table = made();
-    write_table(&table, text)
+    write_table(&made(), text)
 }
 
 fn main(rt: HostRuntime) -> io::Result<()> {
-    let mut text = [0u8; ROOM];
+    let mut text = [0; ROOM];
     let written = answer(&mut text);
     rt.write_all(&text[..written])
 }

@@ -11,14 +11,11 @@ pub fn write_table(table: &[u16], text: &mut [u8]) -> usize
     ensures counts { IsPrefixLen result text.new }
     ensures written { take result text.new ≡ table_text table.now }
 {
-    let mut at: usize = 0;
-    let mut i: usize = 0;
-    while i < table.len() {
-        let entry = table[i];
-        let end = put_decimal(text, at, entry as u64);
+    let mut at = 0;
+    for entry in table {
+        let end = put_decimal(text, at, u64::from(*entry));
         text[end] = b'\n';
         at = end + 1;
-        i += 1;
     }
     at
 }

@@ -1,9 +1,7 @@
 -- 01, 'Trays': ready documents, presentations and returns, each with a cursor that counts those sent; and 25.
 use Rattle.std.specs.Prelude.{ℕ, ◌*◌, Bool, not, ◌&&◌, cond, List, [], leb, ltb, take, drop}
 use Rattle.codes.specs.Chain.{◌when◌}
-use Rattle.codes.specs.Refusal.{refusal_number}
 use Rattle.document.specs.Limits.{document_bytes, most_detail_documents}
-use Rattle.outgoing.specs.declared.TrayAnswer.{TrayAnswer}
 use Rattle.document.specs.Part.{is_whole, count_in}
 
 -- 25 otherwise: whole documents, and a cursor that is not past their end
@@ -32,8 +30,3 @@ next presentations returns presentations_sent returns_sent =
 -- 'a tray check beside it gives the number, 00 if none'
 abbrev pub check_code : (presentations returns : List ℕ) (presentations_sent returns_sent : ℕ) → ℕ
 check_code presentations returns presentations_sent returns_sent = 25 when not (both_good presentations returns presentations_sent returns_sent)
-
--- the paper's number of each answer
-abbrev pub check_number : TrayAnswer → ℕ
-check_number TrayAnswer.Ready = 0
-check_number (TrayAnswer.Refused r) = refusal_number r

@@ -3,10 +3,8 @@
 // its place there, so that a line tells which documents were handed out.
 #![tactic(auto)]
 
-ghost use Rattle.std.specs.Prelude.{◌≡◌, ◌<◌};
-
-use codes::refusal::refusal_number;
-use outgoing::{TrayAnswer, check, next};
+use codes::answer::answer_number;
+use outgoing::{Cursors, Trays};
 use packed::pieces::piece_at;
 use std::io;
 
@@ -16,76 +14,50 @@ const LONGEST: usize = 20400;
 
 // Marks the first three bytes of each document.
 fn mark(tray: &mut [u8], letter: u8) {
-    let mut i: usize = 0;
-    while i < tray.len() / DOCUMENT {
-        tray[i * DOCUMENT] = letter;
-        tray[i * DOCUMENT + 1] = (i / 256 % 256) as u8;
-        tray[i * DOCUMENT + 2] = (i % 256) as u8;
-        i += 1;
+    for (i, document) in tray.chunks_exact_mut(DOCUMENT).enumerate() {
+        document[0] = letter;
+        document[1] = (i / 256 % 256) as u8;
+        document[2] = (i % 256) as u8;
     }
-}
-
-fn wide(b: u8) -> u64
-    ensures value { result ≡ b }
-    ensures bound { result < 256 }
-{
-    b as u64
 }
 
 // Which documents were handed out.
 fn print_part(rt: &impl Print, part: &[u8]) -> io::Result<()> {
-    if part.len() < DOCUMENT {
-        return println!(rt; "empty");
-    }
-    if part[0] == b'P' {
-        print!(rt; "presentations ")?;
-    } else {
-        print!(rt; "returns ")?;
-    }
-    let from = wide(part[1]) * 256 + wide(part[2]);
-    let to = from + (part.len() / DOCUMENT) as u64;
-    println!(rt; "{from}..{to}")
-}
-
-fn print_number(rt: &impl Print, n: u64) -> io::Result<()> {
-    print!(rt; "{n} ")
-}
-
-fn print_answer(rt: &impl Print, a: TrayAnswer) -> io::Result<()> {
-    match a {
-        TrayAnswer::Ready => print!(rt; "00 "),
-        TrayAnswer::Refused(r) => print_number(rt, refusal_number(r) as u64),
+    match part {
+        [b'P', high, low, ..] => print_range(rt, "presentations", [*high, *low], part.len()),
+        [b'R', high, low, ..] => print_range(rt, "returns", [*high, *low], part.len()),
+        _ => println!(rt; "empty"),
     }
 }
 
-// What trays of these lengths answer.
-fn print_case<'a>(
-    rt: &impl Print,
-    presentations: &'a [u8],
-    returns: &'a [u8],
-    p: usize,
-    r: usize,
-    presented: usize,
-    returned: usize,
-) -> io::Result<()> {
-    let presentations = piece_at(presentations, 0, p);
-    let returns = piece_at(returns, 0, r);
-    print_answer(rt, check(presentations, returns, presented, returned))?;
-    print_part(rt, next(presentations, returns, presented, returned))
+// From the place that stands in the first of them.
+fn print_range(rt: &impl Print, tray: &str, place: [u8; 2], bytes: usize) -> io::Result<()> {
+    let from = u16::from_be_bytes(place) as usize;
+    println!(rt; "{tray} {from}..{}", from + bytes / DOCUMENT)
+}
+
+// What the two trays answer behind these cursors.
+fn print_case(rt: &impl Print, trays: Trays, sent: Cursors) -> io::Result<()> {
+    print!(rt; "{:02} ", answer_number(trays.check(sent)))?;
+    print_part(rt, trays.next(sent))
 }
 
 // One case: trays of these lengths, at most the longest, and these cursors.
 fn run(rt: &impl Print, p: usize, r: usize, presented: usize, returned: usize) -> io::Result<()> {
-    print_number(rt, p as u64)?;
-    print_number(rt, r as u64)?;
-    print_number(rt, presented as u64)?;
-    print_number(rt, returned as u64)?;
-    print!(rt; "=> ")?;
+    print!(rt; "{p} {r} {presented} {returned} => ")?;
     let mut presentations = [0u8; LONGEST];
     let mut returns = [0u8; LONGEST];
     mark(&mut presentations, b'P');
     mark(&mut returns, b'R');
-    print_case(rt, &presentations, &returns, p, r, presented, returned)
+    let trays = Trays {
+        presentations: piece_at(&presentations, 0, p),
+        returns: piece_at(&returns, 0, r),
+    };
+    let sent = Cursors {
+        presentations: presented,
+        returns: returned,
+    };
+    print_case(rt, trays, sent)
 }
 
 fn main(rt: HostRuntime) -> io::Result<()> {

@@ -4,6 +4,7 @@ ghost use Rattle.packed.specs.Part.{part};
 ghost use Rattle.packed.specs.Digits.{is_digits, are_digits};
 
 // Whether both halves of a byte are decimal digits.
+#[tactic(auto, unfolding(crate::specs::Digits::is_digits))]
 pub fn is_digits(b: u8) -> bool
     ensures { result ≡ is_digits b }
 {
@@ -16,12 +17,9 @@ pub fn are_digits(s: &[u8], at: usize, n: usize) -> bool
     requires { at + n ≤ length s.now }
     ensures { result ≡ are_digits (part at n s.now) }
 {
-    let end = at + n;
     let mut ok = true;
-    let mut i = at;
-    while i < end {
-        ok = ok & is_digits(s[i]);
-        i += 1;
+    for b in &s[at..at + n] {
+        ok &= is_digits(*b);
     }
     ok
 }

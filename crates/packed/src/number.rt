@@ -4,6 +4,7 @@ ghost use Rattle.packed.specs.Part.{part};
 ghost use Rattle.packed.specs.Number.{byte_value, number};
 
 // The value of one byte.
+#[tactic(auto, unfolding(crate::specs::Number::byte_value))]
 pub fn byte_value(b: u8) -> u32
     ensures value { result ≡ byte_value b }
     ensures bound { result ≤ 165 }
@@ -20,24 +21,22 @@ pub fn number(s: &[u8], at: usize, n: usize) -> u64
     ensures value { result ≡ number (part at n s.now) }
     ensures bound { result < 2 * 100 ^ n }
 {
-    let end = at + n;
     let mut value: u64 = 0;
-    let mut i = at;
-    while i < end {
-        value = value * 100 + byte_value(s[i]) as u64;
-        i += 1;
+    for b in &s[at..at + n] {
+        value = value * 100 + byte_value(*b) as u64;
     }
     value
 }
 
 // The value of two bytes, as an entity or an order number: 16,665 at most, and nothing on the way needs more than 16 bits.
 // Both bytes are taken as one number, in which the digits weigh 4,096, 256, 16 and 1; less 6 for each 16, 60 for each 256
-// and 600 for each 4,096 they weigh 1,000, 100, 10 and 1.
+// and 600 for each 4,096 they weigh 1,000, 100, 10 and 1. No generic function reads two, four and more bytes in one way: tried
+// in three ways, and slower by a hundredth to a third.
 pub fn number2(s: &[u8], at: usize) -> u16
     requires { at + 2 ≤ length s.now }
     ensures { result ≡ number (part at 2 s.now) }
 {
-    let both = s[at] as u16 * 256 + s[at + 1] as u16;
+    let both = u16::from_be_bytes([s[at], s[at + 1]]);
     both - both / 16 * 6 - both / 256 * 60 - both / 4096 * 600
 }
 

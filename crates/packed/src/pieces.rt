@@ -3,15 +3,9 @@ ghost use Rattle.std.specs.Prelude.{◌≡◌};
 ghost use Rattle.packed.specs.Part.{part};
 
 // The piece of width `k` that begins at `at`; past the end it is empty.
-pub fn piece_at<'a>(s: &'a [u8], at: usize, k: usize) -> &'a [u8]
+pub fn piece_at(s: &[u8], at: usize, k: usize) -> &[u8]
     ensures { result.now ≡ part at k s.now }
 {
-    if s.len() <= at {
-        return &s[..0];
-    }
-    if s.len() - at < k {
-        return &s[at..];
-    }
-    let end = at + k;
-    &s[at..end]
+    let rest = &s[at.min(s.len())..];
+    &rest[..k.min(rest.len())]
 }

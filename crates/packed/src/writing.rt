@@ -4,6 +4,7 @@ ghost use Rattle.std.proofs.lemmas.List.Edits.{sets};
 ghost use Rattle.packed.specs.Writing.{packed_byte, packed_bytes};
 
 // The last two digits of a value as a byte.
+#[tactic(auto, unfolding(crate::specs::Writing::packed_byte))]
 pub fn packed_byte(value: u64) -> u8
     ensures { result ≡ packed_byte value }
 {
@@ -17,11 +18,9 @@ pub fn put(d: &mut [u8], at: usize, n: usize, value: u64)
     ensures { d.new ≡ sets d.old at (packed_bytes n value) }
 {
     let mut rest = value;
-    let mut i = at + n;
-    while at < i {
-        i -= 1;
+    for i in (at..at + n).rev() {
         d[i] = packed_byte(rest);
-        rest = rest / 100;
+        rest /= 100;
     }
 }
 
@@ -30,9 +29,5 @@ pub fn copy(d: &mut [u8], at: usize, s: &[u8])
     requires { at + length s.now ≤ length d.old }
     ensures { d.new ≡ sets d.old at s.now }
 {
-    let mut i: usize = 0;
-    while i < s.len() {
-        d[at + i] = s[i];
-        i += 1;
-    }
+    d[at..at + s.len()].copy_from_slice(s);
 }

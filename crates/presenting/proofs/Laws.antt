@@ -1,3 +1,2 @@
 -- One file a notion.
-pub mod Arrival
 pub mod Send

@@ -10,13 +10,7 @@ use session::effect::Effect;
 pub fn is_pending(effect: Effect) -> bool
     ensures { result ≡ is_pending effect }
 {
-    match effect {
-        Effect::Nothing => false,
-        Effect::Header(_) => true,
-        Effect::Detail(_) => true,
-        Effect::LotTotal(_) => true,
-        Effect::SessionTotal => true,
-    }
+    !matches!(effect, Effect::Nothing)
 }
 
 // The operation of the reply that is awaited; where none is, it is not asked.
@@ -26,8 +20,6 @@ pub fn awaited_operation(effect: Effect) -> ReplyOperation
     match effect {
         Effect::LotTotal(_) => ReplyOperation::LotTotal,
         Effect::SessionTotal => ReplyOperation::SessionTotal,
-        Effect::Nothing => ReplyOperation::Other,
-        Effect::Header(_) => ReplyOperation::Other,
-        Effect::Detail(_) => ReplyOperation::Other,
+        Effect::Nothing | Effect::Header(_) | Effect::Detail(_) => ReplyOperation::Other,
     }
 }

@@ -9,7 +9,7 @@ ghost use Rattle.codes.specs.Code.{code_number};
 ghost use Rattle.session.specs.Sending.{next_envelope, sent};
 ghost use Rattle.presenting.specs.Inner.Begun.{Begun};
 
-use crate::answer::{SendOutcome, outcome, send_answer, send_number};
+use crate::answer::{SendOutcome, send_answer, send_number};
 use codes::code::Code;
 use message::envelope::{Envelope, Kind, write_envelope};
 use message::route::Route;
@@ -33,22 +33,14 @@ fn sent(session: Session, time: u32, effect: Effect) -> Session
     requires { session.presenting.serial < largest_serial }
     ensures { result ≡ sent time effect session }
 {
-    let parties = session.parties;
-    let presenting = session.presenting;
-    let counters = presenting.counters;
-    let receiving = session.receiving;
-    let close = session.close;
     Session {
-        parties: parties,
         presenting: Presenting {
-            serial: presenting.serial + 1,
+            serial: session.presenting.serial + 1,
             pending: effect,
-            counters: counters,
-            ended: presenting.ended,
+            ..session.presenting
         },
-        receiving: receiving,
         seen: time,
-        close: close,
+        ..session
     }
 }
 
@@ -59,15 +51,11 @@ fn post(session: Session, time: u32, effect: Effect, line: &mut [u8]) -> Session
     ensures session { result ≡ sent time effect session }
     ensures line { line.new ≡ sets line.old 0 (written_envelope Kind.Message (next_envelope session)) }
 {
-    let parties = session.parties;
-    write_envelope(
-        line,
-        Kind::Message,
-        Envelope {
-            route: presenting_route(parties),
-            serial: session.presenting.serial + 1,
-        },
-    );
+    let envelope = Envelope {
+        route: presenting_route(session.parties),
+        serial: session.presenting.serial + 1,
+    };
+    write_envelope(line, Kind::Message, envelope);
     sent(session, time, effect)
 }
 
@@ -84,9 +72,11 @@ pub fn begin(
     ensures { Begun time (code_number code) bytes effect session line.old line.new result }
 {
     let answer = send_answer(session, time, code, bytes, line.len());
-    if send_number(answer) == 0 {
-        let next = post(session, time, effect, line);
-        return outcome(answer, next);
+    if send_number(answer) != 0 {
+        return SendOutcome { answer, session };
     }
-    outcome(answer, session)
+    SendOutcome {
+        answer,
+        session: post(session, time, effect, line),
+    }
 }

@@ -1,5 +1,5 @@
 // The four calls that send a message. Each stands whole at the start of the line buffer; nothing is counted before its
-// reply.
+// reply. What they share is `begin`; with a trait of bodies each would need a type and an impl for its one call of a writer.
 ghost use Rattle.std.specs.Prelude.{◌≡◌};
 ghost use Rattle.session.specs.declared.running.Running.{Running};
 ghost use Rattle.session.specs.Parties.{Direction};
@@ -19,7 +19,7 @@ use message::total::{
     LOT_TOTAL_BYTES, SESSION_TOTAL_BYTES, Total, write_lot_total, write_session_total,
 };
 use packed::writing::packed_byte;
-use session::counters::{Lot, OpenLot};
+use session::counters::Lot;
 use session::effect::Effect;
 use session::running::{Running, stated};
 use session::session::Session;
@@ -37,9 +37,7 @@ pub fn send_header(
     ensures outcome { (t : Running) → send_said result t line.new ≡ send_message time (Send.header moment centre number) (held session t line.old) }
     ensures premise { Kept session result.session }
 {
-    let parties = session.parties;
-    let presenting = session.presenting;
-    let code = header_stop(time, moment, centre, number, presenting);
+    let code = header_stop(time, moment, centre, number, session.presenting);
     let begun = begin(
         session,
         time,
@@ -48,19 +46,16 @@ pub fn send_header(
         Effect::Header(number),
         line,
     );
-    if is_unstopped(begun) {
-        let header = Header {
-            time: moment,
-            centre: centre,
-            number: number,
-        };
-        write_header(
-            &mut line[ENVELOPE_BYTES..],
-            presenting_route(parties),
-            header,
-        );
+    if !is_unstopped(begun) {
         return begun;
     }
+    let header = Header {
+        time: moment,
+        centre,
+        number,
+    };
+    let route = presenting_route(session.parties);
+    write_header(&mut line[ENVELOPE_BYTES..], route, header);
     begun
 }
 
@@ -78,37 +73,33 @@ pub fn send_detail(
     ensures outcome { send_said result running line.new ≡ send_message time (Send.detail operation part.now) (held session running line.old) }
     ensures premise { KeptBeside Direction.presenting session result.session running }
 {
-    let presenting = session.presenting;
-    let stop = detail_stop(
-        operation,
-        session.parties.partner,
-        part,
-        running,
-        presenting,
-    );
-    let code = stop.code;
-    let adds = stop.adds;
+    let partner = session.parties.partner;
+    let stop = detail_stop(operation, partner, part, running, session.presenting);
     let bytes = ENVELOPE_BYTES + written_bytes(part);
-    let begun = begin(session, time, code, bytes, Effect::Detail(adds), line);
-    if is_unstopped(begun) {
-        write_detail(
-            &mut line[ENVELOPE_BYTES..],
-            packed_byte(operation as u64),
-            part,
-        );
+    let begun = begin(
+        session,
+        time,
+        stop.code,
+        bytes,
+        Effect::Detail(stop.adds),
+        line,
+    );
+    if !is_unstopped(begun) {
         return begun;
     }
+    write_detail(
+        &mut line[ENVELOPE_BYTES..],
+        packed_byte(operation as u64),
+        part,
+    );
     begun
 }
 
 // The number of an open lot; 0 where there is none, and then no total is written.
-fn open_number(lot: OpenLot) -> u16
+fn open_number(lot: Option<u16>) -> u16
     ensures { result ≡ open_number lot }
 {
-    match lot {
-        OpenLot::None => 0,
-        OpenLot::Numbered(n) => n,
-    }
+    lot.unwrap_or(0)
 }
 
 // Sends the total of the open lot: what it has gathered.
@@ -119,12 +110,10 @@ pub fn send_lot_total(session: Session, running: Running, time: u32, line: &mut 
     ensures premise { KeptBeside Direction.presenting session result.session running }
 {
     let presenting = session.presenting;
-    let counters = presenting.counters;
-    let open = counters.current;
-    let number = open_number(open);
-    let code = lot_sequence(presenting.ended, open);
+    let number = open_number(presenting.counters.current);
+    let code = lot_sequence(presenting.ended, presenting.counters.current);
     let lot = Lot {
-        number: number,
+        number,
         gathered: running,
     };
     let begun = begin(
@@ -135,14 +124,14 @@ pub fn send_lot_total(session: Session, running: Running, time: u32, line: &mut 
         Effect::LotTotal(lot),
         line,
     );
-    if is_unstopped(begun) {
-        let total = Total {
-            number: number,
-            stated: stated(running),
-        };
-        write_lot_total(&mut line[ENVELOPE_BYTES..], total);
+    if !is_unstopped(begun) {
         return begun;
     }
+    let total = Total {
+        number,
+        stated: stated(running),
+    };
+    write_lot_total(&mut line[ENVELOPE_BYTES..], total);
     begun
 }
 
@@ -154,9 +143,7 @@ pub fn send_session_total(session: Session, time: u32, line: &mut [u8]) -> SendO
 {
     let presenting = session.presenting;
     let counters = presenting.counters;
-    let open = counters.current;
-    let gathered = counters.gathered;
-    let code = session_total_sequence(presenting.ended, open);
+    let code = session_total_sequence(presenting.ended, counters.current);
     let begun = begin(
         session,
         time,
@@ -165,13 +152,13 @@ pub fn send_session_total(session: Session, time: u32, line: &mut [u8]) -> SendO
         Effect::SessionTotal,
         line,
     );
-    if is_unstopped(begun) {
-        let total = Total {
-            number: counters.lots as u16,
-            stated: stated(gathered),
-        };
-        write_session_total(&mut line[ENVELOPE_BYTES..], total);
+    if !is_unstopped(begun) {
         return begun;
     }
+    let total = Total {
+        number: counters.lots as u16,
+        stated: stated(counters.gathered),
+    };
+    write_session_total(&mut line[ENVELOPE_BYTES..], total);
     begun
 }

@@ -16,24 +16,24 @@ use session::running::{Running, adding};
 use session::session::Presenting;
 
 // The first of 01, 07, 10 and 11 that a header of these earns.
+#[tactic(auto, unfolding(session::specs::Sending::header_stop))]
 pub fn header_stop(time: u32, moment: u32, centre: u16, number: u16, p: Presenting) -> Code
     ensures { code_number result ≡ header_stop time moment centre number p }
 {
-    let counters = p.counters;
-    let lot = counters.current;
     or_else(
         when(Code::WrongField, !header_sendable(moment, centre, number)),
         or_else(
-            header_sequence(p.ended, lot),
+            header_sequence(p.ended, p.counters.current),
             or_else(
                 when(Code::TooLate, presenter_late(time)),
-                when(Code::TooManyLots, lots_used(counters.lots)),
+                when(Code::TooManyLots, lots_used(p.counters.lots)),
             ),
         ),
     )
 }
 
-// A part that is to be sent: its code, and what its documents add where there is none.
+// A part that is to be sent: its code, and what its documents add where it is 00. Both go on to `begin`, which asks the clock
+// first, so neither is an error in place of the other.
 #[derive(Clone, Copy)]
 pub struct PartStop {
     pub code: Code,
@@ -51,14 +51,10 @@ pub fn detail_stop(
     ensures code { code_number result.code ≡ detail_stop operation partner part.now running p }
     ensures adds { code_number result.code ≡ 0 → result.adds ≡ part_adds operation part.now }
 {
-    let counters = p.counters;
-    let lot = counters.current;
     let read = read_part(operation, part, partner);
-    let code = read.code;
-    let totals = read.totals;
-    let adds = adding(packed_byte(operation as u64), totals);
+    let adds = adding(packed_byte(operation as u64), read.totals);
     PartStop {
-        code: detail_code(code, p.ended, lot, running, adds),
-        adds: adds,
+        code: detail_code(read.code, p.ended, p.counters.current, running, adds),
+        adds,
     }
 }

@@ -1,8 +1,13 @@
 // The accepted lots, and whether a new one repeats one of them.
-ghost use Rattle.std.specs.Prelude.{◌≡◌, ◌≤◌, ◌<◌, true, length, take};
+#![tactic(auto, unfolding(session::specs::Course::kept))]
+
+ghost use Rattle.std.specs.Prelude.{◌≡◌, ◌<◌, true, eqb};
+ghost use Rattle.std.specs.List.{list_any};
+ghost use Rattle.amounts.specs.Totals.{same};
+ghost use Rattle.session.specs.declared.counters.Lot.{Lot};
+ghost use Rattle.session.specs.Running.{stated};
 ghost use Rattle.session.specs.Limits.{most_lots};
 ghost use Rattle.session.specs.Course.{kept};
-ghost use Rattle.session.specs.Receiving.{number_used, totals_used};
 ghost use Rattle.receiving.specs.Inner.Earned.{ends_lot};
 
 use amounts::Totals;
@@ -10,34 +15,18 @@ use session::counters::{Lot, Lots};
 use session::effect::Effect;
 use session::running::stated;
 
-// Whether an accepted lot has the number, and whether one has the totals.
-#[derive(Clone, Copy)]
-pub struct Used {
-    pub number: bool,
-    pub totals: bool,
+// Whether one of these lots has the number.
+pub fn number_used(number: u16, lots: &[Lot]) -> bool
+    ensures { result ≡ list_any (λ (l : Lot). eqb number l.number) lots.now }
+{
+    lots.iter().any(|lot| number == lot.number)
 }
 
-// Looks through the first `count` places, once for both.
-pub fn look_up(number: u16, totals: Totals, count: usize, lots: Lots) -> Used
-    requires count_le_most_lots { count ≤ most_lots }
-    requires lots_len { length lots ≡ most_lots }
-    ensures number { result.number ≡ number_used number (take count lots) }
-    ensures totals { result.totals ≡ totals_used totals (take count lots) }
+// Whether one of them has the totals.
+pub fn totals_used(totals: Totals, lots: &[Lot]) -> bool
+    ensures { result ≡ list_any (λ (l : Lot). same (stated l.gathered) totals) lots.now }
 {
-    let mut by_number = false;
-    let mut by_totals = false;
-    let mut i: usize = 0;
-    while i < count {
-        let lot = lots[i];
-        let gathered = lot.gathered;
-        by_number = by_number | (number == lot.number);
-        by_totals = by_totals | stated(gathered).same(totals);
-        i += 1;
-    }
-    Used {
-        number: by_number,
-        totals: by_totals,
-    }
+    lots.iter().any(|lot| stated(lot.gathered).same(totals))
 }
 
 // The places with one lot more, where it is accepted.
@@ -59,9 +48,6 @@ pub fn kept(effect: Effect, accepted: bool, count: usize, lots: Lots) -> Lots
 {
     match effect {
         Effect::LotTotal(lot) => stored(lot, accepted, count, lots),
-        Effect::Nothing => lots,
-        Effect::Header(_) => lots,
-        Effect::Detail(_) => lots,
-        Effect::SessionTotal => lots,
+        Effect::Nothing | Effect::Header(_) | Effect::Detail(_) | Effect::SessionTotal => lots,
     }
 }

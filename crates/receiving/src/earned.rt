@@ -2,10 +2,9 @@
 ghost use Rattle.std.specs.Prelude.{◌≡◌};
 ghost use Rattle.session.specs.Parties.{receiving_route};
 ghost use Rattle.receiving.specs.Inner.Earned.{Earns};
-ghost use Rattle.receiving.specs.Inner.Lent.{Lent};
 
-use crate::accepted::look_up;
-use amounts::Totals;
+use crate::accepted::{number_used, totals_used};
+use crate::hearer::Hearer;
 use calls::details::detail_code;
 use calls::sequence::{header_sequence, lot_total_sequence, session_total_sequence};
 use codes::body::operation_of;
@@ -13,18 +12,18 @@ use codes::chain::{or_else, when};
 use codes::code::Code;
 use detail::reading::read_detail;
 use message::content::Content;
-use message::header::{ReadHeader, read_header};
+use message::header::read_header;
 use message::route::Route;
-use message::total::{ReadTotal, read_lot_total, read_session_total};
+use message::total::{read_lot_total, read_session_total};
 use session::counters::Lot;
 use session::effect::Effect;
 use session::hours::receiver_late;
 use session::limits::lots_used;
 use session::parties::Parties;
-use session::running::{Running, adding, stated};
-use session::session::Receiving;
+use session::running::{adding, stated};
 
-// A message's code, and what it does. Of a refused one it counts only whether it is a lot total, which ends its lot.
+// A message's code, and what it does. Of a refused one it counts only whether it is a lot total, which ends its lot: so the two
+// stand side by side, and not one in place of the other.
 #[derive(Clone, Copy)]
 pub struct Found {
     pub code: Code,
@@ -43,87 +42,75 @@ pub fn receiving_route(p: Parties) -> Route
 }
 
 // A header that is not read is 01; one that is read goes down the chain.
-fn of_header(time: u32, body: &[u8], p: Parties, running: Running, r: Receiving) -> Found
-    requires { Lent p running r }
-    ensures { Earns Content.Header time body.now p running r result }
+fn of_header(time: u32, body: &[u8], hearer: Hearer) -> Found
+    ensures { Earns Content.Header time body.now hearer.parties hearer.running hearer.receiving result }
 {
-    match read_header(body, receiving_route(p)) {
-        ReadHeader::Read(h) => {
-            let counters = r.counters;
-            let lot = counters.current;
-            let lots = r.lots;
-            Found {
-                code: or_else(
-                    header_sequence(r.ended, lot),
+    let r = hearer.receiving;
+    let counters = r.counters;
+    match read_header(body, receiving_route(hearer.parties)) {
+        Ok(header) => Found {
+            code: or_else(
+                header_sequence(r.ended, counters.current),
+                or_else(
+                    when(Code::TooLate, receiver_late(time)),
                     or_else(
-                        when(Code::TooLate, receiver_late(time)),
-                        or_else(
-                            when(
-                                Code::Duplicate,
-                                look_up(h.number, Totals::zeros(), counters.lots, lots).number,
-                            ),
-                            when(Code::TooManyLots, lots_used(counters.lots)),
+                        when(
+                            Code::Duplicate,
+                            number_used(header.number, &r.lots[..counters.lots]),
                         ),
+                        when(Code::TooManyLots, lots_used(counters.lots)),
                     ),
                 ),
-                effect: Effect::Header(h.number),
-            }
-        }
-        ReadHeader::Wrong => Found {
-            code: Code::WrongField,
+            ),
+            effect: Effect::Header(header.number),
+        },
+        Err(code) => Found {
+            code,
             effect: Effect::Nothing,
         },
     }
 }
 
 // A detail goes down the chain with what its bytes earn. It is read once.
-fn of_detail(time: u32, body: &[u8], p: Parties, running: Running, r: Receiving) -> Found
-    requires { Lent p running r }
-    ensures { Earns Content.Detail time body.now p running r result }
+fn of_detail(time: u32, body: &[u8], hearer: Hearer) -> Found
+    ensures { Earns Content.Detail time body.now hearer.parties hearer.running hearer.receiving result }
 {
-    let represented = p.represented;
-    let counters = r.counters;
-    let lot = counters.current;
-    let read = read_detail(body, p.own, &represented[..p.count]);
-    let code = read.code;
-    let totals = read.totals;
-    let adds = adding(operation_of(body), totals);
+    let p = hearer.parties;
+    let r = hearer.receiving;
+    let read = read_detail(body, p.own, &p.represented[..p.count]);
+    let adds = adding(operation_of(body), read.totals);
     Found {
-        code: detail_code(code, r.ended, lot, running, adds),
+        code: detail_code(read.code, r.ended, r.counters.current, hearer.running, adds),
         effect: Effect::Detail(adds),
     }
 }
 
 // A lot total that is not read has its own code, 01 or 03. In either case the open lot ends.
-fn of_lot_total(time: u32, body: &[u8], p: Parties, running: Running, r: Receiving) -> Found
-    requires { Lent p running r }
-    ensures { Earns Content.LotTotal time body.now p running r result }
+fn of_lot_total(time: u32, body: &[u8], hearer: Hearer) -> Found
+    ensures { Earns Content.LotTotal time body.now hearer.parties hearer.running hearer.receiving result }
 {
+    let running = hearer.running;
+    let r = hearer.receiving;
+    let counters = r.counters;
     match read_lot_total(body) {
-        ReadTotal::Read(t) => {
-            let counters = r.counters;
-            let open = counters.current;
-            let lots = r.lots;
-            let said = t.stated;
-            Found {
-                code: or_else(
-                    lot_total_sequence(r.ended, t.number, open, running),
-                    or_else(
-                        when(
-                            Code::Duplicate,
-                            look_up(t.number, said, counters.lots, lots).totals,
-                        ),
-                        when(Code::WrongTotals, !stated(running).same(said)),
+        Ok(total) => Found {
+            code: or_else(
+                lot_total_sequence(r.ended, total.number, counters.current, running),
+                or_else(
+                    when(
+                        Code::Duplicate,
+                        totals_used(total.stated, &r.lots[..counters.lots]),
                     ),
+                    when(Code::WrongTotals, !stated(running).same(total.stated)),
                 ),
-                effect: Effect::LotTotal(Lot {
-                    number: t.number,
-                    gathered: running,
-                }),
-            }
-        }
-        ReadTotal::Wrong(code) => Found {
-            code: code,
+            ),
+            effect: Effect::LotTotal(Lot {
+                number: total.number,
+                gathered: running,
+            }),
+        },
+        Err(code) => Found {
+            code,
             effect: Effect::LotTotal(Lot {
                 number: 0,
                 gathered: running,
@@ -133,50 +120,42 @@ fn of_lot_total(time: u32, body: &[u8], p: Parties, running: Running, r: Receivi
 }
 
 // A session total.
-fn of_session_total(time: u32, body: &[u8], p: Parties, running: Running, r: Receiving) -> Found
-    ensures { Earns Content.SessionTotal time body.now p running r result }
+fn of_session_total(time: u32, body: &[u8], hearer: Hearer) -> Found
+    ensures { Earns Content.SessionTotal time body.now hearer.parties hearer.running hearer.receiving result }
 {
+    let r = hearer.receiving;
+    let counters = r.counters;
     match read_session_total(body) {
-        ReadTotal::Read(t) => {
-            let counters = r.counters;
-            let open = counters.current;
-            let gathered = counters.gathered;
-            let said = t.stated;
+        Ok(total) => {
+            let same = stated(counters.gathered).same(total.stated);
             Found {
                 code: or_else(
-                    session_total_sequence(r.ended, open),
+                    session_total_sequence(r.ended, counters.current),
                     when(
                         Code::WrongTotals,
-                        !((counters.lots == t.number as usize) & stated(gathered).same(said)),
+                        !((counters.lots == total.number as usize) & same),
                     ),
                 ),
                 effect: Effect::SessionTotal,
             }
         }
-        ReadTotal::Wrong(code) => Found {
-            code: code,
+        Err(code) => Found {
+            code,
             effect: Effect::SessionTotal,
         },
     }
 }
 
 // A body, by what it is.
-pub fn earned(
-    content: Content,
-    time: u32,
-    body: &[u8],
-    p: Parties,
-    running: Running,
-    r: Receiving,
-) -> Found
-    requires { Lent p running r }
-    ensures { Earns content time body.now p running r result }
+#[tactic(auto, unfolding(session::specs::Receiving::received_code, session::specs::Receiving::received_effect))]
+pub fn earned(content: Content, time: u32, body: &[u8], hearer: Hearer) -> Found
+    ensures { Earns content time body.now hearer.parties hearer.running hearer.receiving result }
 {
     match content {
-        Content::Header => of_header(time, body, p, running, r),
-        Content::Detail => of_detail(time, body, p, running, r),
-        Content::LotTotal => of_lot_total(time, body, p, running, r),
-        Content::SessionTotal => of_session_total(time, body, p, running, r),
+        Content::Header => of_header(time, body, hearer),
+        Content::Detail => of_detail(time, body, hearer),
+        Content::LotTotal => of_lot_total(time, body, hearer),
+        Content::SessionTotal => of_session_total(time, body, hearer),
         Content::Unknown => Found {
             code: Code::WrongField,
             effect: Effect::Nothing,

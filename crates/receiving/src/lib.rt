@@ -6,4 +6,5 @@ mod accepted;
 mod arrival;
 mod earned;
 mod handling;
+mod hearer;
 pub mod receive;

@@ -1,23 +1,26 @@
 // Receiving: a message of any bytes goes in, and the reply to it comes out in the line buffer.
 ghost use Rattle.std.specs.Prelude.{◌≡◌, ◌≤◌, length};
 ghost use Rattle.std.proofs.lemmas.List.Edits.{sets};
-ghost use Rattle.message.specs.Limits.{reply_room};
+ghost use Rattle.message.specs.Limits.{largest_serial, reply_room};
 ghost use Rattle.message.specs.Line.{whole_reply};
 ghost use Rattle.session.specs.Parties.{receiving_route, Direction};
-ghost use Rattle.session.specs.Receiving.{receive};
+ghost use Rattle.session.specs.Receiving.{is_next, receive_refusal, receive};
 ghost use Rattle.session.specs.Premise.{Sound, Carried, KeptBeside};
 ghost use Rattle.session.specs.Outcome.{held, seen_at, with_receiving};
+ghost use Rattle.calls.specs.Inner.Arrival.{Told};
 ghost use Rattle.receiving.specs.Said.{received_said};
 
 use crate::arrival::read_message;
 use crate::earned::receiving_route;
 use crate::handling::{Handled, handle_if};
-use calls::answer::{answer_number, or_refused};
+use crate::hearer::Hearer;
 use calls::time::time_refusal;
+use codes::answer::Answer;
+use codes::refusal::Refusal;
 use message::envelope::{ENVELOPE_BYTES, Envelope, REPLY_ROOM};
 use message::line::write_reply;
 use session::running::Running;
-use session::session::{Answer, Session};
+use session::session::Session;
 
 // What receiving gives. A message that earns a code is not refused: its reply, which carries the code, is the first
 // `written` bytes of the line buffer.
@@ -28,41 +31,45 @@ pub struct Received {
     pub session: Session,
 }
 
-// The same, and the running totals that it leaves.
+// The same, and the running totals that it leaves, also where it is refused (`outcome` and `premise`).
 #[derive(Clone, Copy)]
 pub struct ReceiveOutcome {
     pub running: Running,
     pub received: Received,
 }
 
+// Whether a message of any bytes is a new one or the last again, at any time.
+#[tactic(auto, using(calls::proofs::Laws::Answer::refusal_ends, calls::proofs::Laws::Answer::none_leads_on, calls::proofs::Laws::Arrival::told_behind), unfolding(session::specs::Receiving::receive_refusal))]
+fn arrived(session: Session, time: u32, message: &[u8], room: usize) -> Result<bool, Refusal>
+    requires { session.receiving.serial ≤ largest_serial }
+    ensures { Told (receive_refusal time message.now room session) (is_next message.now session.receiving.serial) result }
+{
+    let route = receiving_route(session.parties);
+    time_refusal(time, session.seen, session.close)?;
+    read_message(message, route, session.receiving.serial, room)
+}
+
 // Writes the reply that is kept after a message, new or again, and gives what the call leaves.
 fn replying(session: Session, time: u32, after: Handled, line: &mut [u8]) -> ReceiveOutcome
     requires { reply_room ≤ length line.old }
-    ensures result { result ≡ record { running = after.running; received = record { answer = Answer.Done; written = reply_room; session = seen_at time (with_receiving after.receiving session) } } }
+    ensures result { result ≡ record { running = after.running; received = record { answer = Ok tt; written = reply_room; session = seen_at time (with_receiving after.receiving session) } } }
     ensures line { line.new ≡ sets line.old 0 (whole_reply (record { route = receiving_route session.parties; serial = after.receiving.serial }) after.receiving.reply) }
 {
-    let parties = session.parties;
-    let presenting = session.presenting;
     let receiving = after.receiving;
-    let running = after.running;
-    let close = session.close;
-    let reply = receiving.reply;
     let envelope = Envelope {
-        route: receiving_route(parties),
+        route: receiving_route(session.parties),
         serial: receiving.serial,
     };
-    write_reply(line, envelope, reply);
+    write_reply(line, envelope, receiving.reply);
     ReceiveOutcome {
-        running: running,
+        running: after.running,
         received: Received {
-            answer: Answer::Done,
+            answer: Ok(()),
             written: REPLY_ROOM,
             session: Session {
-                parties: parties,
-                presenting: presenting,
-                receiving: receiving,
+                receiving,
                 seen: time,
-                close: close,
+                ..session
             },
         },
     }
@@ -81,23 +88,23 @@ pub fn receive(
     ensures outcome { received_said result.received result.running line.new ≡ receive time message.now (held session running line.old) }
     ensures premise { KeptBeside Direction.receiving session result.received.session result.running }
 {
-    let parties = session.parties;
-    let last = session.receiving;
-    let close = session.close;
-    let arrived = read_message(message, receiving_route(parties), last.serial, line.len());
-    let found = arrived.answer;
-    let answer = or_refused(time_refusal(time, session.seen, close), found);
-    if answer_number(answer) == 0 {
-        let body = &message[ENVELOPE_BYTES..];
-        let after = handle_if(arrived.next, time, body, parties, running, last);
-        return replying(session, time, after, line);
-    }
-    ReceiveOutcome {
-        running: running,
-        received: Received {
-            answer: answer,
-            written: 0,
-            session: session,
+    match arrived(session, time, message, line.len()) {
+        Ok(next) => {
+            let hearer = Hearer {
+                parties: session.parties,
+                running,
+                receiving: session.receiving,
+            };
+            let after = handle_if(next, time, &message[ENVELOPE_BYTES..], hearer);
+            replying(session, time, after, line)
+        }
+        Err(refusal) => ReceiveOutcome {
+            running,
+            received: Received {
+                answer: Err(refusal),
+                written: 0,
+                session,
+            },
         },
     }
 }

@@ -1,5 +1,5 @@
 -- What playing a line leaves.
-use Rattle.std.specs.Prelude.{ℕ, ◌+◌, ◌*◌, ◌≤◌, ◌<◌, ◌≡◌, true, cond, List, eqb, length, take, drop, replicate}
+use Rattle.std.specs.Prelude.{ℕ, ◌+◌, ◌*◌, ◌≤◌, ◌<◌, ◌≡◌, Option, Some, None, cond, List, eqb, length, take, drop, replicate}
 use Rattle.text.specs.declared.wire.Memory.{Memory}
 use Rattle.text.specs.Line.{most_room}
 use Rattle.text.specs.Held.{Written, Holds, remembered}
@@ -8,7 +8,7 @@ use Rattle.script.specs.declared.play.LinePlayed.{LinePlayed}
 use Rattle.script.specs.declared.play.Played.{Played}
 use Rattle.script.specs.declared.play.Stop.{Stop}
 use Rattle.script.specs.Reading.{Meant}
-use Rattle.script.specs.Player.{Ends, ends_of, seat_at, wrote, played_at, ReadyPlayer}
+use Rattle.script.specs.Player.{Ends, ends_of, seat_at, wrote, played_at}
 
 -- the bytes of a line buffer, before a call
 unfoldable pub filled : List ℕ
@@ -30,18 +30,25 @@ abbrev pub held_by : Player → Meant → (lent : ℕ) → List Written → List
 held_by player m lent ws = held_after player.memory (wrote m.named (take m.room filled) (seat_at m.near (ends_of player))) lent ws
 
 -- the memory holds what it held, and what the line wrote; or what it held, where the output has no room for the answer
-abbrev pub Remembers : Player → (then : List Written → List Written) (wire wire' : List ℕ) → LinePlayed → Type 0
-Remembers player then wire wire' r = (ws : List Written) → Holds player.memory wire ws → Holds r.player.memory wire' (cond r.full ws (then ws))
+abbrev pub Remembers : Player → (then : List Written → List Written) (wire wire' : List ℕ) → Option LinePlayed → Type 0
+Remembers player then wire wire' None = (ws : List Written) → Holds player.memory wire ws → Holds player.memory wire' ws
+Remembers player then wire wire' (Some r) = (ws : List Written) → Holds player.memory wire ws → Holds r.player.memory wire' (then ws)
 
--- A line was played: the two ends, each session with its running totals, are as they are to be next, or as they were where the output has no
--- room for the answer, which it has wherever the longest would fit. Of the output only the answer is written. The text of the answer is left
--- open.
-pub record Done (player : Player) (next : Ends) (before after : List ℕ) (r : LinePlayed) : Type 0 where
-  pub ends : ends_of r.player ≡ cond r.full (ends_of player) next
-  pub full : r.full ≡ true → length before < longest_answer
+-- A line was played: the two ends, each session with its running totals, are as they are to be next. Of the output only the answer is
+-- written. The text of the answer is left open.
+pub record IsDone (next : Ends) (before after : List ℕ) (r : LinePlayed) : Type 0 where
+  pub ends : ends_of r.player ≡ next
   pub written : r.written ≤ length before
   pub kept : drop r.written after ≡ drop r.written before
-  pub ready : ReadyPlayer r.player
+
+-- nothing was done: the output has no room for the answer, which it has wherever the longest would fit
+pub record NoRoom (before after : List ℕ) : Type 0 where
+  pub full : length before < longest_answer
+  pub kept : after ≡ before
+
+abbrev pub Done : (next : Ends) (before after : List ℕ) → Option LinePlayed → Type 0
+Done next before after None = NoRoom before after
+Done next before after (Some r) = IsDone next before after r
 
 -- how much of a text was played: all of it, where nothing stopped it
 pub record ReadOf (size : ℕ) (r : Played) : Type 0 where

@@ -1,12 +1,11 @@
 // The answer to a line that was read: its words, then the bytes that the call wrote, and a line feed.
 ghost use Rattle.std.specs.Prelude.{◌≡◌, ◌+◌, ◌*◌, ◌≤◌, length, drop};
 ghost use Rattle.script.specs.Answer.{answer_bytes};
-ghost use Rattle.script.specs.Player.{ReadySeat};
 ghost use Rattle.text.specs.Line.{most_room};
 
-use crate::player::Seat;
 use crate::wording::{put_code, put_signed, put_text};
 use calls::report::report;
+use centre::end::Centre;
 use decimal::{put_decimal, put_number};
 use packed::writing::copy;
 use session::report::{Awaited, Report, Tally};
@@ -40,10 +39,7 @@ fn put_end(head: &mut [u8], at: usize, near: bool) -> usize
     requires { at + 1 ≤ length head.old }
     ensures { result ≤ at + 1 }
 {
-    if near {
-        return put_text(head, at, b"A");
-    }
-    put_text(head, at, b"B")
+    put_text(head, at, if near { b"A" } else { b"B" })
 }
 
 // How a session stands.
@@ -74,9 +70,8 @@ fn put_tally(head: &mut [u8], at: usize, tally: Tally) -> usize
     requires { at + 84 ≤ length head.old }
     ensures { result ≤ at + 84 }
 {
-    let gathered = tally.gathered;
     let lots = put_number(head, at, tally.lots as u64);
-    put_running(head, lots, gathered)
+    put_running(head, lots, tally.gathered)
 }
 
 // What awaits a reply.
@@ -88,10 +83,9 @@ fn put_awaited(head: &mut [u8], at: usize, awaited: Awaited) -> usize
         Awaited::Neither => put_text(head, at, b" none"),
         Awaited::SessionTotal => put_text(head, at, b" session"),
         Awaited::LotTotal(lot) => {
-            let gathered = lot.gathered;
             let word = put_text(head, at, b" lot");
             let number = put_number(head, word, lot.number as u64);
-            put_running(head, number, gathered)
+            put_running(head, number, lot.gathered)
         }
     }
 }
@@ -112,35 +106,28 @@ fn put_report(head: &mut [u8], at: usize, shown: Report) -> usize
     requires { at + 330 ≤ length head.old }
     ensures { result ≤ at + 330 }
 {
-    let presented = shown.presented;
-    let received = shown.received;
-    let close = shown.close;
-    let positions = shown.positions;
-    let awaited = shown.awaited;
-    let both = put_directions(head, at, presented, received);
-    let stands = put_close(head, both, close);
-    let nominal = put_signed(head, stands, positions.nominal);
-    let commission = put_signed(head, nominal, positions.commission);
-    put_awaited(head, commission, awaited)
+    let both = put_directions(head, at, shown.presented, shown.received);
+    let stands = put_close(head, both, shown.close);
+    let nominal = put_signed(head, stands, shown.positions.nominal);
+    let commission = put_signed(head, nominal, shown.positions.commission);
+    put_awaited(head, commission, shown.awaited)
 }
 
-// The number of a call and what goes with it: how the session stands after a clock call, and the number of what was written.
-fn put_outcome(
-    head: &mut [u8],
-    at: usize,
-    kind: Kind,
-    number: u8,
-    close: Close,
-    written: u64,
-) -> usize
+// The number of a call.
+fn put_number_of(head: &mut [u8], at: usize, number: u8) -> usize
+    requires { at + 22 ≤ length head.old }
+    ensures { result ≤ at + 22 }
+{
+    let space = put_text(head, at, b" ");
+    put_code(head, space, number)
+}
+
+// The number of a call, and of what was written if something was.
+fn put_outcome(head: &mut [u8], at: usize, number: u8, written: u64) -> usize
     requires { at + 330 ≤ length head.old }
     ensures { result ≤ at + 330 }
 {
-    let space = put_text(head, at, b" ");
-    let code = put_code(head, space, number);
-    if is_clock(kind) {
-        return put_close(head, code, close);
-    }
+    let code = put_number_of(head, at, number);
     if written == 0 {
         return code;
     }
@@ -149,39 +136,18 @@ fn put_outcome(
     put_text(head, numbered, b" ")
 }
 
-fn is_clock(kind: Kind) -> bool {
-    match kind {
-        Kind::Clock => true,
-        _ => false,
-    }
-}
-
-// Whether a line is a call.
-fn is_call(kind: Kind) -> bool {
-    match kind {
-        Kind::Passed => false,
-        Kind::Bad => false,
-        _ => true,
-    }
-}
-
-fn is_report(kind: Kind) -> bool {
-    match kind {
-        Kind::Report => true,
-        _ => false,
-    }
-}
-
-// Whether a call is answered with `none`: a start never is.
-fn is_missing(kind: Kind, started: bool) -> bool {
-    match kind {
-        Kind::Start => false,
-        _ => !started,
-    }
+// The number of a clock call, and how the session stands after it.
+fn put_clock(head: &mut [u8], at: usize, number: u8, close: Close) -> usize
+    requires { at + 330 ≤ length head.old }
+    ensures { result ≤ at + 330 }
+{
+    let code = put_number_of(head, at, number);
+    put_close(head, code, close)
 }
 
 // What follows the end in the answer to a call: the seat is the one that the call left; `started` says whether there was a
-// session before, and `written` is the number of what the call wrote, 0 if it wrote nothing.
+// session before, and `written` is the number of what the call wrote, 0 if it wrote nothing. Where there was no session every
+// call but a start is answered with `none`.
 fn put_rest(
     head: &mut [u8],
     at: usize,
@@ -189,22 +155,19 @@ fn put_rest(
     started: bool,
     number: u8,
     written: u64,
-    seat: Seat,
+    seat: Option<Centre>,
 ) -> usize
-    requires ready_seat { ReadySeat seat }
-    requires at_in_bounds { at + 330 ≤ length head.old }
+    requires { at + 330 ≤ length head.old }
     ensures { result ≤ at + 330 }
 {
-    let session = seat.centre.session;
-    let close = session.close;
-    if is_missing(kind, started) {
+    if !started & !matches!(kind, Kind::Start) {
         return put_text(head, at, b" none");
     }
-    if is_report(kind) {
-        let shown = report(session);
-        return put_report(head, at, shown);
+    match (kind, seat) {
+        (Kind::Report, Some(centre)) => put_report(head, at, report(centre.session)),
+        (Kind::Clock, Some(centre)) => put_clock(head, at, number, centre.session.close),
+        _ => put_outcome(head, at, number, written),
     }
-    put_outcome(head, at, kind, number, close, written)
 }
 
 // All the words of an answer.
@@ -215,14 +178,13 @@ pub fn put_answer(
     started: bool,
     number: u8,
     written: u64,
-    seat: Seat,
+    seat: Option<Centre>,
 ) -> usize
-    requires ready_seat { ReadySeat seat }
-    requires in_bounds { 400 ≤ length head.old }
+    requires { 400 ≤ length head.old }
     ensures { result ≤ 400 }
 {
     let word = put_kind(head, kind);
-    if !is_call(kind) {
+    if matches!(kind, Kind::Passed | Kind::Bad) {
         return word;
     }
     let end = put_end(head, word, near);

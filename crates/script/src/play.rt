@@ -1,17 +1,18 @@
 // Playing a script: one line, and as many lines as a text has.
-ghost use Rattle.std.specs.Prelude.{◌≡◌, true, ◌≤◌, ◌<◌, List, length, take, drop};
+ghost use Rattle.std.specs.Prelude.{◌≡◌, IfSome, MatchOption, ◌≤◌, ◌<◌, List, length, take, drop};
 ghost use Rattle.text.specs.Memory.{recalled};
 ghost use Rattle.text.specs.Held.{Written, Holds};
 ghost use Rattle.text.specs.Line.{read_line, most_room};
 ghost use Rattle.script.specs.Reading.{named_by, meant};
-ghost use Rattle.script.specs.Player.{seat_of, done, ends_of, seat_at, with_seat, wrote, played_at, ReadySeat, ReadyPlayer};
+ghost use Rattle.script.specs.Player.{seat_of, done, ends_of, seat_at, with_seat, wrote, played_at};
 ghost use Rattle.script.specs.Play.{filled, played, held_after, held_by, Remembers, longest_answer, Done, ReadOf};
-ghost use Rattle.script.specs.Inner.Play.{Behind, CutWithin};
+ghost use Rattle.script.specs.Inner.Play.{Behind};
 
 use crate::answer::{answer_bytes, put_answer, write_answer};
-use crate::player::{Player, Seat, act};
+use crate::player::{Player, act};
 use crate::reading::{Reading, reading_of};
 use crate::wording::{blank, least};
+use centre::end::Centre;
 use text::line::{LONGEST_LINE, MOST_ROOM, read_line};
 use text::wire::{Memory, next_number, remember};
 use text::word::find_byte;
@@ -19,47 +20,34 @@ use text::word::find_byte;
 // The most bytes that stand in a line.
 const MOST_BYTES: usize = LONGEST_LINE / 2;
 
-// A line that was played: how many bytes answer it, and the player that it leaves; or that the answer does not fit, and then
-// nothing was done.
+// A line that was played: how many bytes answer it, and the player that it leaves.
 #[derive(Clone, Copy)]
 pub struct LinePlayed {
     pub player: Player,
     pub written: usize,
-    pub full: bool,
 }
 
-fn seat_at(player: Player, near: bool) -> Seat
-    requires { ReadyPlayer player }
-    ensures outcome { seat_of result ≡ seat_at near (ends_of player) }
-    ensures premise { ReadySeat result }
+fn seat_at(player: Player, near: bool) -> Option<Centre>
+    ensures { seat_of result ≡ seat_at near (ends_of player) }
 {
-    if near {
-        return player.near;
-    }
-    player.far
+    if near { player.near } else { player.far }
 }
 
-fn with_seat(player: Player, near: bool, seat: Seat, memory: Memory) -> Player
-    requires ready_player { ReadyPlayer player }
-    requires ready_seat { ReadySeat seat }
+fn with_seat(player: Player, near: bool, seat: Option<Centre>, memory: Memory) -> Player
     ensures outcome { ends_of result ≡ with_seat near (seat_of seat) (ends_of player) }
-    ensures premise { (ReadyPlayer result) × (result.memory ≡ memory) }
+    ensures memory { result.memory ≡ memory }
 {
-    let here = player.near;
-    let there = player.far;
     if near {
         return Player {
             near: seat,
-            far: there,
-            memory: memory,
-            skipping: player.skipping,
+            memory,
+            ..player
         };
     }
     Player {
-        near: here,
         far: seat,
-        memory: memory,
-        skipping: player.skipping,
+        memory,
+        ..player
     }
 }
 
@@ -84,76 +72,57 @@ fn written_number(memory: Memory, written: usize) -> u64 {
 // What was done at a seat: how many words answer it, and how many bytes behind them.
 #[derive(Clone, Copy)]
 pub struct Answered {
-    pub seat: Seat,
+    pub seat: Option<Centre>,
     pub words: usize,
     pub written: usize,
 }
 
 // Does what was read, and puts the words of its answer. A call writes no more than its buffer has.
 fn answer_at(
-    seat: Seat,
+    seat: Option<Centre>,
     reading: Reading,
     memory: Memory,
     bytes: &[u8],
     line: &mut [u8],
     head: &mut [u8],
 ) -> Answered
-    requires ready_seat { ReadySeat seat }
     requires more_in_bounds { reading.more ≤ length reading.entities }
     requires in_bounds { 400 ≤ length head.old }
     ensures outcome { seat_of result.seat ≡ done (named_by reading.asked reading bytes.now) line.old (seat_of seat) }
-    ensures premise { ReadySeat result.seat }
     ensures sizes { (result.words ≤ 400) × (result.written ≤ length line.old) × (take result.written line.new ≡ wrote (named_by reading.asked reading bytes.now) line.old (seat_of seat)) }
 {
-    let kind = reading.kind;
     let step = act(seat, reading, bytes, line);
-    let after = step.seat;
     let written = least(step.written, line.len());
     let number = written_number(memory, written);
     let words = put_answer(
         head,
-        kind,
+        reading.kind,
         reading.near,
-        seat.started,
+        seat.is_some(),
         step.number,
         number,
-        after,
+        step.seat,
     );
     Answered {
-        seat: after,
-        words: words,
-        written: written,
+        seat: step.seat,
+        words,
+        written,
     }
 }
 
-// How many bytes of output were written, or that the answer does not fit.
-#[derive(Clone, Copy)]
-pub struct Emitted {
-    pub count: usize,
-    pub full: bool,
-}
-
-// Writes an answer of so many words and bytes, if it fits.
-fn emit(output: &mut [u8], head: &[u8], line: &[u8], words: usize, written: usize) -> Emitted
+// Writes an answer of so many words and bytes, if it fits, and says how many bytes were written.
+fn emit(output: &mut [u8], head: &[u8], line: &[u8], words: usize, written: usize) -> Option<usize>
     requires words_bound { (words ≤ 400) × (words ≤ length head.now) }
     requires written_le_most_room { (written ≤ most_room) × (written ≤ length line.now) }
-    ensures written { result.count ≤ length output.old }
-    ensures kept { drop result.count output.new ≡ drop result.count output.old }
-    ensures full { result.full ≡ true → length output.old < longest_answer }
+    ensures { MatchOption result ((length output.old < longest_answer) × (output.new ≡ output.old)) (λ n. (n ≤ length output.old) × (drop n output.new ≡ drop n output.old)) }
 {
     if output.len() < answer_bytes(words, written) {
-        return Emitted {
-            count: 0,
-            full: true,
-        };
+        return None;
     }
-    Emitted {
-        count: write_answer(output, &head[..words], &line[..written]),
-        full: false,
-    }
+    Some(write_answer(output, &head[..words], &line[..written]))
 }
 
-// What was read, and its answer.
+// What was read, and its answer; nothing is done where the answer does not fit.
 fn play_reading(
     player: Player,
     reading: Reading,
@@ -161,11 +130,10 @@ fn play_reading(
     line: &mut [u8],
     output: &mut [u8],
     wire: &mut [u8],
-) -> LinePlayed
-    requires ready_player { ReadyPlayer player }
+) -> Option<LinePlayed>
     requires more_in_bounds { reading.more ≤ length reading.entities }
     requires line_len_bound { length line.old ≤ most_room }
-    ensures done { Done player (played_at reading.near (named_by reading.asked reading bytes.now) line.old (ends_of player)) output.old output.new result }
+    ensures done { Done (played_at reading.near (named_by reading.asked reading bytes.now) line.old (ends_of player)) output.old output.new result }
     ensures memory { Remembers player (held_after player.memory (wrote (named_by reading.asked reading bytes.now) line.old (seat_at reading.near (ends_of player))) (length wire.old)) wire.old wire.new result }
 {
     let near = reading.near;
@@ -173,22 +141,12 @@ fn play_reading(
     let before = seat_at(player, near);
     let mut head = blank();
     let answer = answer_at(before, reading, memory, bytes, line, &mut head);
-    let seat = answer.seat;
-    let written = answer.written;
-    let emitted = emit(output, &head, line, answer.words, written);
-    if emitted.full {
-        return LinePlayed {
-            player: player,
-            written: emitted.count,
-            full: true,
-        };
-    }
-    let kept = after_writing(memory, &line[..written], wire);
-    LinePlayed {
-        player: with_seat(player, near, seat, kept),
-        written: emitted.count,
-        full: false,
-    }
+    let written = emit(output, &head, line, answer.words, answer.written)?;
+    let kept = after_writing(memory, &line[..answer.written], wire);
+    Some(LinePlayed {
+        player: with_seat(player, near, answer.seat, kept),
+        written,
+    })
 }
 
 // The line buffer of a call.
@@ -206,21 +164,17 @@ fn play_line(
     output: &mut [u8],
     wire: &mut [u8],
     bytes: &mut [u8],
-) -> LinePlayed
-    requires { ReadyPlayer player }
-    ensures done { Done player (played (meant (read_line (recalled player.memory wire.old) (length bytes.old) text.now)) (ends_of player)) output.old output.new result }
+) -> Option<LinePlayed>
+    ensures done { Done (played (meant (read_line (recalled player.memory wire.old) (length bytes.old) text.now)) (ends_of player)) output.old output.new result }
     ensures memory { Remembers player (held_by player (meant (read_line (recalled player.memory wire.old) (length bytes.old) text.now)) (length wire.old)) wire.old wire.new result }
 {
-    let said = read_line(text, player.memory, wire, bytes);
-    let reading = reading_of(said);
-    let count = reading.bytes;
-    let room = reading.room;
+    let reading = reading_of(read_line(text, player.memory, wire, bytes));
     let mut line = filled();
     play_reading(
         player,
         reading,
-        &bytes[..count],
-        &mut line[..room],
+        &bytes[..reading.bytes],
+        &mut line[..reading.room],
         output,
         wire,
     )
@@ -246,65 +200,37 @@ pub struct Played {
     pub stop: Stop,
 }
 
-// The next line of a text: where it ends, where the one after it begins, and whether its rest is still to come and to be
-// passed over; or that it is not finished.
+// The next line of a text, how much of the text it takes, and whether its rest is still to come and to be passed over.
 #[derive(Clone, Copy)]
-pub struct Cut {
-    pub finished: bool,
-    pub to: usize,
-    pub next: usize,
+pub struct Cut<'a> {
+    pub line: &'a [u8],
+    pub read: usize,
     pub skipping: bool,
 }
 
-// Where a line ends that is to be played, or to be passed over.
-fn played_to(skipping: bool, at: usize, to: usize) -> usize
-    requires { at ≤ to }
-    ensures { (at ≤ result) × (result ≤ to) }
+// The next line of a text. Where more of the text may come, a line without a line feed is not finished, and not cut, unless it
+// is too long already; then its rest is passed over.
+fn cut_line(text: &[u8], last: bool, skipping: bool) -> Option<Cut<'_>>
+    requires { 0 < length text.now }
+    ensures { IfSome result (λ cut. (0 < cut.read) × (cut.read ≤ length text.now)) }
 {
-    if skipping {
-        return at;
-    }
-    to
-}
-
-// The next line from `at` on. Where more of the text may come, a line without a line feed is not finished, unless it is too
-// long already; then its rest is passed over.
-fn cut_line(text: &[u8], at: usize, last: bool, skipping: bool) -> Cut
-    requires { at < length text.now }
-    ensures { CutWithin at text.now result }
-{
-    let end = find_byte(text, at, b'\n');
-    let to = played_to(skipping, at, end);
+    let end = find_byte(text, 0, b'\n');
+    let line = if skipping { &text[..0] } else { &text[..end] };
     if end < text.len() {
-        return Cut {
-            finished: true,
-            to: to,
-            next: end + 1,
+        return Some(Cut {
+            line,
+            read: end + 1,
             skipping: false,
-        };
+        });
     }
-    Cut {
-        finished: last | skipping | (LONGEST_LINE < end - at),
-        to: to,
-        next: end,
-        skipping: true,
+    if last | skipping | (LONGEST_LINE < end) {
+        return Some(Cut {
+            line,
+            read: end,
+            skipping: true,
+        });
     }
-}
-
-fn with_skipping(player: Player, skipping: bool) -> Player
-    requires { ReadyPlayer player }
-    ensures outcome { ends_of result ≡ ends_of player }
-    ensures premise { ReadyPlayer result }
-{
-    let near = player.near;
-    let far = player.far;
-    let memory = player.memory;
-    Player {
-        near: near,
-        far: far,
-        memory: memory,
-        skipping: skipping,
-    }
+    None
 }
 
 // One line, answered behind so many bytes of output.
@@ -315,9 +241,8 @@ fn play_behind(
     count: usize,
     wire: &mut [u8],
     bytes: &mut [u8],
-) -> LinePlayed
-    requires ready_player { ReadyPlayer player }
-    requires count_in_bounds { count ≤ length output.old }
+) -> Option<LinePlayed>
+    requires { count ≤ length output.old }
     ensures { Behind count output.old output.new result }
 {
     play_line(player, line, &mut output[count..], wire, bytes)
@@ -330,44 +255,45 @@ fn spare() -> [u8; MOST_BYTES]
     [0; MOST_BYTES]
 }
 
-fn stopped(player: Player, read: usize, written: usize, stop: Stop) -> Played
-    ensures { (result.player ≡ player) × (result.read ≡ read) × (result.written ≡ written) × (result.stop ≡ stop) }
-{
-    Played {
-        player: player,
-        read: read,
-        written: written,
-        stop: stop,
-    }
-}
-
 // The lines of a text, one after another. It stops before a line whose answer does not fit the output, and before one that is
 // not finished, unless the text is the last.
 pub fn play(player: Player, text: &[u8], last: bool, output: &mut [u8], wire: &mut [u8]) -> Played
-    requires { ReadyPlayer player }
     ensures read { ReadOf (length text.now) result }
     ensures written { result.written ≤ length output.old }
     ensures kept { drop result.written output.new ≡ drop result.written output.old }
-    ensures premise { ReadyPlayer result.player }
 {
     let mut bytes = spare();
     let mut current = player;
     let mut at: usize = 0;
     let mut count: usize = 0;
     while at < text.len() {
-        let cut = cut_line(text, at, last, current.skipping);
-        let to = cut.to;
-        if !cut.finished {
-            return stopped(current, at, count, Stop::Unfinished);
-        }
-        let line = play_behind(current, &text[at..to], output, count, wire, &mut bytes);
-        let next = line.player;
+        let Some(cut) = cut_line(&text[at..], last, current.skipping) else {
+            return Played {
+                player: current,
+                read: at,
+                written: count,
+                stop: Stop::Unfinished,
+            };
+        };
+        let Some(line) = play_behind(current, cut.line, output, count, wire, &mut bytes) else {
+            return Played {
+                player: current,
+                read: at,
+                written: count,
+                stop: Stop::Full,
+            };
+        };
         count += line.written;
-        if line.full {
-            return stopped(next, at, count, Stop::Full);
-        }
-        current = with_skipping(next, cut.skipping);
-        at = cut.next;
+        current = Player {
+            skipping: cut.skipping,
+            ..line.player
+        };
+        at += cut.read;
     }
-    stopped(current, at, count, Stop::Done)
+    Played {
+        player: current,
+        read: at,
+        written: count,
+        stop: Stop::Done,
+    }
 }

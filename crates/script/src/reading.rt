@@ -1,5 +1,5 @@
 // What a line that was read asks of its end.
-ghost use Rattle.std.specs.Prelude.{◌≡◌, List, map, ℕ, ◌-◌, ◌≤◌, length, drop};
+ghost use Rattle.std.specs.Prelude.{◌≡◌, List, map, ℕ, ◌≤◌, length, drop};
 ghost use Rattle.text.specs.Kind.{shape_of};
 ghost use Rattle.text.specs.Line.{said_of};
 ghost use Rattle.script.specs.Reading.{u16, asked_by, meant, meant_by};
@@ -12,22 +12,21 @@ use text::number::{to_u8, to_u16, to_u32};
 // The most represented entities of a line; a start refuses more than eight.
 const MOST_ENTITIES: usize = 16;
 
-// What a line asks of its end: nothing, as a report and a line that is no call do; a start, whose represented entities stand
-// beside it; or a call, whose bytes do.
+// What a line asks of its end: a start, whose represented entities stand beside it; or a call, whose bytes do.
 #[derive(Clone, Copy)]
 pub enum Asked {
-    Nothing,
     Start(u32, u16, u16),
     Call(Order),
 }
 
-// A line that asks something of the near end, A, or of the far one, B. Of the entities the first `more` are meant, and of the
+// A line that asks something of the near end, A, or of the far one, B; or nothing, as a report and a line that is no call do. Of
+// the entities the first `more` are meant, and of the
 // buffer beside it the first `bytes`; `room` is the length of the line buffer.
 #[derive(Clone, Copy)]
 pub struct Reading {
     pub kind: Kind,
     pub near: bool,
-    pub asked: Asked,
+    pub asked: Option<Asked>,
     pub entities: [u16; MOST_ENTITIES],
     pub more: usize,
     pub bytes: usize,
@@ -40,46 +39,34 @@ fn entities_of(numbers: [u64; MOST_NUMBERS]) -> [u16; MOST_ENTITIES]
     ensures { result ≡ map u16 (drop 3 numbers) }
 {
     let mut all = [0u16; MOST_ENTITIES];
-    let mut i: usize = 0;
-    while i < MOST_ENTITIES {
+    for i in 0..MOST_ENTITIES {
         all[i] = to_u16(numbers[3 + i]);
-        i += 1;
     }
     all
 }
 
-// How many of so many numbers stand from the fourth on.
-fn behind_three(count: usize) -> usize
-    ensures { result ≡ count - 3 }
-{
-    if count < 3 {
-        return 0;
-    }
-    count - 3
-}
-
 // What a line of this kind and with these numbers asks.
-fn asked_by(kind: Kind, numbers: [u64; MOST_NUMBERS]) -> Asked
+fn asked_by(kind: Kind, numbers: [u64; MOST_NUMBERS]) -> Option<Asked>
     ensures { result ≡ asked_by kind numbers }
 {
     let time = to_u32(numbers[0]);
     match kind {
-        Kind::Start => Asked::Start(time, to_u16(numbers[1]), to_u16(numbers[2])),
-        Kind::Header => Asked::Call(Order::Header(
+        Kind::Start => Some(Asked::Start(time, to_u16(numbers[1]), to_u16(numbers[2]))),
+        Kind::Header => Some(Asked::Call(Order::Header(
             time,
             to_u32(numbers[1]),
             to_u16(numbers[2]),
             to_u16(numbers[3]),
-        )),
-        Kind::Detail => Asked::Call(Order::Detail(time, to_u8(numbers[1]))),
-        Kind::LotTotal => Asked::Call(Order::LotTotal(time)),
-        Kind::SessionTotal => Asked::Call(Order::SessionTotal(time)),
-        Kind::Receive => Asked::Call(Order::Receive(time)),
-        Kind::Reply => Asked::Call(Order::Reply(time)),
-        Kind::Clock => Asked::Call(Order::Clock(time)),
-        Kind::Report => Asked::Nothing,
-        Kind::Passed => Asked::Nothing,
-        Kind::Bad => Asked::Nothing,
+        ))),
+        Kind::Detail => Some(Asked::Call(Order::Detail(time, to_u8(numbers[1])))),
+        Kind::LotTotal => Some(Asked::Call(Order::LotTotal(time))),
+        Kind::SessionTotal => Some(Asked::Call(Order::SessionTotal(time))),
+        Kind::Receive => Some(Asked::Call(Order::Receive(time))),
+        Kind::Reply => Some(Asked::Call(Order::Reply(time))),
+        Kind::Clock => Some(Asked::Call(Order::Clock(time))),
+        Kind::Report => None,
+        Kind::Passed => None,
+        Kind::Bad => None,
     }
 }
 
@@ -95,11 +82,11 @@ pub fn reading_of(line: Line) -> Reading
     let kind = line.kind;
     let numbers = line.numbers;
     Reading {
-        kind: kind,
+        kind,
         near: line.near,
         asked: asked_by(kind, numbers),
         entities: entities_of(numbers),
-        more: behind_three(line.count),
+        more: line.count.saturating_sub(3),
         bytes: line.bytes,
         room: line.room,
     }

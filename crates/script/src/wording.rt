@@ -20,10 +20,7 @@ pub fn blank() -> [u8; HEAD_BYTES]
 pub fn least(a: usize, b: usize) -> usize
     ensures { (result ≤ a) × (result ≤ b) × (result ≡ min a b) }
 {
-    if a < b {
-        return a;
-    }
-    b
+    a.min(b)
 }
 
 pub fn put_text(head: &mut [u8], at: usize, text: &[u8]) -> usize

@@ -4,13 +4,13 @@ use mathlib.Core.Path.{◌≡◌, refl, ap, sym, subst, ◌∙◌}
 use mathlib.Core.Bool.{Bool, true, false, cond, false≢true}
 use mathlib.Core.List.{List, [], ◌∷◌}
 use mathlib.Core.Logic.{inl}
-use mathlib.Core.Option.{Option, none, some, none-ne-some}
 use Prim.Native.Nat.{ℕ}
 use lib.Dec.{eqb, lit<}
+use Rattle.std.specs.Prelude.{Option, Some, None}
+use Rattle.std.proofs.lemmas.Option.{none-some}
 use Rattle.packed.specs.Every.{every}
 use Rattle.codes.proofs.Laws.Chain.{none_held}
 use Rattle.message.specs.declared.route.Route.{Route}
-use Rattle.session.specs.declared.counters.OpenLot.{OpenLot}
 use Rattle.session.specs.declared.counters.Course.{Course}
 use Rattle.session.specs.declared.effect.Effect.{Effect}
 use Rattle.session.specs.declared.parties.Parties.{Parties}
@@ -111,7 +111,7 @@ fresh_joined a b route =
       receiver = record { course = refl; kept = refl; once = tt; new = tt };
       seen = record { earlier = refl; last_seen = inl refl };
       link = Link.idle refl refl refl;
-      waits = λ (m : Waiting) (w : none ≡ some m). absurd (none-ne-some m w);
+      waits = λ (m : Waiting) (w : None ≡ Some m). absurd (none-some m w);
       messages = λ (bytes : List ℕ) (w : ⊥). absurd w;
       replies = λ (bytes : List ℕ) (w : ⊥). absurd w;
     }
@@ -187,9 +187,9 @@ module _ (w : World) (all : Whole w) (p : End) where
       same_open : e.session.presenting.counters.current ≡ open_of bp.ledger.current
       same_open = ap (λ (k : Course). k.counters.current) (all.joined p).presenter.course
 
-      lot : (current : Option LedgerLot) → open_of current ≡ OpenLot.Numbered (lot_of current).number → Awaited.LotTotal (lot_of current) ≡ named_lot current
-      lot none h = absurd (false≢true (ap is_open h))
-      lot (some l) h = refl
+      lot : (current : Option LedgerLot) → open_of current ≡ Some (lot_of current).number → Awaited.LotTotal (lot_of current) ≡ named_lot current
+      lot None h = absurd (false≢true (ap is_open h))
+      lot (Some l) h = refl
 
       by_entry : (d : Entry) → PendingSound (effect_of d bp.ledger) e.session.presenting.counters → awaited (effect_of d bp.ledger) ≡ named_by d bp.ledger.current
       by_entry (Entry.header number) s = refl
@@ -198,8 +198,8 @@ module _ (w : World) (all : Whole w) (p : End) where
       by_entry Entry.session_total s = refl
 
       go : (waiting : Option Waiting) → PendingSound (waiting_effect waiting bp.ledger) e.session.presenting.counters → awaited (waiting_effect waiting bp.ledger) ≡ awaited_by waiting bp.ledger.current
-      go none s = refl
-      go (some m) s = by_entry m.entry s
+      go None s = refl
+      go (Some m) s = by_entry m.entry s
 
   agreed : Beyond w p
   unfolding enter
@@ -209,8 +209,8 @@ module _ (w : World) (all : Whole w) (p : End) where
       lots_of h = ap (λ (l : Ledger). l.lots) h
 
       ended : (current : Option LedgerLot) → to_be_named bp ≡ named_lot bp.ledger.current → bp.ledger.current ≡ current → counted w p ≡ moved (confirmed w p) current → Beyond w p
-      ended none n c h = Beyond.nothing h
-      ended (some l) n c h = Beyond.one_lot l (record { unconfirmed = c; shown = named ∙ n ∙ ap named_lot c }) h
+      ended None n c h = Beyond.nothing h
+      ended (Some l) n c h = Beyond.one_lot l (record { unconfirmed = c; shown = named ∙ n ∙ ap named_lot c }) h
 
       entered : (d : Entry) (accepted : Bool) → to_be_named bp ≡ named_by d bp.ledger.current → br.ledger ≡ enter d accepted bp.ledger → Beyond w p
       entered (Entry.header number) true w h = Beyond.nothing (lots_of h)
@@ -229,13 +229,13 @@ module _ (w : World) (all : Whole w) (p : End) where
   settled : JustReplied w p → ((report_at w p).awaited ≡ Awaited.Neither) × Level w p
   settled just = (named ∙ ap (λ (o : Option Waiting). awaited_by o bp.ledger.current) waits, go (all.joined p).link)
     where
-      waits : bp.waiting ≡ none
+      waits : bp.waiting ≡ None
       waits = ap (λ (trace : List Event). (presenter_ledger_at p trace).waiting) just.latest ∙ ap (λ (b : PresenterLedger). b.waiting) (at_its_end p (Call.reply just.time just.bytes) 0 just.said just.earlier refl)
 
       go : Link e.session.presenting f.session.receiving bp.waiting bp.ledger br.ledger → Level w p
       go (Link.idle h s b) = ap (λ (l : Ledger). l.lots) (sym b)
-      go (Link.sent d h s b) = absurd (none-ne-some d (sym waits ∙ h))
-      go (Link.taken d h s b o) = absurd (none-ne-some d (sym waits ∙ h))
+      go (Link.sent d h s b) = absurd (none-some d (sym waits ∙ h))
+      go (Link.taken d h s b o) = absurd (none-some d (sym waits ∙ h))
 
   pub agree : Agreement w p
   agree =

@@ -5,6 +5,7 @@ use mathlib.Core.Bool.{true, false}
 use mathlib.Core.List.{List, [], ◌∷◌, ◌++◌}
 use Prim.Native.Nat.{ℕ}
 use lib.ListN.{drop, replicate}
+use Rattle.std.specs.Prelude.{Option, Some, None}
 use Rattle.packed.specs.Part.{byte_at}
 use Rattle.packed.specs.Number.{byte_value}
 use Rattle.amounts.specs.declared.Totals.{Totals}
@@ -17,7 +18,6 @@ use Rattle.detail.specs.declared.checked.Checked.{Checked}
 use Rattle.detail.specs.Checked.{four_numbers, program_checked}
 use Rattle.detail.proofs.Cases.{printed, for_nothing}
 use Rattle.session.specs.declared.counters.Counters.{Counters}
-use Rattle.session.specs.declared.counters.OpenLot.{OpenLot}
 use Rattle.session.specs.declared.session.Close.{Close}
 use Rattle.session.specs.Running.{empty, adding, documents_in}
 use Rattle.session.specs.Sequence.{header_sequence, lot_sequence, lot_total_sequence, session_total_sequence}
@@ -219,11 +219,11 @@ abbrev strange : Call
 strange = Call.receive 80000 (with_byte 15 0x02 (message_from End.near 1 (Sent.header 7)))
 
 -- no lot is open, and lot 7 is
-abbrev pub none_open : OpenLot
-none_open = OpenLot.None
+abbrev pub none_open : Option ℕ
+none_open = None
 
-abbrev pub seven_open : OpenLot
-seven_open = OpenLot.Numbered 7
+abbrev pub seven_open : Option ℕ
+seven_open = Some 7
 
 -- 07, clause by clause: what the definitions of a message's place give. The rows of calls below, and those of Order, Known and Runs, cite the
 -- definitions.

@@ -4,12 +4,13 @@ use mathlib.Core.Path.{◌≡◌, refl, ap, sym, ◌∙◌}
 use mathlib.Core.Bool.{Bool, true, false, not, ◌&&◌, cond, or-true}
 use mathlib.Core.List.{List, [], ◌∷◌}
 use mathlib.Core.Logic.{inl}
-use mathlib.Core.Option.{Option, some, none-ne-some, some-injective}
 use Prim.Native.Nat.{ℕ, suc}
 use native.Mathlib.Omega.{arith}
 use lib.ListN.{length, take}
 use lib.Seq.{sets}
 use borrow.Author.Tests.{eq-eqb, ne_eqb, le-ltb}
+use Rattle.std.specs.Prelude.{Option, Some}
+use Rattle.std.proofs.lemmas.Option.{none-some, same_Some}
 use Rattle.codes.specs.Body.{operation_of}
 use Rattle.codes.specs.Chain.{◌when◌}
 use Rattle.codes.proofs.Laws.Chain.{goes_on, holds}
@@ -61,7 +62,7 @@ awaits (Entry.detail ds) b = refl
 awaits Entry.lot_total b = refl
 awaits Entry.session_total b = refl
 
-module _ (w : World) (all : Whole w) (p : End) (m : Waiting) (waiting : (presenter_ledger_at p w.trace).waiting ≡ some m) where
+module _ (w : World) (all : Whole w) (p : End) (m : Waiting) (waiting : (presenter_ledger_at p w.trace).waiting ≡ Some m) where
   abbrev e : Engine
   e = w.engine p
 
@@ -106,7 +107,7 @@ module _ (w : World) (all : Whole w) (p : End) (m : Waiting) (waiting : (present
         kept_by t n = ap (λ (t : Bool). (cond t (after_new there (body_of bytes) h) (after_repeat there h)).session.receiving.reply.operation) n
 
         go : Link e.session.presenting f.session.receiving bp.waiting bp.ledger br.ledger → Heard
-        go (Link.idle s n b) = absurd (none-ne-some m (sym s ∙ waiting))
+        go (Link.idle s n b) = absurd (none-some m (sym s ∙ waiting))
         go (Link.sent c s n b) =
             let next : is_next bytes last ≡ true = eq-eqb (serial_of bytes) (suc last) (found.numbered ∙ n) in
             record { expected = next_expected bytes last next; operation = kept_by true next ∙ reply_entry (body_of bytes) ∙ ap reply_for_read found.reads }
@@ -115,7 +116,7 @@ module _ (w : World) (all : Whole w) (p : End) (m : Waiting) (waiting : (present
             let next : is_next bytes last ≡ false = ne_eqb (serial_of bytes) (suc last) (λ (z : serial_of bytes ≡ suc last). omega arith) in
             record {
               expected = again_expected bytes last again;
-              operation = kept_by false next ∙ o ∙ ap (λ (x : Waiting). reply_for x.entry) (some-injective c m (sym s ∙ waiting));
+              operation = kept_by false next ∙ o ∙ ap (λ (x : Waiting). reply_for x.entry) (same_Some c m (sym s ∙ waiting));
             }
 
     unrefused : receive_refusal there bytes (length line) f.session ≡ 0

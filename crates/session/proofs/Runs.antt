@@ -10,6 +10,7 @@ use lib.Dec.{eqb}
 use lib.IntN.{pos, neg_ℤ}
 use lib.ListN.{replicate}
 use borrow.Author.Tests.{eqb-true}
+use Rattle.std.specs.Prelude.{Some}
 use Rattle.packed.specs.Part.{byte_at}
 use Rattle.packed.proofs.Laws.Told.{both}
 use Rattle.amounts.specs.Totals.{totals, zeros}
@@ -21,7 +22,6 @@ use Rattle.document.specs.Operation.{presented, returned}
 use Rattle.message.specs.declared.envelope.Kind.{Kind}
 use Rattle.message.specs.Envelope.{kind_byte}
 use Rattle.session.specs.declared.running.Running.{Running}
-use Rattle.session.specs.declared.counters.OpenLot.{OpenLot}
 use Rattle.session.specs.declared.report.Tally.{Tally}
 use Rattle.session.specs.declared.report.Awaited.{Awaited}
 use Rattle.session.specs.declared.report.Positions.{Positions}
@@ -268,7 +268,7 @@ for_nothing = Sent.detail 30 (cheque 81 72 0 30)
 
 -- the code of a lot total that no detail came before
 abbrev no_detail : ℕ
-no_detail = lot_total_sequence false 7 (OpenLot.Numbered 7) empty
+no_detail = lot_total_sequence false 7 (Some 7) empty
 
 abbrev again : List Step
 again =

@@ -1,7 +1,6 @@
 -- Demand 3, 01's 'Both ends together': what holds of a direction, in which one end presents and the other receives, after any list of calls.
 -- The theorem is `agreement` of proofs/Agreement. docs/AGREEMENT.md leads from the demand's sentences to the fields.
-use Rattle.std.specs.Prelude.{ℕ, suc, ◌≡◌, List, [], ◌∷◌, ◌++◌}
-use Rattle.std.proofs.Math.Option.{some}
+use Rattle.std.specs.Prelude.{ℕ, suc, ◌≡◌, List, [], ◌∷◌, ◌++◌, Some}
 use Rattle.session.specs.declared.counters.Lot.{Lot}
 use Rattle.session.specs.declared.report.Tally.{Tally}
 use Rattle.session.specs.declared.report.Awaited.{Awaited}
@@ -39,7 +38,7 @@ Level w p = counted w p ≡ confirmed w p
 
 -- a lot is the presenter's open one, document by document, and its report names it
 pub record Named (w : World) (p : End) (lot : LedgerLot) : Type 0 where
-  pub unconfirmed : (presenter_ledger_at p w.trace).ledger.current ≡ some lot
+  pub unconfirmed : (presenter_ledger_at p w.trace).ledger.current ≡ Some lot
   pub shown : (report_at w p).awaited ≡ Awaited.LotTotal (lot_sum lot)
 
 -- what the receiver has counted beyond the confirmed lots: nothing, or exactly the named one

@@ -1,6 +1,5 @@
 -- 01, 'Course of a direction': how counters move when the reply to a message is known, at either end.
-use Rattle.std.specs.Prelude.{ℕ, suc, Bool, true, false, List, set}
-use Rattle.session.specs.declared.counters.OpenLot.{OpenLot}
+use Rattle.std.specs.Prelude.{ℕ, suc, Bool, true, false, List, set, Option, Some, None}
 use Rattle.session.specs.declared.counters.Lot.{Lot}
 use Rattle.session.specs.declared.counters.Counters.{Counters}
 use Rattle.session.specs.declared.counters.Course.{Course}
@@ -13,22 +12,22 @@ abbrev pub course : Counters → Running → Course
 course c t = record { counters = c; running = t }
 
 -- the same with another lot open, or none
-abbrev pub reopened : OpenLot → Counters → Counters
+abbrev pub reopened : Option ℕ → Counters → Counters
 reopened lot c = record { current = lot; lots = c.lots; gathered = c.gathered }
 
 -- with one more lot that was accepted, and none open
 abbrev pub one_more_lot : Lot → Counters → Counters
-one_more_lot l c = record { current = OpenLot.None; lots = suc c.lots; gathered = gather c.gathered l.gathered }
+one_more_lot l c = record { current = None; lots = suc c.lots; gathered = gather c.gathered l.gathered }
 
 -- what a message does to its direction, by whether its reply is 00
 unfoldable pub advance : Effect → (accepted : Bool) → Course → Course
 -- a header opens its lot
-advance (Effect.Header number) true k = record { counters = reopened (OpenLot.Numbered number) k.counters; running = empty }
+advance (Effect.Header number) true k = record { counters = reopened (Some number) k.counters; running = empty }
 -- a detail adds its documents
 advance (Effect.Detail more) true k = record { counters = k.counters; running = gather k.running more }
 -- a lot total counts the lot, or ends it as not transmitted
 advance (Effect.LotTotal lot) true k = record { counters = one_more_lot lot k.counters; running = empty }
-advance (Effect.LotTotal lot) false k = record { counters = reopened OpenLot.None k.counters; running = empty }
+advance (Effect.LotTotal lot) false k = record { counters = reopened None k.counters; running = empty }
 -- nothing else moves
 advance (Effect.Header number) false k = k
 advance (Effect.Detail more) false k = k

@@ -1,7 +1,6 @@
 -- 01, 'Both ends together': when a message is entered into the ledgers of a direction, at its presenter and at its receiver. All that decides it are
 -- arguments of calls, refusals and reply codes, never a session.
-use Rattle.std.specs.Prelude.{ℕ, Bool, true, false, ◌&&◌, cond, List, [], ◌∷◌, eqb}
-use Rattle.std.proofs.Math.Option.{Option, none, some}
+use Rattle.std.specs.Prelude.{ℕ, Bool, true, false, ◌&&◌, cond, List, [], ◌∷◌, eqb, Option, Some, None}
 use Rattle.packed.specs.Every.{member}
 use Rattle.message.specs.Envelope.{serial_of, body_of}
 use Rattle.session.specs.declared.report.Awaited.{Awaited}
@@ -22,20 +21,20 @@ pub record PresenterLedger : Type 0 where
 
 -- before any call
 abbrev pub unpresented : PresenterLedger
-unpresented = record { ledger = blank; waiting = none }
+unpresented = record { ledger = blank; waiting = None }
 
 -- an unrefused send waits
 abbrev pub waiting_for : Entry → (written : List ℕ) → PresenterLedger → PresenterLedger
-waiting_for e written b = record { ledger = b.ledger; waiting = some (record { entry = e; message = written }) }
+waiting_for e written b = record { ledger = b.ledger; waiting = Some (record { entry = e; message = written }) }
 
 -- what waits is entered, with the code read
 abbrev pub enter_waiting : (accepted : Bool) → Option Waiting → Ledger → Ledger
-enter_waiting accepted none b = b
-enter_waiting accepted (some m) b = enter m.entry accepted b
+enter_waiting accepted None b = b
+enter_waiting accepted (Some m) b = enter m.entry accepted b
 
 -- and waits no longer
 abbrev pub answered_with : (accepted : Bool) → PresenterLedger → PresenterLedger
-answered_with accepted b = record { ledger = enter_waiting accepted b.waiting b.ledger; waiting = none }
+answered_with accepted b = record { ledger = enter_waiting accepted b.waiting b.ledger; waiting = None }
 
 -- what an unrefused call does there; what it wrote waits, and enters no ledger
 abbrev pub presenter_enters : Call → (written : List ℕ) → PresenterLedger → PresenterLedger
@@ -85,8 +84,8 @@ receiver_ledger_at x (e ∷ earlier) = cond (is_entered x e) (receiver_enters e.
 
 -- the open lot as a report names it
 abbrev pub named_lot : Option LedgerLot → Awaited
-named_lot none = Awaited.Neither
-named_lot (some l) = Awaited.LotTotal (lot_sum l)
+named_lot None = Awaited.Neither
+named_lot (Some l) = Awaited.LotTotal (lot_sum l)
 
 -- by what waits: a lot total the open lot, a session total itself
 abbrev pub named_by : Entry → Option LedgerLot → Awaited
@@ -96,8 +95,8 @@ named_by (Entry.header number) current = Awaited.Neither
 named_by (Entry.detail ds) current = Awaited.Neither
 
 abbrev pub awaited_by : Option Waiting → Option LedgerLot → Awaited
-awaited_by none current = Awaited.Neither
-awaited_by (some m) current = named_by m.entry current
+awaited_by None current = Awaited.Neither
+awaited_by (Some m) current = named_by m.entry current
 
 -- what a report has to name
 abbrev pub to_be_named : PresenterLedger → Awaited

@@ -1,6 +1,5 @@
 -- 01, 'Both ends together': a ledger, 01's book, how a message is entered, and the counts and sums over it. Each direction has one at each end.
-use Rattle.std.specs.Prelude.{ℕ, ◌≡◌, Bool, true, false, List, [], ◌∷◌, ◌++◌, map, length}
-use Rattle.std.proofs.Math.Option.{Option, none, some}
+use Rattle.std.specs.Prelude.{ℕ, ◌≡◌, Bool, true, false, List, [], ◌∷◌, ◌++◌, map, length, Option, Some, None}
 use Rattle.packed.specs.Writing.{packed_byte}
 use Rattle.codes.specs.Body.{operation_of}
 use Rattle.packed.specs.Every.{member}
@@ -32,7 +31,7 @@ pub record Ledger : Type 0 where
 
 -- 'at first empty and none'
 abbrev pub blank : Ledger
-blank = record { lots = []; current = none }
+blank = record { lots = []; current = None }
 
 -- a message as the ledger sees it
 pub data Entry : Type 0 where
@@ -43,22 +42,22 @@ pub data Entry : Type 0 where
 
 -- the open lot with more documents
 abbrev pub longer : List Document → Option LedgerLot → Option LedgerLot
-longer ds none = none
-longer ds (some l) = some (record { number = l.number; documents = l.documents ++ ds })
+longer ds None = None
+longer ds (Some l) = Some (record { number = l.number; documents = l.documents ++ ds })
 
 -- the list with the open lot at its end
 abbrev pub moved : List LedgerLot → Option LedgerLot → List LedgerLot
-moved lots none = lots
-moved lots (some l) = lots ++ l ∷ []
+moved lots None = lots
+moved lots (Some l) = lots ++ l ∷ []
 
 -- a message with the code that was replied, or read
 unfoldable pub enter : Entry → (accepted : Bool) → Ledger → Ledger
 -- on 00
-enter (Entry.header number) true b = record { lots = b.lots; current = some (record { number = number; documents = [] }) }
+enter (Entry.header number) true b = record { lots = b.lots; current = Some (record { number = number; documents = [] }) }
 enter (Entry.detail ds) true b = record { lots = b.lots; current = longer ds b.current }
-enter Entry.lot_total true b = record { lots = moved b.lots b.current; current = none }
+enter Entry.lot_total true b = record { lots = moved b.lots b.current; current = None }
 -- on another code
-enter Entry.lot_total false b = record { lots = b.lots; current = none }
+enter Entry.lot_total false b = record { lots = b.lots; current = None }
 -- else the ledger stays
 enter (Entry.header number) false b = b
 enter (Entry.detail ds) false b = b
@@ -66,8 +65,8 @@ enter Entry.session_total accepted b = b
 
 -- the same of a body that was read: one that is no message enters nothing
 abbrev pub enter_read : Option Entry → (accepted : Bool) → Ledger → Ledger
-enter_read none accepted b = b
-enter_read (some e) accepted b = enter e accepted b
+enter_read None accepted b = b
+enter_read (Some e) accepted b = enter e accepted b
 
 -- documents of one operation
 abbrev pub of_operation : (operation : ℕ) → List (List ℕ) → List Document
@@ -82,11 +81,11 @@ sent_entry Send.session_total = Entry.session_total
 
 -- and what a received body is entered as, by its content
 unfoldable pub received_entry : Content → (body : List ℕ) → Option Entry
-received_entry Content.Header body = some (Entry.header (header_of body).number)
-received_entry Content.Detail body = some (Entry.detail (of_operation (operation_of body) (documents body)))
-received_entry Content.LotTotal body = some Entry.lot_total
-received_entry Content.SessionTotal body = some Entry.session_total
-received_entry Content.Unknown body = none
+received_entry Content.Header body = Some (Entry.header (header_of body).number)
+received_entry Content.Detail body = Some (Entry.detail (of_operation (operation_of body) (documents body)))
+received_entry Content.LotTotal body = Some Entry.lot_total
+received_entry Content.SessionTotal body = Some Entry.session_total
+received_entry Content.Unknown body = None
 
 -- which its operation tells
 abbrev pub body_entry : (body : List ℕ) → Option Entry

@@ -1,8 +1,6 @@
 -- 01, 'Given because of the input': what a call is lent and what it leaves, refused or not.
 use Rattle.std.specs.Prelude.{ℕ, zero, suc, Bool, List, ltb, length}
 use Rattle.std.proofs.lemmas.List.Edits.{sets}
-use Rattle.codes.specs.Refusal.{refusal_number}
-use Rattle.session.specs.declared.session.Answer.{Answer}
 use Rattle.session.specs.declared.session.Presenting.{Presenting}
 use Rattle.session.specs.declared.session.Receiving.{Receiving}
 use Rattle.session.specs.declared.session.Session.{Session}
@@ -22,11 +20,6 @@ pub record Outcome : Type 0 where
   pub number : ℕ
   pub written : ℕ
   pub left : Held
-
--- the paper's number of an answer
-abbrev pub answer_number : Answer → ℕ
-answer_number Answer.Done = 0
-answer_number (Answer.Refused r) = refusal_number r
 
 -- 'A refused call gives its number and changes nothing'
 abbrev pub refused : ℕ → Held → Outcome

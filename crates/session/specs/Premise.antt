@@ -1,9 +1,8 @@
 -- The one premise of a call (01, 'Centres and directions'): the state and the running totals are those that a start and the calls since
 -- have left. A start gives it and every call keeps it, both by contract. It says nothing that a partner could break.
-use Rattle.std.specs.Prelude.{ℕ, ◌*◌, ◌≤◌, ◌<◌, ◌≡◌, true, length}
+use Rattle.std.specs.Prelude.{ℕ, ◌*◌, ◌≤◌, ◌<◌, ◌≡◌, true, length, Option, Some, None}
 use Rattle.document.specs.Limits.{largest_entity, most_represented, largest_nominal, largest_commission}
 use Rattle.message.specs.Limits.{largest_serial, largest_order_number}
-use Rattle.session.specs.declared.counters.OpenLot.{OpenLot}
 use Rattle.session.specs.declared.counters.Counters.{Counters}
 use Rattle.session.specs.declared.effect.Effect.{Effect}
 use Rattle.session.specs.declared.parties.Parties.{Parties}
@@ -21,9 +20,9 @@ pub record Fits (most : ℕ) (r : Running) : Type 0 where
   pub commission : (stated r).commission.0 ≤ documents_in r * largest_commission
 
 -- an open lot has an order number, and room among the accepted ones
-abbrev pub OpenSound : OpenLot → (lots : ℕ) → Type 0
-OpenSound OpenLot.None lots = Unit {0}
-OpenSound (OpenLot.Numbered n) lots = (n ≤ largest_order_number) × (lots < most_lots)
+abbrev pub OpenSound : Option ℕ → (lots : ℕ) → Type 0
+OpenSound None lots = Unit {0}
+OpenSound (Some n) lots = (n ≤ largest_order_number) × (lots < most_lots)
 
 -- counters within the limits of a direction
 pub record CountersSound (c : Counters) : Type 0 where
@@ -36,7 +35,7 @@ abbrev pub PendingSound : Effect → Counters → Type 0
 PendingSound Effect.Nothing c = Unit {0}
 PendingSound (Effect.Header n) c = (n ≤ largest_order_number) × (c.lots < most_lots)
 PendingSound (Effect.Detail more) c = is_open c.current ≡ true
-PendingSound (Effect.LotTotal lot) c = c.current ≡ OpenLot.Numbered lot.number
+PendingSound (Effect.LotTotal lot) c = c.current ≡ Some lot.number
 PendingSound Effect.SessionTotal c = Unit {0}
 
 -- numbers within the limits of a start

@@ -1,7 +1,6 @@
 -- Demand 3 ends with what follows if a lot's total and then its reply still get through. Here stands that they can: whatever waits for its reply
 -- after any list of calls can still be answered, whether the other end has taken it or not. The theorem is `recovery` of proofs/Recovery.
-use Rattle.std.specs.Prelude.{ℕ, ◌≤◌, ◌≡◌, List, [], ◌∷◌, length}
-use Rattle.std.proofs.Math.Option.{some}
+use Rattle.std.specs.Prelude.{ℕ, ◌≤◌, ◌≡◌, List, [], ◌∷◌, length, Some}
 use Rattle.message.specs.Limits.{reply_room}
 use Rattle.session.specs.declared.report.Awaited.{Awaited}
 use Rattle.session.specs.Time.{time_refusal}
@@ -48,7 +47,7 @@ pub record Allowing (w : World) (p : End) (there here : ℕ) (line : List ℕ) :
 
 -- then these two calls settle whatever waits at an end
 abbrev pub CanBeAnswered : World → (p : End) → Type 0
-CanBeAnswered w p = (m : Waiting) → (presenter_ledger_at p w.trace).waiting ≡ some m → (there here : ℕ) (line : List ℕ) → Allowing w p there here line → Settles w p (delivery_and_reply w p m.message there here line)
+CanBeAnswered w p = (m : Waiting) → (presenter_ledger_at p w.trace).waiting ≡ Some m → (there here : ℕ) (line : List ℕ) → Allowing w p there here line → Settles w p (delivery_and_reply w p m.message there here line)
 
 -- so it is after any list of calls, at both ends
 abbrev pub WhatWaitsCanBeAnswered : Type 0

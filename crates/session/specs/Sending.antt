@@ -1,5 +1,5 @@
 -- 01, 'Course of a direction' and 'Order, first that applies': the four calls that send a message.
-use Rattle.std.specs.Prelude.{ℕ, suc, ◌+◌, Bool, true, false, not, List, leb, length}
+use Rattle.std.specs.Prelude.{ℕ, suc, ◌+◌, Bool, true, false, not, List, leb, length, Option, Some, None}
 use Rattle.packed.specs.Writing.{packed_byte}
 use Rattle.codes.specs.Chain.{◌when◌, ◌orelse◌}
 use Rattle.detail.specs.Codes.{presenter_code}
@@ -8,7 +8,6 @@ use Rattle.message.specs.declared.envelope.Envelope.{Envelope}
 use Rattle.message.specs.Limits.{largest_serial}
 use Rattle.message.specs.Header.{header_sendable}
 use Rattle.message.specs.Line.{Body, body_bytes, whole_message}
-use Rattle.session.specs.declared.counters.OpenLot.{OpenLot}
 use Rattle.session.specs.declared.counters.Lot.{Lot}
 use Rattle.session.specs.declared.counters.Counters.{Counters}
 use Rattle.session.specs.declared.effect.Effect.{Effect}
@@ -95,9 +94,9 @@ unfoldable pub session_total_stop : Presenting → ℕ
 session_total_stop p = session_total_sequence p.ended p.counters.current
 
 -- the number of the open lot; 0 where there is none, and then no total is sent
-abbrev pub open_number : OpenLot → ℕ
-open_number OpenLot.None = 0
-open_number (OpenLot.Numbered n) = n
+abbrev pub open_number : Option ℕ → ℕ
+open_number None = 0
+open_number (Some n) = n
 
 -- the lot that a total of the presenter ends: the open one, with what it gathered
 abbrev pub ending_lot : Counters → Running → Lot

@@ -1,9 +1,9 @@
 -- 01, 'Centres and directions': the start of a session.
-use Rattle.std.specs.Prelude.{ℕ, false, not, cond, List, replicate}
+use Rattle.std.specs.Prelude.{ℕ, false, not, cond, List, replicate, None}
+use Rattle.codes.specs.Answer.{answer_number}
 use Rattle.codes.specs.Chain.{◌when◌}
 use Rattle.codes.specs.declared.code.Code.{Code}
 use Rattle.message.specs.declared.reply.ReplyOperation.{ReplyOperation}
-use Rattle.session.specs.declared.counters.OpenLot.{OpenLot}
 use Rattle.session.specs.declared.counters.Counters.{Counters}
 use Rattle.session.specs.declared.effect.Effect.{Effect}
 use Rattle.session.specs.declared.parties.Parties.{Parties}
@@ -13,13 +13,12 @@ use Rattle.session.specs.declared.session.Receiving.{Receiving}
 use Rattle.session.specs.declared.session.Session.{Session}
 use Rattle.session.specs.declared.session.Started.{Started}
 use Rattle.session.specs.Limits.{most_lots}
-use Rattle.session.specs.Outcome.{answer_number}
 use Rattle.session.specs.Parties.{parties_good, parties_of, nobody}
 use Rattle.session.specs.Running.{empty}
 
 -- no lot is open, and none accepted
 abbrev pub no_lots : Counters
-no_lots = record { current = OpenLot.None; lots = 0; gathered = empty }
+no_lots = record { current = None; lots = 0; gathered = empty }
 
 -- nothing was sent
 abbrev pub unsent : Presenting

@@ -2,13 +2,6 @@
 use crate::limits::MOST_LOTS;
 use crate::running::Running;
 
-// A lot that is open, by its order number.
-#[derive(Clone, Copy)]
-pub enum OpenLot {
-    None,
-    Numbered(u16),
-}
-
 // A lot by its order number and what it gathered.
 #[derive(Clone, Copy)]
 pub struct Lot {
@@ -16,13 +9,13 @@ pub struct Lot {
     pub gathered: Running,
 }
 
-// The places of the lots that a receiver accepted.
+// The places of the lots that a receiver accepted; its counters say how many are taken. Fixed memory, no heap.
 pub type Lots = [Lot; MOST_LOTS];
 
-// The open lot, how many lots were accepted, and what they gathered together.
+// The order number of the open lot, if one is open, how many lots were accepted, and what they gathered together.
 #[derive(Clone, Copy)]
 pub struct Counters {
-    pub current: OpenLot,
+    pub current: Option<u16>,
     pub lots: usize,
     pub gathered: Running,
 }

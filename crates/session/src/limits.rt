@@ -8,15 +8,11 @@ pub const MOST_LOT_DOCUMENTS: u64 = 2600;
 // The most accepted lots of a direction.
 pub const MOST_LOTS: usize = 64;
 
-// Whether a lot that has gathered so many documents would be too long with so many more. Nothing is added that might not
-// fit, so that it may be asked of any two numbers.
+// Whether a lot that has gathered so many documents would be too long with so many more. It may be asked of any two numbers.
 pub fn passes_lot(gathered: u64, more: u64) -> bool
     ensures { result ≡ passes_lot (gathered + more) }
 {
-    if MOST_LOT_DOCUMENTS < gathered {
-        return true;
-    }
-    MOST_LOT_DOCUMENTS - gathered < more
+    MOST_LOT_DOCUMENTS < gathered.saturating_add(more)
 }
 
 // Whether a direction with so many accepted lots may have no more.

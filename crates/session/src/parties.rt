@@ -6,7 +6,7 @@ ghost use Rattle.session.specs.Parties.{real_date, parties_good, padded, parties
 use document::entities::{LARGEST_ENTITY, MOST_REPRESENTED, entities_good};
 use document::rules::day_and_month;
 
-// The date is the number DDMMYY; of the represented entities the first `count` are meant.
+// The date is the number DDMMYY; of the represented entities the first `count` are meant (fixed memory, no heap).
 #[derive(Clone, Copy)]
 pub struct Parties {
     pub date: u32,
@@ -50,11 +50,7 @@ fn padded(represented: &[u16]) -> [u16; MOST_REPRESENTED]
     ensures { result ≡ padded represented.now }
 {
     let mut places = [0; MOST_REPRESENTED];
-    let mut i: usize = 0;
-    while i < represented.len() {
-        places[i] = represented[i];
-        i += 1;
-    }
+    places[..represented.len()].copy_from_slice(represented);
     places
 }
 
@@ -64,9 +60,9 @@ pub fn parties_of(date: u32, own: u16, partner: u16, represented: &[u16]) -> Par
     ensures { result ≡ parties_of date own partner represented.now }
 {
     Parties {
-        date: date,
-        own: own,
-        partner: partner,
+        date,
+        own,
+        partner,
         represented: padded(represented),
         count: represented.len(),
     }

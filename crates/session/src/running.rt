@@ -25,7 +25,7 @@ pub fn empty() -> Running
 pub fn adding(operation: u8, totals: Totals) -> Running
     ensures { result ≡ adding operation totals }
 {
-    Running { totals: totals }
+    Running { totals }
 }
 
 // The three totals that a message states.
@@ -40,10 +40,8 @@ pub fn gather(running: Running, more: Running) -> Running
     requires { SumFits (stated running) (stated more) }
     ensures { result ≡ gather running more }
 {
-    let these = running.totals;
-    let those = more.totals;
     Running {
-        totals: these.plus(those),
+        totals: running.totals.plus(more.totals),
     }
 }
 

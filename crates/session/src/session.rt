@@ -3,11 +3,12 @@ ghost use Rattle.std.specs.Prelude.{◌≡◌};
 ghost use Rattle.session.specs.Start.{no_lots, unsent, unheard, fresh, start_said, start};
 ghost use Rattle.session.specs.Engine.{with_empty, Ready};
 
-use crate::counters::{Counters, Lot, Lots, OpenLot};
+use crate::counters::{Counters, Lot, Lots};
 use crate::effect::Effect;
 use crate::limits::MOST_LOTS;
 use crate::parties::{Parties, nobody, parties_good, parties_of};
 use crate::running::empty;
+use codes::answer::Answer;
 use codes::code::Code;
 use codes::refusal::Refusal;
 use message::reply::{Reply, ReplyOperation};
@@ -51,14 +52,7 @@ pub struct Session {
     pub close: Close,
 }
 
-// A call is done, or refused.
-#[derive(Clone, Copy)]
-pub enum Answer {
-    Done,
-    Refused(Refusal),
-}
-
-// What a start gives.
+// What a start gives: a session beside 24 too, since `premise` of the start promises one.
 #[derive(Clone, Copy)]
 pub struct Started {
     pub answer: Answer,
@@ -70,7 +64,7 @@ fn no_lots() -> Counters
     ensures { result ≡ no_lots }
 {
     Counters {
-        current: OpenLot::None,
+        current: None,
         lots: 0,
         gathered: empty(),
     }
@@ -113,11 +107,11 @@ fn fresh(parties: Parties, close: Close) -> Session
     ensures { result ≡ fresh parties close }
 {
     Session {
-        parties: parties,
+        parties,
         presenting: unsent(),
         receiving: unheard(),
         seen: 0,
-        close: close,
+        close,
     }
 }
 
@@ -140,12 +134,12 @@ impl Session {
     {
         if parties_good(date, own, partner, represented) {
             return Started {
-                answer: Answer::Done,
+                answer: Ok(()),
                 session: fresh(parties_of(date, own, partner, represented), Close::Open),
             };
         }
         Started {
-            answer: Answer::Refused(Refusal::WrongStart),
+            answer: Err(Refusal::WrongStart),
             session: fresh(nobody(), Close::Forced),
         }
     }

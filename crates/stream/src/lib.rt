@@ -4,7 +4,6 @@
 #![tactic(auto)]
 
 ghost use Rattle.std.specs.Prelude.{◌≡◌, ◌+◌, ◌≤◌, length, take, IfOk, OnErr};
-ghost use Rattle.stream.specs.Stream.{Filled};
 
 use script::play::{Stop, play};
 use script::player::{Player, fresh};
@@ -33,26 +32,6 @@ fn read_more(script: &mut impl Read, input: &mut [u8], filled: usize) -> io::Res
     script.read(&mut input[filled..])
 }
 
-// Moves what stands between two places to the start.
-fn shift(input: &mut [u8], from: usize, to: usize)
-    requires from_le_to { from ≤ to }
-    requires to_in_bounds { to ≤ length input.old }
-{
-    let mut i: usize = 0;
-    while i < to - from {
-        input[i] = input[from + i];
-        i += 1;
-    }
-}
-
-fn is_full(stop: Stop) -> bool {
-    match stop {
-        Stop::Full => true,
-        Stop::Done => false,
-        Stop::Unfinished => false,
-    }
-}
-
 // Plays what waits, answers it, and keeps the rest.
 fn answer(
     rt: &impl Print,
@@ -61,49 +40,41 @@ fn answer(
     output: &mut [u8],
     wire: &mut [u8],
 ) -> io::Result<Stream>
-    requires { Filled (length input.old) s }
-    ensures next { IfOk result (λ next. Filled (length input.old) next) }
+    requires { s.filled ≤ length input.old }
+    ensures next { IfOk result (λ next. next.filled ≤ length input.old) }
     ensures err { OnErr result (input.new ≡ input.old) }
 {
-    let player = s.player;
-    let filled = s.filled;
-    let played = play(player, &input[..filled], s.last, output, wire);
-    let next = played.player;
-    let stop = played.stop;
-    let read = played.read;
-    let written = played.written;
-    rt.write_all(&output[..written])?;
-    shift(input, read, filled);
+    let played = play(s.player, &input[..s.filled], s.last, output, wire);
+    rt.write_all(&output[..played.written])?;
+    input.copy_within(played.read..s.filled, 0);
     Ok(Stream {
-        player: next,
-        filled: filled - read,
+        player: played.player,
+        filled: s.filled - played.read,
         last: s.last,
-        over: s.last & !is_full(stop),
+        over: s.last & !matches!(played.stop, Stop::Full),
     })
 }
 
 // With what has come, as long as there is room; nothing comes at the end of the input.
 fn listen(script: &mut impl Read, s: Stream, input: &mut [u8]) -> io::Result<Stream>
-    requires { Filled (length input.old) s }
-    ensures next { IfOk result (λ next. Filled (length input.old) next) }
+    requires { s.filled ≤ length input.old }
+    ensures next { IfOk result (λ next. next.filled ≤ length input.old) }
     ensures waiting { take s.filled input.new ≡ take s.filled input.old }
 {
-    let player = s.player;
-    let filled = s.filled;
-    if filled == input.len() {
+    if s.filled == input.len() {
         return Ok(s);
     }
-    let came = read_more(script, input, filled)?;
+    let came = read_more(script, input, s.filled)?;
     Ok(Stream {
-        player: player,
-        filled: filled + came,
+        filled: s.filled + came,
         last: s.last | (came == 0),
         over: false,
+        ..s
     })
 }
 
 fn begun() -> Stream
-    ensures { Filled 0 result }
+    ensures { result.filled ≡ 0 }
 {
     Stream {
         player: fresh(),
@@ -122,15 +93,15 @@ fn turn(
     output: &mut [u8],
     wire: &mut [u8],
 ) -> io::Result<Stream>
-    requires { Filled (length input.old) s }
-    ensures next { IfOk result (λ next. Filled (length input.old) next) }
+    requires { s.filled ≤ length input.old }
+    ensures next { IfOk result (λ next. next.filled ≤ length input.old) }
     ensures err { OnErr result (take s.filled input.new ≡ take s.filled input.old) }
 {
     let heard = listen(script, s, input)?;
     answer(rt, heard, input, output, wire)
 }
 
-// A loop has to end, and nothing says that a script does: the turns are counted down from a number that no run uses up.
+// A loop has to end, and nothing says that a script does: there are so many turns that no run uses them up.
 fn run(
     rt: &impl Print,
     script: &mut impl Read,
@@ -139,13 +110,11 @@ fn run(
     wire: &mut [u8],
 ) -> io::Result<()> {
     let mut stream = begun();
-    let mut turns = u64::MAX;
-    while turns > 0 {
+    for _ in 0..u64::MAX {
         stream = turn(rt, script, stream, input, output, wire)?;
         if stream.over {
             return Ok(());
         }
-        turns -= 1;
     }
     Ok(())
 }

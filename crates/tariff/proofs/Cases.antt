@@ -4,20 +4,19 @@ use mathlib.Core.Bool.{true, false}
 use mathlib.Core.List.{List, [], ◌∷◌, ◌++◌, flat_map}
 use Prim.Native.Nat.{ℕ, zero, suc}
 use lib.ListN.{take, drop, set}
-use Rattle.packed.specs.Every.{every, member}
+use Rattle.packed.specs.Every.{every, member, none_twice}
 use Rattle.packed.specs.Digits.{is_digits}
 use Rattle.packed.specs.Number.{byte_value, number}
 use Rattle.packed.specs.Writing.{packed_byte, packed_bytes}
 use Rattle.packed.specs.Pieces.{cut}
 use Rattle.codes.specs.Chain.{◌when◌, ◌orelse◌}
-use Rattle.codes.specs.Numbered.{numbered}
 use Rattle.codes.proofs.Cases.{◌is◌, AllDue}
 use Rattle.document.specs.Operation.{presented}
 use Rattle.document.specs.Fields.{document_fields}
 use Rattle.document.specs.Amounts.{nominal, commission}
-use Rattle.tariff.specs.Tariff.{rows_of, none_twice, good_tariff}
+use Rattle.tariff.specs.Tariff.{rows_of, good_tariff}
 use Rattle.tariff.specs.Rounding.{rounded}
-use Rattle.tariff.specs.Commission.{by_row, searched, rule_of, due, commission_refusal, commissioned}
+use Rattle.tariff.specs.Commission.{by_row, rule_of, due, commission_refusal, commissioned}
 use Rattle.tariff.specs.Tray.{tariff_key_field, tariff_key, document_refusal, first_refusal, good_before, fill_refusal, filled, with_commission, filled_document, tray_after}
 
 -- so many keys with a rate of 0, from the largest down
@@ -92,7 +91,7 @@ halves : AllDue
     ∷ gives smallest 7 5000 0 is 1
     ∷ gives smallest 7 5001 0 is 1
     ∷ [])
-unfolding commissioned commission_refusal good_tariff rows_of none_twice every member cut rule_of searched numbered due by_row rounded ◌when◌ ◌orelse◌ tenth smallest
+unfolding commissioned commission_refusal good_tariff rows_of none_twice every member cut rule_of due by_row rounded ◌when◌ ◌orelse◌ tenth smallest
 halves = refl
 
 commissions : AllDue
@@ -128,7 +127,7 @@ commissions : AllDue
     ∷ gives tenth 7 0 100000000 is 0
     ∷ gives tenth 6 0 5 is 0
     ∷ [])
-unfolding commissioned commission_refusal good_tariff rows_of none_twice every member cut rule_of searched numbered due by_row rounded ◌when◌ ◌orelse◌ tenth bounded whole two bad
+unfolding commissioned commission_refusal good_tariff rows_of none_twice every member cut rule_of due by_row rounded ◌when◌ ◌orelse◌ tenth bounded whole two bad
 commissions = refl
 
 -- a document of this key, nominal and commission
@@ -171,7 +170,7 @@ trays : AllDue
     -- the other bytes are not looked at
     ∷ answer tenth (broken 0 (broken 24 (broken 40 (broken 47 (document 7 30 0))))) is (0 ∷ 1 ∷ [])
     ∷ [])
-unfolding filled fill_refusal first_refusal good_before document_refusal tray_after filled_document with_commission tariff_key nominal commission good_tariff rows_of none_twice every member cut rule_of searched numbered due by_row rounded ◌when◌ ◌orelse◌ is_digits number byte_value packed_bytes packed_byte flat_map tenth whole bad document broken
+unfolding filled fill_refusal first_refusal good_before document_refusal tray_after filled_document with_commission tariff_key nominal commission good_tariff rows_of none_twice every member cut rule_of due by_row rounded ◌when◌ ◌orelse◌ is_digits number byte_value packed_bytes packed_byte flat_map tenth whole bad document broken
 trays = refl
 
 -- the tariff key's field is the row of 01's table, which takes any digits of a presented document

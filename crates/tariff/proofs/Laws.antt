@@ -1,4 +1,5 @@
 pub mod Rows
+pub mod Read
 pub mod Commission
 pub mod Judged
 pub mod Kept

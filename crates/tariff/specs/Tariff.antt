@@ -1,6 +1,6 @@
 -- 02, card 3: a tariff, lent as numbers one behind the other, and when it is good.
-use Rattle.std.specs.Prelude.{ℕ, ◌%◌, Bool, true, not, ◌&&◌, List, [], ◌∷◌, map, eqb, leb, length, get_or}
-use Rattle.packed.specs.Every.{every, member}
+use Rattle.std.specs.Prelude.{ℕ, ◌%◌, Bool, ◌&&◌, List, map, eqb, leb, length, get_or}
+use Rattle.packed.specs.Every.{every, none_twice}
 use Rattle.packed.specs.Pieces.{pieces}
 use Rattle.codes.specs.Field.{between}
 use Rattle.document.specs.Limits.{largest_commission}
@@ -42,12 +42,7 @@ row_good r =
 abbrev pub keys_of : List Row → List ℕ
 keys_of rows = map (λ (r : Row). r.key) rows
 
--- none is there 'twice'
-unfoldable pub none_twice : List ℕ → Bool
-none_twice [] = true
-none_twice (k ∷ ks) = not (member k ks) && none_twice ks
-
--- 42 otherwise: whole rows, at most 20 of them, no key twice, and each row good
+-- 42 otherwise: whole rows, at most 20 of them, no key 'twice', and each row good
 unfoldable pub good_tariff : (tariff : List ℕ) → Bool
 good_tariff tariff =
     whole_rows tariff && leb (length (rows_of tariff)) most_keys && none_twice (keys_of (rows_of tariff)) && every row_good (rows_of tariff)

@@ -1,6 +1,6 @@
 -- Beyond 02's card 3, because a tray has many documents: the code that each document of a tray of presented documents earns, and the
 -- commissions written in place.
-use Rattle.std.specs.Prelude.{ℕ, suc, ◌-◌, ◌≡◌, Bool, true, not, ◌&&◌, cond, eqb, length}
+use Rattle.std.specs.Prelude.{ℕ, suc, ◌-◌, ◌≡◌, Bool, true, not, ◌&&◌, cond, eqb, length, Result, Ok, Err}
 use mathlib.Core.List.{List, [], ◌∷◌, flat_map}
 use Rattle.std.proofs.lemmas.List.Edits.{sets}
 use Rattle.packed.specs.Writing.{packed_bytes}
@@ -12,7 +12,8 @@ use Rattle.document.specs.Drawee.{drawee_served}
 use Rattle.document.specs.Amounts.{nominal, commission}
 use Rattle.document.specs.Part.{is_whole, count_in, documents_of}
 use Rattle.tariff.specs.declared.row.Row.{Row}
-use Rattle.tariff.specs.declared.filled.FillAnswer.{FillAnswer}
+use Rattle.tariff.specs.declared.filled.Earned.{Earned}
+use Rattle.tariff.specs.declared.filled.FillRefusal.{FillRefusal}
 use Rattle.tariff.specs.declared.filled.FillShown.{FillShown}
 use Rattle.tariff.specs.Tariff.{rows_of, good_tariff}
 use Rattle.tariff.specs.Commission.{rule_of, key_known, due, commissioned}
@@ -56,13 +57,13 @@ fill_refusal tariff tray =
     orelse first_refusal (rows_of tariff) (documents_of tray)
 
 -- the number of each answer, and beside it how many documents there are or the place of one
-abbrev pub fill_shown : FillAnswer → FillShown
-fill_shown (FillAnswer.Filled documents) = record { code = 0; documents = documents }
-fill_shown FillAnswer.WrongTariff = record { code = 42; documents = 0 }
-fill_shown FillAnswer.WrongTray = record { code = 25; documents = 0 }
-fill_shown (FillAnswer.WrongKey place) = record { code = 1; documents = place }
-fill_shown (FillAnswer.WrongAmount place) = record { code = 3; documents = place }
-fill_shown (FillAnswer.UnknownKey place) = record { code = 41; documents = place }
+abbrev pub fill_shown : Result ℕ FillRefusal → FillShown
+fill_shown (Ok documents) = record { code = 0; documents = documents }
+fill_shown (Err FillRefusal.WrongTariff) = record { code = 42; documents = 0 }
+fill_shown (Err FillRefusal.WrongTray) = record { code = 25; documents = 0 }
+fill_shown (Err (FillRefusal.Document place Earned.WrongKey)) = record { code = 1; documents = place }
+fill_shown (Err (FillRefusal.Document place Earned.WrongAmount)) = record { code = 3; documents = place }
+fill_shown (Err (FillRefusal.Document place Earned.UnknownKey)) = record { code = 41; documents = place }
 
 -- the answer to a call; documents is 0 beside 42 and 25, else how many come before the first that earns a code
 unfoldable pub filled : (tariff tray : List ℕ) → FillShown

@@ -3,20 +3,18 @@ ghost use Rattle.std.specs.Prelude.{◌≡◌};
 ghost use Rattle.tariff.specs.Commission.{within_limits, commission_shown, commissioned};
 
 use crate::due::due;
-use crate::good::good_tariff;
+use crate::good::read_tariff;
 use crate::row::LARGEST_COMMISSION;
-use crate::search::{is_known, rule_of};
 
-// What the call answers.
-#[derive(Clone, Copy)]
-pub enum CommissionAnswer {
-    Given(u64),
-    WrongTariff,
-    OverLimits,
-    UnknownKey,
+// Why no commission is given, with the paper's numbers.
+#[derive(Clone, Copy, PartialEq, Eq, Debug)]
+pub enum CommissionRefusal {
+    OverLimits = 1,
+    UnknownKey = 41,
+    WrongTariff = 42,
 }
 
-// The same as C has it: the paper's number, and the commission, 0 beside a code.
+// The answer as C has it, which has no Result: the number, and the commission, 0 beside a code.
 #[repr(C)]
 #[derive(Clone, Copy)]
 pub struct CommissionShown {
@@ -24,24 +22,16 @@ pub struct CommissionShown {
     pub commission: u64,
 }
 
-pub fn commission_shown(a: CommissionAnswer) -> CommissionShown
-    ensures { result ≡ commission_shown a }
+pub fn commission_shown(answer: Result<u64, CommissionRefusal>) -> CommissionShown
+    ensures { result ≡ commission_shown answer }
 {
-    match a {
-        CommissionAnswer::Given(commission) => CommissionShown {
+    match answer {
+        Ok(commission) => CommissionShown {
             code: 0,
-            commission: commission,
+            commission,
         },
-        CommissionAnswer::WrongTariff => CommissionShown {
-            code: 42,
-            commission: 0,
-        },
-        CommissionAnswer::OverLimits => CommissionShown {
-            code: 1,
-            commission: 0,
-        },
-        CommissionAnswer::UnknownKey => CommissionShown {
-            code: 41,
+        Err(refusal) => CommissionShown {
+            code: refusal as u8,
             commission: 0,
         },
     }
@@ -54,22 +44,22 @@ const LARGEST_TYPED: u64 = LARGEST_COMMISSION as u64;
 fn within_limits(nominal: u64, typed: u64) -> bool
     ensures { result ≡ within_limits nominal typed }
 {
-    (nominal <= LARGEST_NOMINAL) & (typed <= LARGEST_TYPED)
+    nominal <= LARGEST_NOMINAL && typed <= LARGEST_TYPED
 }
 
 // The commission of a document with this key and nominal; `typed` is kept where the key is 0.
-pub fn commission(tariff: &[u32], key: u32, nominal: u64, typed: u64) -> CommissionAnswer
+pub fn commission(
+    tariff: &[u32],
+    key: u32,
+    nominal: u64,
+    typed: u64,
+) -> Result<u64, CommissionRefusal>
     ensures { commission_shown result ≡ commissioned tariff.now key nominal typed }
 {
-    if good_tariff(tariff) {
-        if within_limits(nominal, typed) {
-            let rule = rule_of(tariff, key);
-            if is_known(rule) {
-                return CommissionAnswer::Given(due(rule, nominal, typed));
-            }
-            return CommissionAnswer::UnknownKey;
-        }
-        return CommissionAnswer::OverLimits;
+    let tariff = read_tariff(tariff).ok_or(CommissionRefusal::WrongTariff)?;
+    if !within_limits(nominal, typed) {
+        return Err(CommissionRefusal::OverLimits);
     }
-    CommissionAnswer::WrongTariff
+    let rule = tariff.rule_of(key).ok_or(CommissionRefusal::UnknownKey)?;
+    Ok(due(Some(rule), nominal, typed))
 }

@@ -1,19 +1,26 @@
 // What became of a tray.
-ghost use Rattle.std.specs.Prelude.{◌≡◌, eqb};
+ghost use Rattle.std.specs.Prelude.{◌≡◌};
 ghost use Rattle.tariff.specs.Tray.{fill_shown};
 
-// How many documents were filled, or what stopped the call; of a document its place, counted from 0.
-#[derive(Clone, Copy)]
-pub enum FillAnswer {
-    Filled(u64),
-    WrongTariff,
-    WrongTray,
-    WrongKey(u64),
-    WrongAmount(u64),
-    UnknownKey(u64),
+// What a document earns, with the paper's numbers.
+#[derive(Clone, Copy, PartialEq, Eq, Debug)]
+pub enum Earned {
+    WrongKey = 1,
+    WrongAmount = 3,
+    UnknownKey = 41,
 }
 
-// The same as C has it: the paper's number, and the documents, 0 beside 42 and 25.
+// Why no document was filled: a tariff or a tray that is not good, or the first document that earns something, by its
+// place from 0.
+#[derive(Clone, Copy, PartialEq, Eq, Debug)]
+pub enum FillRefusal {
+    WrongTariff,
+    WrongTray,
+    Document(u64, Earned),
+}
+
+// The answer as C has it, which has no Result: the paper's number, and how many documents were filled or the place of one,
+// 0 beside 42 and 25.
 #[repr(C)]
 #[derive(Clone, Copy)]
 pub struct FillShown {
@@ -21,40 +28,14 @@ pub struct FillShown {
     pub documents: u64,
 }
 
-pub fn fill_shown(a: FillAnswer) -> FillShown
-    ensures { result ≡ fill_shown a }
+pub fn fill_shown(answer: Result<u64, FillRefusal>) -> FillShown
+    ensures { result ≡ fill_shown answer }
 {
-    match a {
-        FillAnswer::Filled(documents) => FillShown {
-            code: 0,
-            documents: documents,
-        },
-        FillAnswer::WrongTariff => FillShown {
-            code: 42,
-            documents: 0,
-        },
-        FillAnswer::WrongTray => FillShown {
-            code: 25,
-            documents: 0,
-        },
-        FillAnswer::WrongKey(place) => FillShown {
-            code: 1,
-            documents: place,
-        },
-        FillAnswer::WrongAmount(place) => FillShown {
-            code: 3,
-            documents: place,
-        },
-        FillAnswer::UnknownKey(place) => FillShown {
-            code: 41,
-            documents: place,
-        },
-    }
-}
-
-pub fn is_filled(a: FillAnswer) -> bool
-    ensures { result ≡ eqb (fill_shown a).code 0 }
-{
-    let shown = fill_shown(a);
-    shown.code == 0
+    let (code, documents) = match answer {
+        Ok(documents) => (0, documents),
+        Err(FillRefusal::WrongTariff) => (42, 0),
+        Err(FillRefusal::WrongTray) => (25, 0),
+        Err(FillRefusal::Document(place, earned)) => (earned as u8, place),
+    };
+    FillShown { code, documents }
 }

@@ -1,6 +1,6 @@
 // A row of a tariff: a key, and what commission its documents bear.
-ghost use Rattle.std.specs.Prelude.{◌≡◌, length};
-ghost use Rattle.tariff.specs.Tariff.{row_numbers, row_in, row_good};
+ghost use Rattle.std.specs.Prelude.{◌≡◌};
+ghost use Rattle.tariff.specs.Tariff.{row_in, row_good};
 
 // The numbers of a row.
 pub const ROW_NUMBERS: usize = 4;
@@ -12,7 +12,7 @@ const LARGEST_RATE: u32 = 10_000;
 pub const LARGEST_COMMISSION: u32 = 99_999_999;
 
 // The rate is per ten thousand; least and greatest bound the commission.
-#[derive(Clone, Copy)]
+#[derive(Clone, Copy, PartialEq, Eq, Debug)]
 pub struct Row {
     pub key: u32,
     pub rate: u32,
@@ -21,24 +21,27 @@ pub struct Row {
 }
 
 // The row that four numbers make up.
-pub fn row_in(numbers: &[u32]) -> Row
-    requires { length numbers.now ≡ row_numbers }
-    ensures { result ≡ row_in numbers.now }
-{
-    Row {
-        key: numbers[0],
-        rate: numbers[1],
-        least: numbers[2],
-        greatest: numbers[3],
+impl From<[u32; ROW_NUMBERS]> for Row {
+    ghost from_gives = { λ numbers row. row ≡ row_in numbers };
+
+    fn from(numbers: [u32; ROW_NUMBERS]) -> Self {
+        let [key, rate, least, greatest] = numbers;
+        Row {
+            key,
+            rate,
+            least,
+            greatest,
+        }
     }
 }
 
-pub fn row_good(row: Row) -> bool
-    ensures { result ≡ row_good row }
-{
-    (1 <= row.key)
-        & (row.key <= LARGEST_KEY)
-        & (row.rate <= LARGEST_RATE)
-        & (row.least <= row.greatest)
-        & (row.greatest <= LARGEST_COMMISSION)
+impl Row {
+    pub fn is_good(self) -> bool
+        ensures { result ≡ row_good self }
+    {
+        (1..=LARGEST_KEY).contains(&self.key)
+            && self.rate <= LARGEST_RATE
+            && self.least <= self.greatest
+            && self.greatest <= LARGEST_COMMISSION
+    }
 }

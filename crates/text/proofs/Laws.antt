@@ -1,6 +1,4 @@
 -- One file a notion.
-pub mod Told
-pub mod Digit
 pub mod Run
 pub mod Word
 pub mod Number
@@ -8,5 +6,4 @@ pub mod Got
 pub mod Hex
 pub mod Memory
 pub mod Held
-pub mod Kind
 pub mod Line

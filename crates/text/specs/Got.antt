@@ -1,21 +1,15 @@
 -- Bytes that were read into a buffer, if they were.
-use Rattle.std.specs.Prelude.{ℕ, Bool, true, false, cond, List, [], leb, length, take}
-use Rattle.text.specs.declared.hex.Bytes.{Bytes}
+use Rattle.std.specs.Prelude.{ℕ, Option, Some, None, cond, List, leb, length, take}
 
-pub record Got : Type 0 where
-  pub good : Bool
-  pub bytes : List ℕ
-
-abbrev pub none : Got
-none = record { good = false; bytes = [] }
-
-abbrev pub got : List ℕ → Got
-got bytes = record { good = true; bytes = bytes }
+abbrev pub Got : Type 0
+Got = Option (List ℕ)
 
 -- if no more are got than fit
 unfoldable pub fitting : (most : ℕ) → Got → Got
-fitting most g = cond (leb (length g.bytes) most) g none
+fitting most None = None
+fitting most (Some bytes) = cond (leb (length bytes) most) (Some bytes) None
 
--- what a function says it read, by the buffer that it leaves
-abbrev pub got_of : Bytes → (buffer : List ℕ) → Got
-got_of r buffer = record { good = r.good; bytes = take r.count buffer }
+-- what a function says it read, by the buffer that it leaves: its first bytes, so many
+abbrev pub got_of : Option ℕ → (buffer : List ℕ) → Got
+got_of None buffer = None
+got_of (Some count) buffer = Some (take count buffer)

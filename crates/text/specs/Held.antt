@@ -1,9 +1,9 @@
 -- What the memory holds: bytes that were written, each with its number, in the order of the calls; and how the lent bytes hold them.
-use Rattle.std.specs.Prelude.{ℕ, ◌+◌, ◌*◌, ◌-◌, ◌^◌, ◌≤◌, ◌<◌, ◌≡◌, Bool, ◌&&◌, cond, List, [], ◌∷◌, ◌++◌, eqb, leb, ltb, length}
+use Rattle.std.specs.Prelude.{ℕ, ◌+◌, ◌*◌, ◌-◌, ◌^◌, ◌≤◌, ◌<◌, ◌≡◌, Bool, ◌&&◌, Some, None, cond, List, [], ◌∷◌, ◌++◌, eqb, leb, ltb, length}
 use Rattle.packed.specs.Part.{part}
 use Rattle.packed.specs.Writing.{packed_bytes}
 use Rattle.text.specs.declared.wire.Memory.{Memory}
-use Rattle.text.specs.Got.{Got, none, got}
+use Rattle.text.specs.Got.{Got}
 use Rattle.text.specs.Memory.{contents_bytes, most_entries, wire_bytes}
 
 pub record Written : Type 0 where
@@ -12,8 +12,8 @@ pub record Written : Type 0 where
 
 -- what was written under a number, if it is held
 unfoldable pub held_under : List Written → ℕ → Got
-held_under [] wanted = none
-held_under (w ∷ ws) wanted = cond (eqb w.number wanted) (got w.bytes) (held_under ws wanted)
+held_under [] wanted = None
+held_under (w ∷ ws) wanted = cond (eqb w.number wanted) (Some w.bytes) (held_under ws wanted)
 
 -- all bytes, one after another
 unfoldable pub contents : List Written → List ℕ

@@ -1,10 +1,10 @@
 -- Bytes as text, two hexadecimal digits each, the high half first.
-use Rattle.std.specs.Prelude.{ℕ, ◌+◌, ◌*◌, ◌/◌, ◌%◌, Bool, ◌&&◌, cond, List, [], ◌∷◌, ltb, eqb, length}
+use Rattle.std.specs.Prelude.{ℕ, ◌+◌, ◌*◌, ◌/◌, ◌%◌, Bool, ◌&&◌, Some, None, cond, List, [], ◌∷◌, ltb, eqb, length}
 use Rattle.packed.specs.Every.{every}
 use Rattle.text.specs.Ascii.{ascii}
 use Rattle.text.specs.Digit.{digit_value, is_hexadecimal}
 use Rattle.text.specs.Word.{equal_bytes}
-use Rattle.text.specs.Got.{Got, none, got}
+use Rattle.text.specs.Got.{Got}
 
 -- the character of a half of a byte: 0 to 9, then a to f
 abbrev pub hex_digit : ℕ → ℕ
@@ -28,5 +28,5 @@ is_paired count = ltb 0 count && eqb (count % 2) 0
 -- a word as bytes: digits, or `-` for no bytes at all
 unfoldable pub hex_word : List ℕ → Got
 hex_word w =
-    cond (equal_bytes w (ascii "-")) (got [])
-    (cond (is_paired (length w)) (cond (every is_hexadecimal w) (got (hex_bytes w)) none) none)
+    cond (equal_bytes w (ascii "-")) (Some [])
+    (cond (is_paired (length w)) (cond (every is_hexadecimal w) (Some (hex_bytes w)) None) None)

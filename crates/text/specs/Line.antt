@@ -1,16 +1,16 @@
 -- A line of a script (docs/SCRIPTS.md), read: which call it is, at which end, with which numbers and bytes; or that it is passed over, or bad.
-use Rattle.std.specs.Prelude.{ℕ, ◌+◌, Bool, true, false, ◌&&◌, ◌||◌, cond, List, [], ◌∷◌, ◌++◌, map, leb, ltb, eqb, length, take, drop, get_or}
+use Rattle.std.specs.Prelude.{ℕ, ◌+◌, Bool, true, false, ◌&&◌, ◌||◌, Option, Some, None, is_some, unwrap_or, cond, List, [], ◌∷◌, ◌++◌, map, leb, ltb, eqb, length, take, drop, get_or}
 use Rattle.packed.specs.Every.{every}
 use Rattle.text.specs.declared.kind.Kind.{Kind}
 use Rattle.text.specs.declared.kind.Kind.TheVariants.{Passed, Bad}
 use Rattle.text.specs.declared.kind.Source.{Source}
-use Rattle.text.specs.declared.kind.Source.TheVariants.{None, Hex, HexOrWritten}
+use Rattle.text.specs.declared.kind.Source.TheVariants.{Hex, HexOrWritten}
 use Rattle.text.specs.declared.kind.Shape.{Shape}
 use Rattle.text.specs.declared.line.Line.{Line}
 use Rattle.text.specs.Ascii.{ascii, byte}
 use Rattle.text.specs.Word.{equal_bytes, words}
 use Rattle.text.specs.Number.{decimal, is_number}
-use Rattle.text.specs.Got.{Got, none, got, fitting}
+use Rattle.text.specs.Got.{Got, fitting}
 use Rattle.text.specs.Hex.{hex_word}
 use Rattle.text.specs.Kind.{kind_of, is_bad, shape_of}
 
@@ -45,23 +45,22 @@ is_at word = eqb (get_or word 0 0) (byte "@")
 
 -- what the memory holds under the number that a word is
 abbrev pub written_under : (held : ℕ → Got) (word : List ℕ) → Got
-written_under held word = cond (is_number word) (held (decimal word)) none
+written_under held word = cond (is_number word) (held (decimal word)) None
 
 -- HEX, or `@K` for what the memory holds under K
 unfoldable pub hex_or_written : (held : ℕ → Got) (word : List ℕ) → Got
 hex_or_written held word = cond (is_at word) (written_under held (drop 1 word)) (hex_word word)
 
 -- the bytes of a line, in the words from where they stand on
-unfoldable pub bytes_from : (held : ℕ → Got) → Source → List (List ℕ) → Got
-bytes_from held None ws = got []
-bytes_from held Hex ws = hex_word (first_of ws)
-bytes_from held HexOrWritten ws = hex_or_written held (first_of ws)
+unfoldable pub bytes_from : (held : ℕ → Got) → Option Source → List (List ℕ) → Got
+bytes_from held None ws = Some []
+bytes_from held (Some Hex) ws = hex_word (first_of ws)
+bytes_from held (Some HexOrWritten) ws = hex_or_written held (first_of ws)
 
 -- how many words they take
-abbrev pub words_of : Source → ℕ
+abbrev pub words_of : Option Source → ℕ
 words_of None = 0
-words_of Hex = 1
-words_of HexOrWritten = 1
+words_of (Some source) = 1
 
 -- the words behind the end: those that are asked for, and those that follow the bytes
 abbrev pub asked_words : Shape → List (List ℕ) → List (List ℕ)
@@ -81,7 +80,7 @@ are_numbers most ws = every is_number ws && leb (length ws) most
 -- whether the words are as the shape says: numbers, as many as are asked for; bytes; and numbers, no more than may follow
 unfoldable pub is_whole : (held : ℕ → Got) (most : ℕ) → Shape → List (List ℕ) → Bool
 is_whole held most s ws =
-    every is_number (asked_words s ws) && leb s.asked (length ws) && (bytes_in held most s ws).good && are_numbers s.more (more_words s ws)
+    every is_number (asked_words s ws) && leb s.asked (length ws) && is_some (bytes_in held most s ws) && are_numbers s.more (more_words s ws)
 
 abbrev pub numbers_in : Shape → List (List ℕ) → List ℕ
 numbers_in s ws = map decimal (asked_words s ws) ++ map decimal (more_words s ws)
@@ -99,7 +98,7 @@ read_call held most kind ws =
     let s = shape_of kind in
     let numbers = numbers_in s (drop 1 ws) in
     cond (is_end (first_of ws) && is_whole held most s (drop 1 ws) && leb (room_in s numbers) most_room)
-    (record { kind = kind; near = equal_bytes (first_of ws) (ascii "A"); numbers = numbers; bytes = (bytes_in held most s (drop 1 ws)).bytes; room = room_in s numbers })
+    (record { kind = kind; near = equal_bytes (first_of ws) (ascii "A"); numbers = numbers; bytes = unwrap_or (bytes_in held most s (drop 1 ws)) []; room = room_in s numbers })
     (no_call Bad)
 
 -- the words of a line; a line without a word, and a comment, are passed over

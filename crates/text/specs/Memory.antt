@@ -1,10 +1,10 @@
 -- The memory of what was written: where the lent bytes keep it, and what is found there under a number, whatever stands in them. Held.antt
 -- says when that is what was written.
-use Rattle.std.specs.Prelude.{ℕ, zero, suc, ◌+◌, ◌*◌, ◌-◌, min, cond, List, ltb, eqb, length}
+use Rattle.std.specs.Prelude.{ℕ, zero, suc, ◌+◌, ◌*◌, ◌-◌, min, Some, None, cond, List, ltb, eqb, length}
 use Rattle.packed.specs.Part.{part}
 use Rattle.packed.specs.Number.{number}
 use Rattle.text.specs.declared.wire.Memory.{Memory}
-use Rattle.text.specs.Got.{Got, none, got}
+use Rattle.text.specs.Got.{Got}
 
 -- the first MiB holds what was written, one after another
 abbrev pub contents_bytes : ℕ
@@ -38,11 +38,11 @@ last_place kept wanted = cond (ltb most_entries kept) 0 (min kept wanted)
 
 -- what stands between two places of the memory
 unfoldable pub between_places : (wire : List ℕ) (from to : ℕ) → Got
-between_places wire from to = cond (ltb contents_bytes to) none (cond (ltb to from) none (got (part from (to - from) wire)))
+between_places wire from to = cond (ltb contents_bytes to) None (cond (ltb to from) None (Some (part from (to - from) wire)))
 
 abbrev pub entry_bytes : (wire : List ℕ) (i : ℕ) → Got
-entry_bytes wire i = cond (eqb i most_entries) none (between_places wire (end_of wire i) (end_of wire (i + 1)))
+entry_bytes wire i = cond (eqb i most_entries) None (between_places wire (end_of wire i) (end_of wire (i + 1)))
 
 -- what was written under a number, if it is found
 unfoldable pub recalled : Memory → (wire : List ℕ) (wanted : ℕ) → Got
-recalled m wire wanted = cond (ltb (length wire) wire_bytes) none (entry_bytes wire (place_below wire wanted (last_place m.kept wanted)))
+recalled m wire wanted = cond (ltb (length wire) wire_bytes) None (entry_bytes wire (place_below wire wanted (last_place m.kept wanted)))

@@ -1,7 +1,6 @@
 -- Decimal numbers of a script.
-use Rattle.std.specs.Prelude.{ℕ, ◌+◌, ◌*◌, ◌^◌, Bool, true, false, ◌&&◌, cond, List, [], ◌∷◌, ltb, leb, length}
+use Rattle.std.specs.Prelude.{ℕ, ◌+◌, ◌*◌, ◌^◌, Bool, ◌&&◌, Option, Some, None, cond, List, [], ◌∷◌, ltb, leb, length}
 use Rattle.packed.specs.Every.{every}
-use Rattle.text.specs.declared.number.Number.{Number}
 use Rattle.text.specs.Digit.{digit_value, is_decimal}
 
 -- the value of digits: each weighs ten times the one after it
@@ -21,5 +20,5 @@ unfoldable pub is_number : List ℕ → Bool
 is_number w = is_sized (length w) && are_decimal w
 
 -- a number, if it is one
-abbrev pub number_if : Bool → ℕ → Number
-number_if good value = cond good (record { good = true; value = value }) (record { good = false; value = 0 })
+abbrev pub number_if : Bool → ℕ → Option ℕ
+number_if good value = cond good (Some value) None

@@ -1,26 +1,17 @@
 // The digits of numbers and of bytes.
-ghost use Rattle.std.specs.Prelude.{◌≡◌, ◌≤◌};
-ghost use Rattle.text.specs.Digit.{between, digit_value};
+ghost use Rattle.std.specs.Prelude.{◌≡◌, ◌<◌, IfSome, unwrap_or};
+ghost use Rattle.text.specs.Digit.{digit_value};
 
-fn is_between(b: u8, low: u8, high: u8) -> bool
-    ensures { result ≡ between low high b }
+// A digit's value, in either case; nothing for any other byte.
+#[tactic(auto, using(std::proofs::lemmas::Bool::Decides::nat_tests), unfolding(crate::specs::Digit::digit_value))]
+pub fn digit(b: u8) -> Option<u8>
+    ensures value { unwrap_or result 16 ≡ digit_value b }
+    ensures bound { IfSome result (λ d. d < 16) }
 {
-    (low <= b) & (b <= high)
-}
-
-// A digit's value, in either case; 16 for any other byte.
-pub fn digit(b: u8) -> u8
-    ensures value { result ≡ digit_value b }
-    ensures bound { result ≤ 16 }
-{
-    if is_between(b, b'0', b'9') {
-        return b - b'0';
+    match b {
+        b'0'..=b'9' => Some(b - b'0'),
+        b'a'..=b'f' => Some(b - b'a' + 10),
+        b'A'..=b'F' => Some(b - b'A' + 10),
+        _ => None,
     }
-    if is_between(b, b'a', b'f') {
-        return b - b'a' + 10;
-    }
-    if is_between(b, b'A', b'F') {
-        return b - b'A' + 10;
-    }
-    16
 }

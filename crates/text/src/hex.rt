@@ -1,30 +1,13 @@
 // Bytes as pairs of hexadecimal digits, read in either case and written in lower case.
-ghost use Rattle.std.specs.Prelude.{◌≡◌, cond, ◌+◌, ◌*◌, ◌%◌, ◌≤◌, ◌<◌, length};
+ghost use Rattle.std.specs.Prelude.{◌≡◌, Some, None, IfSome, cond, ◌+◌, ◌*◌, ◌%◌, ◌≤◌, ◌<◌, length};
 ghost use Rattle.std.proofs.lemmas.List.Edits.{sets};
 ghost use Rattle.packed.specs.Every.{every};
 ghost use Rattle.text.specs.Digit.{is_hexadecimal};
-ghost use Rattle.text.specs.Got.{none, got, fitting, got_of};
+ghost use Rattle.text.specs.Got.{fitting, got_of};
 ghost use Rattle.text.specs.Hex.{hex_text, hex_digit, hex_bytes, hex_word, is_paired};
 
 use crate::digit::digit;
 use crate::word::same;
-
-// How many bytes were read, if they were.
-#[derive(Clone, Copy)]
-pub struct Bytes {
-    pub good: bool,
-    pub count: usize,
-}
-
-pub fn no_bytes(good: bool) -> Bytes
-    ensures value { result ≡ record { good = good; count = 0 } }
-    ensures none { result.count ≡ 0 }
-{
-    Bytes {
-        good: good,
-        count: 0,
-    }
-}
 
 fn is_paired(count: usize) -> bool
     ensures { result ≡ is_paired count }
@@ -32,44 +15,36 @@ fn is_paired(count: usize) -> bool
     (0 < count) & (count % 2 == 0)
 }
 
-// Reads pairs of digits into the first bytes of a buffer, if they fit.
-fn read_pairs(word: &[u8], bytes: &mut [u8]) -> Bytes
+// Reads pairs of digits into the first bytes of a buffer, if they fit, and says how many bytes they are.
+fn read_pairs(word: &[u8], bytes: &mut [u8]) -> Option<usize>
     requires { length word.now % 2 ≡ 0 }
-    ensures read { got_of result bytes.new ≡ fitting (length bytes.old) (cond (every is_hexadecimal word.now) (got (hex_bytes word.now)) none) }
-    ensures bound { result.count ≤ length bytes.old }
+    ensures read { got_of result bytes.new ≡ fitting (length bytes.old) (cond (every is_hexadecimal word.now) (Some (hex_bytes word.now)) None) }
+    ensures bound { IfSome result (λ n. n ≤ length bytes.old) }
 {
     let count = word.len() / 2;
     if bytes.len() < count {
-        return no_bytes(false);
+        return None;
     }
-    let mut i: usize = 0;
-    while i < count {
-        let high = digit(word[i * 2]);
-        let low = digit(word[i * 2 + 1]);
-        if (15 < high) | (15 < low) {
-            return no_bytes(false);
-        }
+    for i in 0..count {
+        let high = digit(word[i * 2])?;
+        let low = digit(word[i * 2 + 1])?;
         bytes[i] = high * 16 + low;
-        i += 1;
     }
-    Bytes {
-        good: true,
-        count: count,
-    }
+    Some(count)
 }
 
 // A word of an even number of digits, or `-` for no bytes at all.
-pub fn read_hex(word: &[u8], bytes: &mut [u8]) -> Bytes
+pub fn read_hex(word: &[u8], bytes: &mut [u8]) -> Option<usize>
     ensures read { got_of result bytes.new ≡ fitting (length bytes.old) (hex_word word.now) }
-    ensures bound { result.count ≤ length bytes.old }
+    ensures bound { IfSome result (λ n. n ≤ length bytes.old) }
 {
     if same(word, b"-") {
-        return no_bytes(true);
+        return Some(0);
     }
     if is_paired(word.len()) {
         return read_pairs(word, bytes);
     }
-    no_bytes(false)
+    None
 }
 
 // The digit of a half of a byte.
@@ -88,11 +63,8 @@ pub fn write_hex(d: &mut [u8], at: usize, bytes: &[u8])
     requires { at + 2 * length bytes.now ≤ length d.old }
     ensures { d.new ≡ sets d.old at (hex_text bytes.now) }
 {
-    let mut i: usize = 0;
-    while i < bytes.len() {
-        let b = bytes[i];
-        d[at + i * 2] = hex_digit(b / 16);
-        d[at + i * 2 + 1] = hex_digit(b % 16);
-        i += 1;
+    for (i, b) in bytes.iter().enumerate() {
+        d[at + i * 2] = hex_digit(*b / 16);
+        d[at + i * 2 + 1] = hex_digit(*b % 16);
     }
 }

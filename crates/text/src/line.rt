@@ -1,18 +1,18 @@
 // A line of a script, read: the word of its call, its end, its numbers and its bytes.
-ghost use Rattle.std.specs.Prelude.{◌≡◌, List, ℕ, ◌+◌, ◌≤◌, length, take, drop};
+ghost use Rattle.std.specs.Prelude.{◌≡◌, IfSome, MatchOption, List, ℕ, ◌+◌, ◌≤◌, length, take};
 ghost use Rattle.text.specs.Word.{words};
 ghost use Rattle.text.specs.Got.{fitting, got_of};
 ghost use Rattle.text.specs.Memory.{recalled};
 ghost use Rattle.text.specs.Kind.{shape_of};
 ghost use Rattle.text.specs.Inner.Kind.{Sized};
-ghost use Rattle.text.specs.Line.{no_call, is_none, is_at, written_under, hex_or_written, room_in, read_call, read_line, said_of};
-ghost use Rattle.text.specs.Inner.Line.{Bounded, NumbersRead, DataRead, PartsRead, EndRead};
+ghost use Rattle.text.specs.Line.{no_call, is_at, written_under, hex_or_written, room_in, read_call, read_line, said_of};
+ghost use Rattle.text.specs.Inner.Line.{Bounded, NumbersRead, DataRead, PartsRead, EndRead, CallRead};
 
-use crate::hex::{Bytes, no_bytes, read_hex};
+use crate::hex::read_hex;
 use crate::kind::{Kind, Shape, Source, is_bad, kind_of, shape_of};
 use crate::number::read_number;
 use crate::wire::{Memory, recall};
-use crate::word::{next_word, same};
+use crate::word::{Split, next_word};
 
 // The longest line, without its line feed.
 pub const LONGEST_LINE: usize = 24_000;
@@ -42,7 +42,7 @@ fn no_call(kind: Kind) -> Line
     ensures bounds { (most : ℕ) → Bounded most result }
 {
     Line {
-        kind: kind,
+        kind,
         near: true,
         numbers: [0; MOST_NUMBERS],
         count: 0,
@@ -51,194 +51,135 @@ fn no_call(kind: Kind) -> Line
     }
 }
 
-// Numbers that were read: how many, where the line goes on, and whether they all were numbers.
+// Numbers that were read: how many, and the line behind them.
 #[derive(Clone, Copy)]
-pub struct Numbers {
+pub struct Numbers<'a> {
     pub count: usize,
-    pub at: usize,
-    pub good: bool,
+    pub rest: &'a [u8],
 }
 
-// The next words as numbers, at most so many, into the places from `first` on.
-fn read_numbers(
-    line: &[u8],
-    at: usize,
+// The next words as numbers, at most so many, into the places from `first` on; nothing where one is no number.
+fn read_numbers<'a>(
+    line: &'a [u8],
     most: usize,
     numbers: &mut [u64; MOST_NUMBERS],
     first: usize,
-) -> Numbers
-    requires at_in_bounds { at ≤ length line.now }
-    requires most_bound { first + most ≤ 19 }
-    ensures { NumbersRead (words (drop at line.now)) most first numbers.old numbers.new line.now result }
+) -> Option<Numbers<'a>>
+    requires { first + most ≤ 19 }
+    ensures { NumbersRead (words line.now) most first numbers.old numbers.new result }
 {
-    let mut place = at;
-    let mut i: usize = 0;
-    while i < most {
-        let word = next_word(line, place);
-        let from = word.from;
-        let to = word.to;
-        if from == to {
-            return Numbers {
-                count: i,
-                at: place,
-                good: true,
-            };
-        }
-        let read = read_number(&line[from..to]);
-        if !read.good {
-            return Numbers {
-                count: i,
-                at: place,
-                good: false,
-            };
-        }
-        numbers[first + i] = read.value;
-        place = to;
-        i += 1;
+    let mut rest = line;
+    for count in 0..most {
+        let Some(next) = next_word(rest) else {
+            return Some(Numbers { count, rest });
+        };
+        numbers[first + count] = read_number(next.word)?;
+        rest = next.rest;
     }
-    Numbers {
-        count: i,
-        at: place,
-        good: true,
-    }
+    Some(Numbers { count: most, rest })
 }
 
 // What was written under the number of a word.
-fn read_written(word: &[u8], memory: Memory, wire: &[u8], bytes: &mut [u8]) -> Bytes
+fn read_written(word: &[u8], memory: Memory, wire: &[u8], bytes: &mut [u8]) -> Option<usize>
     ensures read { got_of result bytes.new ≡ fitting (length bytes.old) (written_under (recalled memory wire.now) word.now) }
-    ensures bound { result.count ≤ length bytes.old }
+    ensures bound { IfSome result (λ n. n ≤ length bytes.old) }
 {
-    let wanted = read_number(word);
-    if wanted.good {
-        return recall(memory, wanted.value, wire, bytes);
-    }
-    no_bytes(false)
-}
-
-fn is_at(word: &[u8]) -> bool
-    ensures { result ≡ is_at word.now }
-{
-    if word.len() == 0 {
-        return false;
-    }
-    word[0] == b'@'
+    recall(memory, read_number(word)?, wire, bytes)
 }
 
 // A word as bytes: digits, or `@` and the number of what was written.
-fn read_word(word: &[u8], memory: Memory, wire: &[u8], bytes: &mut [u8]) -> Bytes
+fn read_word(word: &[u8], memory: Memory, wire: &[u8], bytes: &mut [u8]) -> Option<usize>
     ensures read { got_of result bytes.new ≡ fitting (length bytes.old) (hex_or_written (recalled memory wire.now) word.now) }
-    ensures bound { result.count ≤ length bytes.old }
+    ensures bound { IfSome result (λ n. n ≤ length bytes.old) }
 {
-    if is_at(word) {
-        return read_written(&word[1..], memory, wire, bytes);
+    match word {
+        [b'@', number @ ..] => read_written(number, memory, wire, bytes),
+        _ => read_hex(word, bytes),
     }
-    read_hex(word, bytes)
 }
 
-// The bytes of a line, if its kind has some, and where the line goes on.
+// How many bytes a line has, and the line behind them.
 #[derive(Clone, Copy)]
-pub struct Data {
-    pub bytes: Bytes,
-    pub at: usize,
+pub struct Data<'a> {
+    pub count: usize,
+    pub rest: &'a [u8],
 }
 
-fn read_bytes(
-    source: Source,
-    line: &[u8],
-    at: usize,
+// The bytes of a line, if its kind has some.
+fn read_bytes<'a>(
+    source: Option<Source>,
+    line: &'a [u8],
     memory: Memory,
     wire: &[u8],
     bytes: &mut [u8],
-) -> Data
-    requires { at ≤ length line.now }
-    ensures { DataRead (recalled memory wire.now) (length bytes.old) source (words (drop at line.now)) bytes.new line.now result }
+) -> Option<Data<'a>>
+    ensures { DataRead (recalled memory wire.now) (length bytes.old) source (words line.now) bytes.new result }
 {
-    let word = next_word(line, at);
-    let from = word.from;
-    let to = word.to;
-    match source {
-        Source::None => Data {
-            bytes: no_bytes(true),
-            at: at,
-        },
-        Source::Hex => Data {
-            bytes: read_hex(&line[from..to], bytes),
-            at: to,
-        },
-        Source::HexOrWritten => Data {
-            bytes: read_word(&line[from..to], memory, wire, bytes),
-            at: to,
-        },
-    }
+    let Some(source) = source else {
+        return Some(Data {
+            count: 0,
+            rest: line,
+        });
+    };
+    let Split { word, rest } = next_word(line)?;
+    let count = match source {
+        Source::Hex => read_hex(word, bytes)?,
+        Source::HexOrWritten => read_word(word, memory, wire, bytes)?,
+    };
+    Some(Data { count, rest })
 }
 
-// Whether a line has no more words.
-fn is_over(line: &[u8], at: usize) -> bool
-    requires { at ≤ length line.now }
-    ensures { result ≡ is_none (words (drop at line.now)) }
-{
-    let word = next_word(line, at);
-    word.from == word.to
-}
-
-// What stands behind the end: whether it is as the shape says, all its numbers, and how many bytes it has.
+// What stands behind the end: all its numbers, and how many bytes it has.
 #[derive(Clone, Copy)]
 pub struct Parts {
-    pub good: bool,
     pub numbers: [u64; MOST_NUMBERS],
     pub count: usize,
     pub bytes: usize,
 }
 
+// All that stands behind the end, if it is as the shape says.
 fn read_parts(
     shape: Shape,
     line: &[u8],
-    at: usize,
     memory: Memory,
     wire: &[u8],
     bytes: &mut [u8],
-) -> Parts
-    requires at_in_bounds { at ≤ length line.now }
-    requires sized { Sized shape }
-    ensures { PartsRead (recalled memory wire.now) (length bytes.old) shape (words (drop at line.now)) bytes.new result }
+) -> Option<Parts>
+    requires { Sized shape }
+    ensures { PartsRead (recalled memory wire.now) (length bytes.old) shape (words line.now) bytes.new result }
 {
-    let mut numbers = [0u64; MOST_NUMBERS];
-    let asked = shape.asked;
-    let source = shape.source;
-    let first = read_numbers(line, at, asked, &mut numbers, 0);
-    let data = read_bytes(source, line, first.at, memory, wire, bytes);
-    let read = data.bytes;
-    let rest = read_numbers(line, data.at, shape.more, &mut numbers, asked);
-    let over = is_over(line, rest.at);
-    Parts {
-        good: first.good & (first.count == asked) & read.good & (rest.good & over),
-        numbers: numbers,
-        count: asked + rest.count,
-        bytes: read.count,
+    let mut numbers = [0; MOST_NUMBERS];
+    let asked = read_numbers(line, shape.asked, &mut numbers, 0)?;
+    if asked.count < shape.asked {
+        return None;
     }
+    let data = read_bytes(shape.source, asked.rest, memory, wire, bytes)?;
+    let more = read_numbers(data.rest, shape.more, &mut numbers, shape.asked)?;
+    if next_word(more.rest).is_some() {
+        return None;
+    }
+    Some(Parts {
+        numbers,
+        count: shape.asked + more.count,
+        bytes: data.count,
+    })
 }
 
-// An end of a line: whether it is one, whether it is the near one, and where the line goes on.
+// An end of a line: whether it is the near one, and the line behind it.
 #[derive(Clone, Copy)]
-pub struct End {
-    pub good: bool,
+pub struct End<'a> {
     pub near: bool,
-    pub at: usize,
+    pub rest: &'a [u8],
 }
 
-fn read_end(line: &[u8], at: usize) -> End
-    requires { at ≤ length line.now }
-    ensures { EndRead (words (drop at line.now)) line.now result }
+fn read_end(line: &[u8]) -> Option<End<'_>>
+    ensures { EndRead (words line.now) result }
 {
-    let word = next_word(line, at);
-    let from = word.from;
-    let to = word.to;
-    let near = same(&line[from..to], b"A");
-    let far = same(&line[from..to], b"B");
-    End {
-        good: near | far,
-        near: near,
-        at: to,
+    let Split { word, rest } = next_word(line)?;
+    match word {
+        b"A" => Some(End { near: true, rest }),
+        b"B" => Some(End { near: false, rest }),
+        _ => None,
     }
 }
 
@@ -255,35 +196,26 @@ fn room_in(shape: Shape, numbers: [u64; MOST_NUMBERS], count: usize) -> u64
     MOST_ROOM as u64
 }
 
-// A line of this kind, from behind its first word on.
-fn read_call(
-    kind: Kind,
-    line: &[u8],
-    at: usize,
-    memory: Memory,
-    wire: &[u8],
-    bytes: &mut [u8],
-) -> Line
-    requires { at ≤ length line.now }
-    ensures said { said_of result bytes.new ≡ read_call (recalled memory wire.now) (length bytes.old) kind (words (drop at line.now)) }
-    ensures bounds { Bounded (length bytes.old) result }
+// A line of this kind, from behind its first word on, if it is one.
+fn read_call(kind: Kind, line: &[u8], memory: Memory, wire: &[u8], bytes: &mut [u8]) -> Option<Line>
+    ensures { CallRead (recalled memory wire.now) (length bytes.old) kind (words line.now) bytes.new result }
 {
-    let end = read_end(line, at);
+    let End { near, rest } = read_end(line)?;
     let shape = shape_of(kind);
-    let parts = read_parts(shape, line, end.at, memory, wire, bytes);
+    let parts = read_parts(shape, rest, memory, wire, bytes)?;
     let numbers = parts.numbers;
     let room = room_in(shape, numbers, parts.count);
-    if end.good & parts.good & (room <= MOST_ROOM as u64) {
-        return Line {
-            kind: kind,
-            near: end.near,
-            numbers: numbers,
-            count: parts.count,
-            bytes: parts.bytes,
-            room: room as usize,
-        };
+    if (MOST_ROOM as u64) < room {
+        return None;
     }
-    no_call(Kind::Bad)
+    Some(Line {
+        kind,
+        near,
+        numbers,
+        count: parts.count,
+        bytes: parts.bytes,
+        room: room as usize,
+    })
 }
 
 // A line of any bytes, without its line feed.
@@ -294,18 +226,18 @@ pub fn read_line(line: &[u8], memory: Memory, wire: &[u8], bytes: &mut [u8]) -> 
     if LONGEST_LINE < line.len() {
         return no_call(Kind::Bad);
     }
-    let word = next_word(line, 0);
-    let from = word.from;
-    let to = word.to;
-    if from == to {
+    let Some(Split { word, rest }) = next_word(line) else {
         return no_call(Kind::Passed);
-    }
+    };
     if line[0] == b'#' {
         return no_call(Kind::Passed);
     }
-    let kind = kind_of(&line[from..to]);
+    let kind = kind_of(word);
     if is_bad(kind) {
         return no_call(Kind::Bad);
     }
-    read_call(kind, line, to, memory, wire, bytes)
+    match read_call(kind, rest, memory, wire, bytes) {
+        Some(call) => call,
+        None => no_call(Kind::Bad),
+    }
 }

@@ -2,12 +2,11 @@
 // it stands an entry for each that fitted: its number, and where it ends, as packed numbers. What did not fit has a number
 // and no entry. Nothing is believed of the lent bytes: whatever stands there, a place outside them is never reached. Where they
 // hold what was remembered, it is found under its number, and what is remembered is held as well.
-ghost use Rattle.std.specs.Prelude.{◌≡◌, true, List, [], ◌∷◌, ◌++◌, ℕ, ◌+◌, ◌≤◌, ◌<◌, length};
+ghost use Rattle.std.specs.Prelude.{◌≡◌, true, IfSome, unwrap_or, List, [], ◌∷◌, ◌++◌, ℕ, ◌+◌, ◌≤◌, ◌<◌, length};
 ghost use Rattle.text.specs.Got.{fitting, got_of};
 ghost use Rattle.text.specs.Memory.{entry_number, end_of, place_below, last_place, between_places, recalled};
 ghost use Rattle.text.specs.Held.{Written, Holds, next_number, has_room, remembered};
 
-use crate::hex::{Bytes, no_bytes};
 use packed::number::number;
 use packed::writing::{copy, put};
 
@@ -52,10 +51,7 @@ pub fn nothing() -> Memory
 pub fn next_number(m: Memory) -> u64
     ensures { result ≡ next_number m.numbered }
 {
-    if m.numbered < u64::MAX {
-        return m.numbered + 1;
-    }
-    m.numbered
+    m.numbered.saturating_add(1)
 }
 
 // As much as before is kept, with one number more.
@@ -96,7 +92,7 @@ fn kept(m: Memory, written: &[u8], wire: &mut [u8]) -> Memory
     put(wire, entry, NUMBER_BYTES, numbered);
     put(wire, entry + NUMBER_BYTES, NUMBER_BYTES, end as u64);
     Memory {
-        numbered: numbered,
+        numbered,
         kept: m.kept + 1,
         used: end,
     }
@@ -113,6 +109,7 @@ pub fn remember(m: Memory, written: &[u8], wire: &mut [u8]) -> Memory
 }
 
 // The number of an entry.
+#[tactic(auto, unfolding(crate::specs::Memory::entry_number))]
 fn entry_number(wire: &[u8], i: usize) -> u64
     requires in_bounds { 2097152 ≤ length wire.now }
     requires i_bound { i < 65536 }
@@ -147,67 +144,49 @@ fn last_place(kept: usize, wanted: u64) -> usize
     if MOST_ENTRIES < kept {
         return 0;
     }
-    if (kept as u64) < wanted {
-        return kept;
-    }
-    wanted as usize
+    wanted.min(kept as u64) as usize
 }
 
-// The entry of a number, or the place behind all of them where none has it.
-fn find(m: Memory, wanted: u64, wire: &[u8]) -> usize
+// The entry of a number, if one has it.
+fn find(m: Memory, wanted: u64, wire: &[u8]) -> Option<usize>
     requires { 2097152 ≤ length wire.now }
-    ensures place { result ≡ place_below wire.now wanted (last_place m.kept wanted) }
-    ensures bound { result ≤ 65536 }
+    ensures place { unwrap_or result 65536 ≡ place_below wire.now wanted (last_place m.kept wanted) }
+    ensures bound { IfSome result (λ i. i < 65536) }
 {
-    let mut i = last_place(m.kept, wanted);
-    while 0 < i {
-        i -= 1;
+    for i in (0..last_place(m.kept, wanted)).rev() {
         let found = entry_number(wire, i);
-        if found == wanted {
-            return i;
-        }
-        if found < wanted {
-            return MOST_ENTRIES;
+        if found <= wanted {
+            return (found == wanted).then_some(i);
         }
     }
-    MOST_ENTRIES
+    None
 }
 
 // A copy of what stands between two places of the memory.
-fn copy_between(wire: &[u8], from: u64, to: u64, bytes: &mut [u8]) -> Bytes
+fn copy_between(wire: &[u8], from: u64, to: u64, bytes: &mut [u8]) -> Option<usize>
     requires { 2097152 ≤ length wire.now }
     ensures read { got_of result bytes.new ≡ fitting (length bytes.old) (between_places wire.now from to) }
-    ensures bound { result.count ≤ length bytes.old }
+    ensures bound { IfSome result (λ n. n ≤ length bytes.old) }
 {
-    if (CONTENTS as u64) < to {
-        return no_bytes(false);
+    if (CONTENTS as u64) < to || to < from {
+        return None;
     }
-    if to < from {
-        return no_bytes(false);
+    let kept = &wire[from as usize..to as usize];
+    if bytes.len() < kept.len() {
+        return None;
     }
-    let a = from as usize;
-    let e = to as usize;
-    if bytes.len() < e - a {
-        return no_bytes(false);
-    }
-    copy(bytes, 0, &wire[a..e]);
-    Bytes {
-        good: true,
-        count: e - a,
-    }
+    copy(bytes, 0, kept);
+    Some(kept.len())
 }
 
 // A copy of what was written under a number.
-pub fn recall(m: Memory, wanted: u64, wire: &[u8], bytes: &mut [u8]) -> Bytes
+pub fn recall(m: Memory, wanted: u64, wire: &[u8], bytes: &mut [u8]) -> Option<usize>
     ensures read { got_of result bytes.new ≡ fitting (length bytes.old) (recalled m wire.now wanted) }
-    ensures bound { result.count ≤ length bytes.old }
+    ensures bound { IfSome result (λ n. n ≤ length bytes.old) }
 {
     if wire.len() < WIRE_BYTES {
-        return no_bytes(false);
+        return None;
     }
-    let i = find(m, wanted, wire);
-    if i == MOST_ENTRIES {
-        return no_bytes(false);
-    }
+    let i = find(m, wanted, wire)?;
     copy_between(wire, end_of(wire, i), end_of(wire, i + 1), bytes)
 }

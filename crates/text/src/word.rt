@@ -1,30 +1,14 @@
 // The words of a line: what stands between spaces.
 ghost use Rattle.std.specs.Prelude.{◌≡◌, ◌+◌, ◌≤◌, length, drop};
 ghost use Rattle.text.specs.Inner.Within.{Within};
-ghost use Rattle.text.specs.Word.{equal_bytes, before, is, is_other};
-ghost use Rattle.text.specs.Inner.Word.{NextWord};
+ghost use Rattle.text.specs.Word.{equal_bytes, before, is, words};
+ghost use Rattle.text.specs.Inner.Word.{words_from};
 
-// Where a word stands, and where it ends; nothing stands there where the line has no more words.
+// A word, and the line behind it.
 #[derive(Clone, Copy)]
-pub struct Word {
-    pub from: usize,
-    pub to: usize,
-}
-
-// The first place from `at` on that is no space, or the line's end.
-fn skip_spaces(line: &[u8], at: usize) -> usize
-    requires { at ≤ length line.now }
-    ensures place { result ≡ at + before is_other (drop at line.now) }
-    ensures within { Within at result line.now }
-{
-    let mut i = at;
-    while i < line.len() {
-        if line[i] != b' ' {
-            return i;
-        }
-        i += 1;
-    }
-    i
+pub struct Split<'a> {
+    pub word: &'a [u8],
+    pub rest: &'a [u8],
 }
 
 // The first place from `at` on where this byte stands, or the end.
@@ -33,41 +17,27 @@ pub fn find_byte(text: &[u8], at: usize, byte: u8) -> usize
     ensures place { result ≡ at + before (is byte) (drop at text.now) }
     ensures within { Within at result text.now }
 {
-    let mut i = at;
-    while i < text.len() {
-        if text[i] == byte {
-            return i;
-        }
-        i += 1;
+    match text[at..].iter().position(|b| *b == byte) {
+        Some(n) => at + n,
+        None => text.len(),
     }
-    i
 }
 
-// The next word from `at` on.
-pub fn next_word(line: &[u8], at: usize) -> Word
-    requires { at ≤ length line.now }
-    ensures { NextWord at line.now result }
+// The next word of a line, if it has one.
+pub fn next_word(line: &[u8]) -> Option<Split<'_>>
+    ensures { words line.now ≡ words_from result }
 {
-    let from = skip_spaces(line, at);
-    Word {
-        from: from,
-        to: find_byte(line, from, b' '),
-    }
+    let from = line.iter().position(|b| *b != b' ')?;
+    let to = find_byte(line, from, b' ');
+    Some(Split {
+        word: &line[from..to],
+        rest: &line[to..],
+    })
 }
 
 // Whether two runs of bytes are the same.
 pub fn same(a: &[u8], b: &[u8]) -> bool
     ensures { result ≡ equal_bytes a.now b.now }
 {
-    if a.len() != b.len() {
-        return false;
-    }
-    let mut i: usize = 0;
-    while i < a.len() {
-        if a[i] != b[i] {
-            return false;
-        }
-        i += 1;
-    }
-    true
+    a == b
 }

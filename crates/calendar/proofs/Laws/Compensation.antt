@@ -4,10 +4,11 @@ use mathlib.Core.Bool.{Bool, true, false, cond}
 use mathlib.Core.List.{List}
 use Prim.Native.Nat.{ℕ, zero, suc, ◌≤◌}
 use native.Mathlib.Omega.{arith}
+use Rattle.std.specs.Prelude.{Err}
 use Rattle.calendar.specs.Rule.{year_days, FirstLater, found, none}
 use Rattle.calendar.specs.Dates.{is_day2028, day_number}
 use Rattle.calendar.specs.Year.{unworked2028, next_in2028}
-use Rattle.calendar.specs.declared.compensation.Compensation.{Compensation}
+use Rattle.calendar.specs.declared.compensation.NoDate.{NoDate}
 use Rattle.calendar.specs.Compensation.{on_day, compensation, Says, EveryAnswerTrue}
 use Rattle.calendar.proofs.Laws.Rule.{as_the_rule}
 use Rattle.calendar.proofs.Laws.Dates.{number_within, numbered_dates}
@@ -27,6 +28,6 @@ pub every_answer_true : EveryAnswerTrue
 unfolding compensation next_in2028
 every_answer_true date = go (is_day2028 date) refl
   where
-    go : (t : Bool) → is_day2028 date ≡ t → Says date (cond t (on_day (next_in2028 (day_number date))) Compensation.NoDay)
+    go : (t : Bool) → is_day2028 date ≡ t → Says date (cond t (on_day (next_in2028 (day_number date))) (Err NoDate.NoDay))
     go true e = let within = number_within date e in on_day_lem date e (next_in2028 (day_number date)) (as_the_rule.entries unworked2028 (day_number date) within.0 within.1)
     go false e = e

@@ -1,15 +1,17 @@
 -- Laws of the months: together they are no longer than the year; and of counting days through them.
 use mathlib.Core.Path.{◌≡◌, refl, ap, sym, ◌∙◌}
-use mathlib.Core.Bool.{Bool, true, ◌&&◌}
+use mathlib.Core.Bool.{Bool, true, false, ◌&&◌, and-false}
 use mathlib.Core.Logic.{⊎_elim}
 use mathlib.Core.List.{List, [], ◌∷◌, ◌++◌, map}
 use Prim.Native.Nat.{ℕ, zero, suc, ◌+◌, ◌-◌, ◌/◌, ◌%◌, ◌≤◌, ◌<◌}
 use native.Mathlib.Nat.{zero-add, add-zero, not-suc-le-zero, eq-or-lt_of_le}
 use native.Mathlib.Omega.{arith}
-use borrow.Author.Tests.{leb-true, eqb-true}
-use lib.Dec.{eqb, leb}
-use lib.ListN.{length, take, drop, get_or, length-map, drop_of_length-le, get_or-append}
+use borrow.Author.Tests.{leb-true, eqb-true, ltb-true, ltb-false, lt-leb}
+use lib.Dec.{eqb, leb, ltb}
+use lib.ListN.{length, take, drop, get_or, length-map, drop_of_length-le, get_or-append, get_or-eq_default}
 use lib.Seq.{drop-cons, get_or-append-add}
+use Rattle.std.specs.List.{sum}
+use Rattle.std.proofs.lemmas.List.Sums.{sum_by-cons, sum_by-take-le, sum_by_more_le}
 use Rattle.packed.specs.Every.{every}
 use Rattle.packed.proofs.Laws.Every.{every_cons}
 use Rattle.packed.proofs.Laws.Told.{both}
@@ -17,26 +19,16 @@ use Rattle.document.specs.Rules.{month_days, day_and_month}
 use Rattle.calendar.specs.Rule.{year_days, from, entry_of}
 use Rattle.calendar.proofs.Laws.Rule.{length_from, entry_from}
 use Rattle.calendar.proofs.Laws.Ascending.{at_most}
-use Rattle.calendar.specs.Dates.{year, dated, day_in, month_in, is_day2028, total, day_number, dates_from, date_of, NumberedDates}
+use Rattle.calendar.specs.Dates.{year, dated, day_in, month_in, is_day2028, day_number, dates_from, date_of, NumberedDates}
 
--- one month more
-pub total_step : (ns : List ℕ) (k : ℕ) → total (take (suc k) ns) ≡ total (take k ns) + get_or ns k 0
-unfolding total
-total_step [] zero = refl
-total_step [] (suc k) = refl
-total_step (n ∷ ns) zero = omega arith
-total_step (n ∷ ns) (suc k) = omega (arith, total_step ns k)
-
--- and at most all of them
-total_most : (ns : List ℕ) (k : ℕ) → total (take k ns) ≤ total ns
-unfolding total
-total_most ns zero = omega arith
-total_most [] (suc k) = omega arith
-total_most (n ∷ ns) (suc k) = omega (arith, total_most ns k)
-
-pub within_year : (month : ℕ) → total (take month month_days) ≤ year_days
-unfolding month_days total
-within_year month = total_most month_days month
+-- one month more, and at most all of them
+pub within_year : (month : ℕ) → sum (take month month_days) + get_or month_days month 0 ≤ year_days
+unfolding month_days
+within_year month = go (ltb month 13) refl
+  where
+    go : (t : Bool) → ltb month 13 ≡ t → sum (take month month_days) + get_or month_days month 0 ≤ year_days
+    go true e = sum_by_more_le (λ x. x) month_days month 0 (ltb-true month 13 e)
+    go false e = rw (get_or-eq_default month_days 0 {n = month} (ltb-false month 13 e)) (omega (arith, sum_by-take-le (λ x. x) month_days month))
 
 -- a date has a day of a month of the table
 in_table : (date : ℕ) → is_day2028 date ≡ true → (date % 100 ≡ year) × (1 ≤ day_in date) × (day_in date ≤ get_or month_days (month_in date) 0)
@@ -55,13 +47,20 @@ month_short month = at_most 31 month_days month refl
 pub day_short : (date : ℕ) → is_day2028 date ≡ true → day_in date ≤ 31
 day_short date e = omega (arith, (in_table date e).2, month_short (month_in date))
 
+-- so a number of five digits or more is none
+pub no_day : (date : ℕ) → 10000 ≤ date / 100 → is_day2028 date ≡ false
+unfolding is_day2028
+no_day date h =
+    let month = month_in date in
+    rw (lt-leb (day_in date) (get_or month_days month 0) (omega (arith, month_short month)), and-false (leb 1 (day_in date)), and-false (eqb (date % 100) year))
+
 -- its number is one of the year's
 pub number_within : (date : ℕ) → is_day2028 date ≡ true → (1 ≤ day_number date) × (day_number date ≤ year_days)
 unfolding day_number
 number_within date e =
     let t = in_table date e in
     let month = month_in date in
-    (omega (arith, t.1), omega (arith, t.2, total_step month_days month, within_year (suc month)))
+    (omega (arith, t.1), omega (arith, t.2, within_year month))
 
 -- a day lies in the first of some months, or in those after it
 dates_in : (month n : ℕ) → List ℕ
@@ -94,13 +93,13 @@ no_month month zero = refl
 no_month month (suc k) = refl
 
 -- the days of some months lead past them
-counted_on : (month : ℕ) (ns : List ℕ) (k day : ℕ) → 0 < day → entry_of (dates_from month ns) (total (take k ns) + day) ≡ entry_of (dates_from (month + k) (drop k ns)) day
-unfolding total
+counted_on : (month : ℕ) (ns : List ℕ) (k day : ℕ) → 0 < day → entry_of (dates_from month ns) (sum (take k ns) + day) ≡ entry_of (dates_from (month + k) (drop k ns)) day
 counted_on month ns zero day h = rw (zero-add day, add-zero month)
 counted_on month [] (suc k) day h = no_month month (0 + day) ∙ sym (no_month (month + suc k) day)
 counted_on month (n ∷ ns) (suc k) day h =
-    after_month month n ns (n + total (take k ns) + day) (omega arith)
-    ∙ ap (entry_of (dates_from (suc month) ns)) {x = n + total (take k ns) + day - n} {y = total (take k ns) + day} (omega arith)
+    ap (λ (m : ℕ). entry_of (dates_from month (n ∷ ns)) (m + day)) (sum_by-cons (λ x. x) n (take k ns))
+    ∙ after_month month n ns (n + sum (take k ns) + day) (omega arith)
+    ∙ ap (entry_of (dates_from (suc month) ns)) {x = n + sum (take k ns) + day - n} {y = sum (take k ns) + day} (omega arith)
     ∙ counted_on (suc month) ns k day h
     ∙ ap (λ (m : ℕ). entry_of (dates_from m (drop k ns)) day) {x = suc month + k} {y = month + suc k} (omega arith)
 
@@ -124,6 +123,10 @@ within [] k h = absurd (not-suc-le-zero h)
 within (n ∷ ns) zero h = omega arith
 within (n ∷ ns) (suc k) h = omega (arith, within ns k h)
 
+-- so the month of a date is one of the table
+pub month_within : (date : ℕ) → is_day2028 date ≡ true → month_in date < length month_days
+month_within date e = let t = in_table date e in within month_days (month_in date) (omega (arith, t.1, t.2))
+
 back : (date : ℕ) → is_day2028 date ≡ true → date_of (day_number date) ≡ date
 unfolding date_of day_number
 back date e =
@@ -132,7 +135,7 @@ back date e =
     let again : dated (day_in date) month ≡ date = omega (arith, t.0) in
     counted_on 0 month_days month (day_in date) t.1
     ∙ ap (λ (m : ℕ). entry_of (dates_from m (drop month month_days)) (day_in date)) (zero-add month)
-    ∙ in_month_at month (day_in date) (within month_days month (omega (arith, t.1, t.2))) t.1 t.2
+    ∙ in_month_at month (day_in date) (month_within date e) t.1 t.2
     ∙ again
 
 -- and each day of the year has a date: a test that antt computes for all of them
@@ -147,7 +150,7 @@ numbered : ℕ → Bool
 numbered n = is_day2028 (date_of n) && eqb (day_number (date_of n)) n
 
 forth : (n : ℕ) → 1 ≤ n → n ≤ year_days → (is_day2028 (date_of n) ≡ true) × (day_number (date_of n) ≡ n)
-unfolding numbered every from is_day2028 date_of dates_from day_number total month_days
+unfolding numbered every from is_day2028 date_of dates_from day_number month_days
 forth n h g =
     let t = both (is_day2028 (date_of n)) (eqb (day_number (date_of n)) n) (every_from numbered 1 year_days refl n h (omega arith)) in
     (t.0, eqb-true (day_number (date_of n)) n t.1)

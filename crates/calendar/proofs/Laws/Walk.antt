@@ -3,14 +3,15 @@
 use mathlib.Core.Path.{◌≡◌, ap, sym, ◌∙◌, subst}
 use mathlib.Core.Bool.{true, false}
 use mathlib.Core.List.{List, ◌∷◌, ◌++◌, map}
-use Prim.Native.Nat.{ℕ, zero, suc, ◌≤◌, ◌<◌}
+use Prim.Native.Nat.{ℕ, suc, ◌-◌, ◌≤◌, ◌<◌}
 use native.Mathlib.Omega.{arith}
-use lib.ListN.{length, get_or, drop, set, length-set}
+use lib.ListN.{length, get_or, take, drop, set, length-set}
 use lib.Seq.{drop-cons, get_or-set_same, drop-set-lt}
+use Rattle.std.proofs.lemmas.List.{get_or-take, take-take, length-take-le}
 use Rattle.packed.specs.Every.{member}
 use Rattle.calendar.specs.Rule.{year_days, later, next_day, entry_of}
 use Rattle.calendar.specs.Generator.{ascending, good_list}
-use Rattle.calendar.proofs.Laws.Rule.{later_step, listed_next, unlisted_next, none_next}
+use Rattle.calendar.proofs.Laws.Rule.{place_of, later_step, listed_next, unlisted_next, none_next}
 use Rattle.calendar.proofs.Laws.Ascending.{above, listed, between_two, all_within}
 
 -- what is known at a day: its entry, and that the list is parted there
@@ -30,10 +31,22 @@ at_last unworked good =
       over = λ h. omega arith;
     }
 
--- a day of the list is not its entry 0
-pub some_left : (unworked : List ℕ) (left day : ℕ) → 0 < day → entry_of unworked left ≡ day → 1 ≤ left
-some_left unworked zero day h e = omega arith
-some_left unworked (suc l) day h e = omega arith
+-- the days that are left are the first of the list: the last of them, and those before it
+module _ (unworked left : List ℕ) (first : left ≡ take (length left) unworked) (some : 1 ≤ length left) where
+  pub last_left : get_or left (length left - 1) 0 ≡ entry_of unworked (length left)
+  last_left =
+      ap (λ (days : List ℕ). get_or days (length left - 1) 0) first
+      ∙ get_or-take (length left) unworked (length left - 1) 0 (omega arith)
+      ∙ place_of unworked (length left) some
+
+  pub before_length : length (take (length left - 1) left) ≡ length left - 1
+  before_length = length-take-le (length left - 1) left (omega arith)
+
+  pub before_last : take (length left - 1) left ≡ take (length (take (length left - 1) left)) unworked
+  before_last =
+      ap (λ (days : List ℕ). take (length left - 1) days) first
+      ∙ take-take (length left - 1) (length left) unworked (omega arith)
+      ∙ ap (λ (n : ℕ). take n unworked) (sym before_length)
 
 -- one day back, where the day is in the list, and where it is not
 pub over_listed : (unworked : List ℕ) (e day next after l left : ℕ) → suc e ≡ day → suc l ≡ left → after ≡ next → day ≤ year_days → ascending (0 ∷ unworked) ≡ true

@@ -9,7 +9,7 @@ use Rattle.packed.specs.Every.{every, member}
 use Rattle.document.specs.Rules.{month_days}
 use Rattle.calendar.specs.Rule.{year_days, from, later, those, table_of}
 use Rattle.calendar.specs.Generator.{ascending, good_list}
-use Rattle.calendar.specs.Dates.{total, day_number}
+use Rattle.calendar.specs.Dates.{day_number}
 use Rattle.calendar.specs.Year.{holidays, is_unworked, unworked2028}
 use Rattle.calendar.proofs.Laws.Rule.{listed_exactly}
 use Rattle.calendar.proofs.Laws.Table.{right, by_test}
@@ -19,7 +19,7 @@ unfolding unworked2028 later
 just_unworked n h g = listed_exactly is_unworked n 1 year_days h (omega arith)
 
 pub good_2028 : good_list unworked2028 ≡ true
-unfolding unworked2028 good_list ascending every later from those member holidays day_number total month_days
+unfolding unworked2028 good_list ascending every later from those member holidays day_number month_days
 good_2028 = refl
 
 -- a table that passes the test is that of the list

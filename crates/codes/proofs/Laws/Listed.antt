@@ -2,10 +2,11 @@
 use mathlib.Core.Path.{◌≡◌, ap, sym, ◌∙◌}
 use mathlib.Core.Bool.{Bool, true, false}
 use Prim.Native.Nat.{ℕ, zero, suc}
+use Rattle.std.specs.Prelude.{is_some}
 use Rattle.packed.specs.Writing.{packed_byte}
 use Rattle.codes.specs.Chain.{◌when◌, ◌orelse◌}
 use Rattle.codes.specs.declared.code.Code.{Code}
-use Rattle.codes.specs.Code.{code_number, code_byte, is_known, known_code, code_numbered}
+use Rattle.codes.specs.Code.{code_number, code_byte, known_code, code_numbered}
 use Rattle.codes.proofs.Laws.Code.{written_then_read, number_told}
 
 abbrev pub Listed : ℕ → Type 0
@@ -29,4 +30,4 @@ row c test rest g = then (code_number c when test) rest (one c test) g
 
 pub known : (n : ℕ) → Listed n → known_code (packed_byte n) ≡ true
 unfolding known_code code_byte
-known n h = ap (λ (m : ℕ). known_code (packed_byte m)) (sym h) ∙ ap is_known (written_then_read (code_numbered n))
+known n h = ap (λ (m : ℕ). known_code (packed_byte m)) (sym h) ∙ ap is_some (written_then_read (code_numbered n))

@@ -1,13 +1,12 @@
--- Laws of decimal text: the fewest digits that hold a value are its decimal text, and a number of 64 bits has at most 20.
-use mathlib.Core.Path.{◌≡◌, refl, ap, sym, ◌∙◌}
-use mathlib.Core.Bool.{Bool, true, false, cond}
+-- Laws of decimal text: the fewest digits that hold a value are its decimal text.
+use mathlib.Core.Path.{◌≡◌, ap, sym, ◌∙◌}
+use mathlib.Core.Bool.{Bool, cond}
 use mathlib.Core.List.{[], ◌∷◌, ◌++◌}
-use Prim.Native.Nat.{ℕ, zero, suc, ◌+◌, ◌-◌, ◌*◌, ◌/◌, ◌%◌, ◌^◌, ◌≤◌, ◌<◌}
-use native.Mathlib.Nat.{pow-succ', pow-le-pow_right}
+use Prim.Native.Nat.{ℕ, zero, suc, ◌+◌, ◌*◌, ◌/◌, ◌%◌, ◌^◌, ◌≤◌, ◌<◌}
+use native.Mathlib.Nat.{pow-succ'}
 use native.Mathlib.Numerals.{unary_clauses}
 use native.Mathlib.Omega.{arith}
-use lib.Dec.{leb, lit<}
-use borrow.Author.Tests.{lt-ltb, le-ltb, leb-true, leb-false}
+use borrow.Author.Tests.{lt-ltb, le-ltb}
 use Rattle.io.specs.Digits.{last_digits, IsDigitCount, hex_digit_ascii as based_glyph}
 use Rattle.decimal.specs.Decimal.{glyph, digits_up_to, decimal}
 
@@ -41,14 +40,3 @@ unfolding decimal
 decimal_fewest zero v f = absurd (omega arith)
 decimal_fewest (suc zero) v f = sym (fewest 1 (suc v) v (omega arith) f)
 decimal_fewest (suc (suc k)) v f = sym (fewest (suc (suc k)) (suc v) v (omega (arith, above k, tenth k v f)) f)
-
--- and a number of 64 bits has no more than 20
-pub at_most_20 : (k v : ℕ) → v < 2 ^ 64 → IsDigitCount 10 1 v k → k ≤ 20
-at_most_20 k v h f = go (leb k 20) refl
-  where
-    go : (t : Bool) → leb k 20 ≡ t → k ≤ 20
-    go true e = leb-true k 20 e
-    go false e =
-        let long = leb-false k 20 e in
-        let power : 10 ^ 20 ≤ 10 ^ (k - 1) = pow-le-pow_right (lit< tt) {i = 20} {j = k - 1} (omega arith) in
-        absurd (omega (arith, power, f.2 (omega arith)))

@@ -1,8 +1,8 @@
 -- Laws of the codes of a detail: what a part that may be sent is like, and where each chain ends.
-use mathlib.Core.Path.{◌≡◌, ap, sym, ◌∙◌}
-use mathlib.Core.Bool.{true, false, not, ◌&&◌, ◌||◌, and-eq-true_iff}
+use mathlib.Core.Path.{◌≡◌, ◌∙◌}
+use mathlib.Core.Bool.{true, false, ◌&&◌, ◌||◌, and-eq-true_iff}
 use mathlib.Core.List.{List}
-use Prim.Native.Nat.{ℕ, ◌/◌, ◌%◌, ◌≤◌, ◌<◌}
+use Prim.Native.Nat.{ℕ, ◌/◌, ◌%◌, ◌≤◌}
 use lib.Dec.{eqb, leb, lit<}
 use lib.ListN.{length}
 use borrow.Author.Tests.{eqb-true, leb-true}
@@ -10,7 +10,7 @@ use Rattle.packed.specs.Every.{every}
 use Rattle.packed.specs.Pieces.{pieces}
 use Rattle.packed.specs.Writing.{packed_byte}
 use Rattle.codes.specs.Chain.{◌when◌, ◌orelse◌}
-use Rattle.codes.proofs.Laws.Chain.{ends, fails, holds, held, all_held, joins}
+use Rattle.codes.proofs.Laws.Chain.{fails, holds, held, all_held}
 use Rattle.codes.specs.Field.{between}
 use Rattle.codes.specs.Body.{operation_of}
 use Rattle.document.specs.Limits.{document_bytes, most_detail_documents}
@@ -67,12 +67,9 @@ module _ (own : ℕ) (represented body : List ℕ) where
   unfolding receiver_code
   misshapen e = fails 1 (shape_good body) _ (lit< tt) e
 
-  -- a code that the heads give is that of the whole
-  pub by_heads : (code : ℕ) → code ≡ (1 when not (shape_good body) orelse 9 when not (one_operation body)) → 0 < code → code ≡ receiver_code own represented body
+  pub mixed : shape_good body ≡ true → one_operation body ≡ false → receiver_code own represented body ≡ 9
   unfolding receiver_code
-  by_heads code e some =
-      let rest = judged (every (fields_good (operation_of body) own) (documents body)) (every (amounts_good (operation_of body) own) (documents body)) (every (drawee_served (operation_of body) own represented) (documents body)) (every for_something (documents body)) in
-      sym (ends code rest some) ∙ ap (λ (n : ℕ). n orelse rest) e ∙ joins (1 when not (shape_good body)) (9 when not (one_operation body)) rest
+  mixed s e = holds 1 (shape_good body) _ s ∙ fails 9 (one_operation body) _ (lit< tt) e
 
   pub shaped_judged : shape_good body ≡ true → one_operation body ≡ true → receiver_code own represented body ≡ judged (every (fields_good (operation_of body) own) (documents body)) (every (amounts_good (operation_of body) own) (documents body)) (every (drawee_served (operation_of body) own represented) (documents body)) (every for_something (documents body))
   unfolding receiver_code

@@ -1,8 +1,8 @@
 -- Laws of groups: what a good one is made of, and how long a body of few groups is.
 use mathlib.Core.Path.{◌≡◌, refl, ap, sym, ◌∙◌}
 use mathlib.Core.Bool.{Bool, true, false, not, ◌&&◌, ◌||◌, and-eq-true_iff}
-use mathlib.Core.List.{List, [], ◌∷◌}
-use Prim.Native.Nat.{ℕ, ◌+◌, ◌*◌, ◌≤◌}
+use mathlib.Core.List.{List, [], ◌∷◌, ◌++◌}
+use Prim.Native.Nat.{ℕ, min, ◌+◌, ◌*◌, ◌≤◌, ◌<◌}
 use native.Mathlib.Omega.{arith}
 use lib.Dec.{eqb, leb, ltb, lit<}
 use lib.ListN.{length}
@@ -16,6 +16,8 @@ use Rattle.codes.specs.Body.{mark, operation_of, longest_body}
 use Rattle.document.specs.Operation.{is_operation}
 use Rattle.document.specs.Limits.{document_bytes, most_detail_documents}
 use Rattle.detail.specs.Limits.{head_bytes, full_count, most_groups, group_bytes}
+use Rattle.packed.proofs.Laws.Every.{every_cons}
+use Rattle.detail.proofs.Laws.Chunks.{chunk_first}
 use Rattle.detail.specs.Groups.{groups, count_of, group_good, shape_good}
 
 -- the most documents of a detail are the full groups of the longest body, and make the most bytes that an envelope can hold
@@ -48,6 +50,18 @@ good g e =
       most = leb-true (count_of g) full_count range.1;
       whole = eqb-true (length g) (head_bytes + count_of g * document_bytes) last.1;
     }
+
+-- the first of the groups that are left, where all are good
+pub record First (old g new : List ℕ) : Type 0 where
+  pub here : Good g
+  pub next : pieces group_bytes old ≡ g ∷ pieces group_bytes new
+  pub left : every group_good (pieces group_bytes new) ≡ true
+
+pub first_group : (size : ℕ) (old g new : List ℕ) → size ≡ group_bytes → every group_good (pieces group_bytes old) ≡ true → old ≡ g ++ new → length g ≡ min size (length old) → 0 < length old → First old g new
+first_group size old g new e all parts long some =
+    let next = chunk_first group_bytes old g new (lit< tt) parts (rw e at long) some in
+    let both = every_cons group_good g (pieces group_bytes new) (rw next at all) in
+    record { here = good g both.0; next = next; left = both.1 }
 
 -- a body has no group where it has no byte, and more than 50 where it is longer than 50 full ones
 some_group : (s : List ℕ) → leb 1 (length (pieces group_bytes s)) ≡ leb 1 (length s)

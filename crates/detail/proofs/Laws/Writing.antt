@@ -1,18 +1,17 @@
 -- Laws of a written detail: how it grows group by group, and what its receiver reads of it.
 use mathlib.Core.Path.{◌≡◌, refl, ap, sym, ◌∙◌}
-use mathlib.Core.Bool.{Bool, true, false, ◌&&◌, and-eq-true_iff}
+use mathlib.Core.Bool.{Bool, true, ◌&&◌, and-eq-true_iff}
 use mathlib.Core.List.{List, [], ◌∷◌, ◌++◌, map, flat_map}
-use Prim.Native.Nat.{ℕ, zero, suc, ◌+◌, ◌-◌, ◌*◌, ◌/◌, ◌%◌, ◌≤◌, ◌<◌}
+use Prim.Native.Nat.{ℕ, zero, suc, min, ◌+◌, ◌-◌, ◌*◌, ◌/◌, ◌%◌, ◌≤◌, ◌<◌}
 use native.Mathlib.Omega.{arith}
-use lib.Dec.{eqb, ltb, lit<}
+use lib.Dec.{eqb, lit<}
 use lib.ListN.{length, take, drop, length-append, length-take, length-drop, length-map}
-use borrow.Author.Tests.{ltb-true, ltb-false, le-leb, eqb-true, eq-eqb}
-use Rattle.packed.specs.Part.{part}
+use borrow.Author.Tests.{le-leb, eqb-true, eq-eqb}
 use Rattle.packed.specs.Every.{every}
 use Rattle.packed.specs.Pieces.{cut, pieces}
 use Rattle.packed.proofs.Laws.Every.{every_map, every_then, every_always}
 use Rattle.packed.proofs.Laws.FlatMap.{flat_map_map}
-use Rattle.packed.proofs.Laws.Pieces.{shorter, pieces_at, pieces_end, pieces_step, pieces_within, pieces_made, few_pieces}
+use Rattle.packed.proofs.Laws.Pieces.{shorter, pieces_step, pieces_within, pieces_made, few_pieces}
 use Rattle.codes.specs.Field.{between}
 use Rattle.codes.specs.Body.{operation_of}
 use Rattle.document.specs.Operation.{is_operation}
@@ -20,41 +19,35 @@ use Rattle.document.specs.Limits.{document_bytes, most_detail_documents}
 use Rattle.detail.specs.Limits.{head_bytes, full_count, most_groups, fill_bytes, group_bytes}
 use Rattle.detail.specs.Groups.{groups, group_good, shape_good, one_operation, group_documents, documents}
 use Rattle.detail.specs.Writing.{written_group, written_detail}
+use Rattle.detail.proofs.Laws.Chunks.{none_left, chunk_first}
 
--- what is still to be written from place at of a part on
-abbrev pub rest : (operation at : ℕ) → List ℕ → List ℕ
-rest operation at p = flat_map (written_group operation) (pieces fill_bytes (drop at p))
+-- what is still to be written of the groups that are left
+pub none_to_write : (operation : ℕ) (s : List ℕ) → length s ≡ 0 → written_detail operation s ≡ []
+unfolding written_detail flat_map
+none_to_write operation s e = ap (flat_map (written_group operation)) (none_left fill_bytes s e)
 
-module _ (operation at : ℕ) (p : List ℕ) where
-  pub rest_step : at < length p → rest operation at p ≡ written_group operation (part at fill_bytes p) ++ rest operation (at + fill_bytes) p
-  unfolding flat_map
-  rest_step h = ap (flat_map (written_group operation)) (pieces_at fill_bytes (lit< tt) at p h)
+pub group_first : (operation size : ℕ) (old ds new : List ℕ) → size ≡ fill_bytes → old ≡ ds ++ new → length ds ≡ min size (length old) → 0 < length old → written_detail operation old ≡ written_group operation ds ++ written_detail operation new
+unfolding written_detail flat_map
+group_first operation size old ds new e parts long some =
+    ap (flat_map (written_group operation)) (chunk_first fill_bytes old ds new (lit< tt) parts (rw e at long) some)
 
-  pub rest_end : length p ≤ at → rest operation at p ≡ []
-  unfolding flat_map
-  rest_end h = ap (flat_map (written_group operation)) (pieces_end fill_bytes (lit< tt) at p h)
-
-  pub rest_length : at < length p → length (rest operation at p) ≡ 4 + length (part at fill_bytes p) + length (rest operation (at + fill_bytes) p)
-  rest_length h = ap length (rest_step h) ∙ length-append (written_group operation (part at fill_bytes p)) (rest operation (at + fill_bytes) p) ∙ omega arith
-
--- how long what is still to be written is: the documents, and a head for each group that they begin
-rest_bytes : (operation : ℕ) (p : List ℕ) (n at : ℕ) → length p ≤ at + n → length (rest operation at p) ≡ length p - at + (length p - at + 203) / fill_bytes * head_bytes
-rest_bytes operation p zero at h = ap length (rest_end operation at p (omega arith)) ∙ omega arith
-rest_bytes operation p (suc n) at h = go (ltb at (length p)) refl (rest_bytes operation p n (at + fill_bytes) (omega arith))
-  where
-    go : (t : Bool) → ltb at (length p) ≡ t → length (rest operation (at + fill_bytes) p) ≡ length p - (at + fill_bytes) + (length p - (at + fill_bytes) + 203) / fill_bytes * head_bytes → length (rest operation at p) ≡ length p - at + (length p - at + 203) / fill_bytes * head_bytes
-    go false e tail = let over = ltb-false at (length p) e in ap length (rest_end operation at p over) ∙ omega arith
-    go true e tail =
-        let more = ltb-true at (length p) e in
-        let piece : length (part at fill_bytes p) + (length p - (at + fill_bytes)) ≡ length p - at = simp (length-take, length-drop) (omega arith) in
-        rest_length operation at p more ∙ omega (arith, tail, piece, more)
-
-whole : (operation : ℕ) (p : List ℕ) → written_detail operation p ≡ rest operation 0 p
-unfolding written_detail
-whole operation p = refl
+-- how long what is written is: the documents, and a head for each group that they begin
+written_length : (operation n : ℕ) (p : List ℕ) → length p ≤ n → length (written_detail operation p) ≡ length p + (length p + 203) / fill_bytes * head_bytes
+unfolding written_detail flat_map
+written_length operation n [] h = ap length (none_to_write operation [] refl)
+written_length operation zero (x ∷ s) h = absurd (omega arith)
+written_length operation (suc n) (x ∷ s) h =
+    let p = x ∷ s in
+    let ds = take fill_bytes p in
+    let left = drop fill_bytes p in
+    let step = ap (flat_map (written_group operation)) (pieces_step fill_bytes (lit< tt) p (omega arith)) in
+    let first : length ds ≡ min fill_bytes (length p) = length-take fill_bytes p in
+    let rest : length left ≡ length p - fill_bytes = length-drop fill_bytes p in
+    let tail = written_length operation n left (omega arith) in
+    ap length step ∙ length-append (written_group operation ds) (written_detail operation left) ∙ omega arith
 
 pub written_bytes_lem : (operation : ℕ) (p : List ℕ) → length (written_detail operation p) ≡ length p + (length p + 203) / fill_bytes * head_bytes
-written_bytes_lem operation p = ap length (whole operation p) ∙ rest_bytes operation p (length p) 0 (omega arith) ∙ omega arith
+written_bytes_lem operation p = written_length operation (length p) p (omega arith)
 
 module _ (operation : ℕ) where
   -- a written detail is cut into the groups that it was made of

@@ -5,16 +5,15 @@ use mathlib.Core.List.{List}
 use Prim.Native.Nat.{ℕ, suc, ◌+◌}
 use lib.Dec.{eqb}
 use lib.ListN.{length}
-use borrow.Author.Tests.{eq-eqb, ne_eqb}
 use Rattle.session.specs.Hours.{opening}
 use Rattle.session.specs.Limits.{passes_lot}
 use Rattle.session.specs.Sending.{Send}
 use Rattle.session.specs.Engine.{Call}
-use Rattle.exchange.specs.declared.cursors.Cursors.{Cursors}
+use Rattle.outgoing.specs.declared.Cursors.{Cursors}
 use Rattle.exchange.specs.declared.progress.Progress.{Progress}
-use Rattle.exchange.specs.Cursors.{part_at, next_operation, same}
+use Rattle.exchange.specs.Cursors.{within, part_at, next_operation, same}
 use Rattle.document.specs.Part.{count_in}
-use Rattle.exchange.specs.Course.{Ends, Standing, round_made, in_open_lot, past_part, part_sent, if_room, detail_sent, while_moving, whole_lot, lot_made, Safe, standing_of}
+use Rattle.exchange.specs.Course.{Ends, Standing, round_made, in_open_lot, past_part, part_sent, if_room, detail_sent, while_moving, whole_lot, lot_made, standing_of}
 
 -- a part goes
 pub part_sent_lem : (presentations bytes : List ℕ) (s : Standing) (operation before after : ℕ) (ends : Ends) (c : Cursors) → operation ≡ next_operation presentations s.cursors → before ≡ in_open_lot s.ends → ends ≡ round_made (Call.send opening (Send.detail operation bytes)) s.ends → after ≡ in_open_lot ends → c ≡ past_part presentations (count_in bytes) before after s.cursors → record { ends = ends; cursors = c } ≡ part_sent presentations bytes s
@@ -44,11 +43,11 @@ module _ (presentations returns bytes : List ℕ) (number : ℕ) (s : Standing) 
   unfolding lot_made
   by_rest = ap (λ (b : List ℕ). cond (eqb (length b) 0) s (whole_lot number presentations returns s)) so
 
-  pub lot_none : length bytes ≡ 0 → s ≡ lot_made presentations returns number s
-  lot_none e = (rw (eq-eqb (length bytes) 0 e)) ∙ by_rest
+  pub lot_none : eqb (length bytes) 0 ≡ true → s ≡ lot_made presentations returns number s
+  lot_none e = (rw e) ∙ by_rest
 
-  pub lot_some : (length bytes ≡ 0 → ⊥) → whole_lot number presentations returns s ≡ lot_made presentations returns number s
-  lot_some e = (rw (ne_eqb (length bytes) 0 e)) ∙ by_rest
+  pub lot_some : eqb (length bytes) 0 ≡ false → whole_lot number presentations returns s ≡ lot_made presentations returns number s
+  lot_some e = (rw e) ∙ by_rest
 
 -- steps: the last one, or one and the rest
 module _ (step : ℕ → Standing → Standing) (n most number : ℕ) (s t : Standing) (left : most ≡ suc n) (so : t ≡ step number s) where
@@ -67,9 +66,7 @@ pub over : (step : ℕ → Standing → Standing) (left number : ℕ) (s : Stand
 unfolding while_moving
 over step left number s none = sym (ap (λ (m : ℕ). while_moving m step number s) none)
 
--- what holds between two steps: the buffers keep their lengths, and the steps that are left lead to the whole
-pub record Going (presentations returns : List ℕ) (step : ℕ → Standing → Standing) (left number : ℕ) (end : Standing) (message₀ reply₀ message' reply' : List ℕ) (at : Progress) : Type 0 where
-  pub message : length message' ≡ length message₀
-  pub reply : length reply' ≡ length reply₀
-  pub safe : Safe presentations returns at
-  pub whole : while_moving left step number (standing_of at message' reply') ≡ end
+-- what holds between two steps: the cursors are within their trays, and the steps that are left lead to the whole
+pub record Going (presentations returns : List ℕ) (step : ℕ → Standing → Standing) (left number : ℕ) (end : Standing) (message reply : List ℕ) (at : Progress) : Type 0 where
+  pub within : within presentations returns at.cursors ≡ true
+  pub whole : while_moving left step number (standing_of at message reply) ≡ end

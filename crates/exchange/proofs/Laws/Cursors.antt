@@ -10,7 +10,7 @@ use borrow.Author.Tests.{leb-true, le-leb, ltb-true, ltb-false}
 use Rattle.document.specs.Limits.{document_bytes}
 use Rattle.outgoing.specs.Outgoing.{ready_good, next_of}
 use Rattle.outgoing.proofs.Laws.Outgoing.{cursor_within, each_good, next_presented, next_returned}
-use Rattle.exchange.specs.declared.cursors.Cursors.{Cursors}
+use Rattle.outgoing.specs.declared.Cursors.{Cursors}
 use Rattle.exchange.specs.Cursors.{within, part_at, presenting, moved}
 use Rattle.document.specs.Part.{count_in}
 use Rattle.exchange.specs.Course.{past_part}

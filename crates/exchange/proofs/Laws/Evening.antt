@@ -1,12 +1,11 @@
 -- Laws of an evening: what the code of the trays decides.
-use mathlib.Core.Path.{◌≡◌, refl, ap, sym, ◌∙◌}
+use mathlib.Core.Path.{◌≡◌, ap, sym, ◌∙◌}
 use mathlib.Core.Bool.{true, cond}
 use mathlib.Core.List.{List}
-use Prim.Native.Nat.{ℕ, zero, suc}
+use Prim.Native.Nat.{ℕ}
 use lib.Dec.{eqb, lit<}
 use lib.ListN.{replicate}
 use borrow.Author.Tests.{eq-eqb, ne_eqb}
-use Rattle.codes.specs.Chain.{◌orelse◌}
 use Rattle.codes.proofs.Laws.Chain.{none_both, none_held}
 use Rattle.session.specs.Engine.{Engine}
 use Rattle.outgoing.specs.Outgoing.{both_good, check_code}
@@ -16,16 +15,6 @@ use Rattle.exchange.specs.Fixed.{near, far}
 use Rattle.exchange.specs.Course.{Ends, both_directions}
 use Rattle.exchange.specs.Cursors.{unmoved, within}
 use Rattle.exchange.specs.Evening.{no_side, closed_side, started_end, beginning, shown_of, evening, trays_code, exchanged}
-
--- the first of two codes
-pub near_code : (code first second : ℕ) → code ≡ first → (code ≡ 0 → ⊥) → code ≡ (first orelse second)
-unfolding ◌orelse◌
-near_code zero first second e some = absurd (some refl)
-near_code (suc n) first second e some = ap (λ (m : ℕ). m orelse second) e
-
-pub far_code : (code other first second : ℕ) → code ≡ first → other ≡ second → code ≡ 0 → other ≡ (first orelse second)
-unfolding ◌orelse◌
-far_code code other first second e f none = f ∙ ap (λ (m : ℕ). m orelse second) (sym none ∙ e)
 
 -- trays without a code are good
 tray_good_lem : (presentations returns : List ℕ) → check_code presentations returns 0 0 ≡ 0 → within presentations returns unmoved ≡ true

@@ -2,10 +2,10 @@
 -- it both clocks allow a call again, and nothing is pending.
 use mathlib.Core.Path.{◌≡◌, refl, ap, sym, subst, ◌∙◌}
 use mathlib.Core.List.{List, [], ◌∷◌, ◌++◌}
-use mathlib.Core.Option.{some}
 use Prim.Native.Nat.{ℕ, zero, suc, ◌≤◌}
 use native.Mathlib.Omega.{arith}
 use lib.ListN.{length}
+use Rattle.std.specs.Prelude.{Some}
 use Rattle.packed.specs.Every.{every}
 use Rattle.codes.specs.Chain.{◌when◌}
 use Rattle.document.specs.Rules.{month_days}
@@ -82,7 +82,7 @@ pub record Between (p : End) (e : Ends) : Type 0 where
 -- what waits, as it was written
 record Waits (b : PresenterLedger) (written : List ℕ) : Type 0 where
   entry : Entry
-  waiting : b.waiting ≡ some (record { entry = entry; message = written })
+  waiting : b.waiting ≡ Some (record { entry = entry; message = written })
 
 -- a round, which begins with a send at the opening
 module _ (w : World) (led : Led w) (quiet : (x : End) → Quiet (w.engine x)) (p : End) (message reply : List ℕ) (room : reply_room ≤ length reply) (m : Send) where

@@ -6,33 +6,40 @@ use Prim.Native.Nat.{ℕ, suc, ◌+◌, ◌-◌, ◌*◌, ◌≤◌, ◌<◌}
 use native.Mathlib.Omega.{arith}
 use lib.Dec.{eqb, leb, ltb}
 use lib.ListN.{length, take, drop, get_or, length-map}
-use borrow.Author.Tests.{lt-ltb, le-ltb, leb-false, ltb-false, eqb-true}
+use borrow.Author.Tests.{ltb-true, eqb-true}
+use Rattle.std.specs.Prelude.{Option, Some, None, is_some}
 use Rattle.packed.specs.Part.{part}
 use Rattle.packed.proofs.Laws.Told.{both}
-use Rattle.packed.proofs.Laws.Member.{neither}
+use Rattle.packed.specs.Pieces.{cut}
 use Rattle.codes.specs.Chain.{◌when◌, ◌orelse◌}
 use Rattle.codes.specs.Numbered.{numbered}
 use Rattle.document.specs.Limits.{document_bytes}
 use Rattle.lot_file.specs.declared.row.Row.{Row}
 use Rattle.lot_file.specs.declared.contents.Contents.{Contents}
+use Rattle.lot_file.specs.declared.answers.LotRefusal.{LotRefusal}
 use Rattle.lot_file.specs.declared.answers.FindShown.{FindShown}
-use Rattle.lot_file.specs.Layout.{Stored, table_bytes, file_of, over}
-use Rattle.lot_file.specs.Good.{rows_in, used_rows, numbers_of, body_bytes, order_number, in_order, end_of, good}
+use Rattle.lot_file.specs.declared.asked.Lot.{Lot}
+use Rattle.lot_file.specs.Layout.{Stored, row_bytes, table_bytes, file_of, over}
+use Rattle.lot_file.specs.Answers.{refusal_number}
+use Rattle.lot_file.specs.Good.{row_in, rows_in, used_rows, numbers_of, body_bytes, order_number, in_order, end_of, good}
 use Rattle.lot_file.specs.Reading.{lot_at, lots_in, body_in, present, no_row, row_for, check_refusal, absent_refusal, found, body_found}
 use Rattle.lot_file.specs.Adding.{tray_good, no_room, add_refusal, with_lot, added}
 use Rattle.lot_file.specs.TakingOut.{without, taken_out}
-use Rattle.lot_file.specs.Inner.Search.{place_of}
-use Rattle.lot_file.specs.Inner.Contents.{most_rows, ToldOf}
+use Rattle.lot_file.specs.Inner.Search.{place_of, place_found}
+use Rattle.lot_file.specs.Inner.Contents.{most_rows, AskedIn, PlacedIn}
 use Rattle.lot_file.specs.Inner.Moving.{appended, row_at, Closable, closed}
 use Rattle.lot_file.proofs.Laws.Binary.{Bytes}
 use Rattle.lot_file.proofs.Laws.Lots.{lot_numbers, end_behind}
 use Rattle.lot_file.proofs.Laws.Held.{Sound, sound, used_rows_lem, used_are}
-use Rattle.lot_file.proofs.Laws.Search.{place_member}
+use Rattle.lot_file.proofs.Laws.Search.{place_member, some_found, found_place}
 use Rattle.lot_file.proofs.Laws.Found.{numbered_place, without_place, row_inside, row_there, added_there, closed_there}
 
--- what `contents_of` has told of a slice
-abbrev pub Judged : (rows most : ℕ) (s : List ℕ) → Contents → Type 0
-Judged rows most s c = record { verdict : c.good ≡ good rows most s; told : c.good ≡ true → ToldOf rows s c }
+-- no refusal has the number 0
+pub refusal_told : (r : LotRefusal) → eqb (refusal_number r) 0 ≡ false
+refusal_told LotRefusal.Repeated = refl
+refusal_told LotRefusal.Wrong = refl
+refusal_told LotRefusal.NoRoom = refl
+refusal_told LotRefusal.Absent = refl
 
 pub checked_wrong : (rows most : ℕ) (s : List ℕ) → good rows most s ≡ false → check_refusal rows most s ≡ 25
 unfolding check_refusal ◌when◌
@@ -88,81 +95,110 @@ pub record Asked (rows most : ℕ) (s : List ℕ) (c : Contents) (n : ℕ) : Typ
   pub few : c.used ≤ rows
   pub table : table_bytes c.used ≤ length s
 
-pub asked : (rows most : ℕ) (s : List ℕ) (c : Contents) (n : ℕ) (o : Bool) → Judged rows most s c → o ≡ order_number n → c.good && o ≡ true → Asked rows most s c n
-asked rows most s c n o j e taken =
-    let first = both c.good o taken in
-    let clauses = sound rows most s (sym j.verdict ∙ first.0) in
-    let told = j.told first.0 in
+pub asked : (rows most : ℕ) (s : List ℕ) (c : Contents) (n : ℕ) → AskedIn rows most s n c → Asked rows most s c n
+asked rows most s c n h =
+    let clauses = sound rows most s (both (good rows most s) (order_number n) h.passed).0 in
     let few = used_rows_lem rows s clauses.table in
     record {
-      passed = (λ i. sym j.verdict i && sym e i) ∙ taken;
+      passed = h.passed;
       clauses = clauses;
-      counted = told.used;
-      ended = told.end;
-      few = omega (arith, told.used);
-      table = omega (arith, told.used, clauses.table);
+      counted = h.told.used;
+      ended = h.told.end;
+      few = omega (arith, h.told.used);
+      table = omega (arith, h.told.used, clauses.table);
     }
-
-pub unasked : (rows most : ℕ) (s : List ℕ) (c : Contents) (n : ℕ) (o : Bool) → Judged rows most s c → o ≡ order_number n → c.good && o ≡ false → good rows most s && order_number n ≡ false
-unasked rows most s c n o j e left = (λ i. sym j.verdict i && sym e i) ∙ left
 
 pub lots_numbers : (s : List ℕ) (rs : List Row) → lot_numbers (map (lot_at s) rs) ≡ numbers_of rs
 lots_numbers s [] = refl
 lots_numbers s (r ∷ rs) = ap (λ (l : List ℕ). r.number ∷ l) (lots_numbers s rs)
 
-module _ (rows most : ℕ) (s : List ℕ) (c : Contents) (n place : ℕ) (a : Asked rows most s c n) (e : place ≡ place_of n (numbers_of (rows_in c.used s))) where
+-- what the search among the used rows has found
+module _ (rows most : ℕ) (s : List ℕ) (c : Contents) (n : ℕ) (a : Asked rows most s c n) (ts : List (List ℕ)) (found : Option ℕ) (cut_lem : ts ≡ cut row_bytes c.used s) (e : found ≡ place_found n (numbers_of (map row_in ts))) where
+  abbrev ns : List ℕ
+  ns = numbers_of (used_rows rows s)
+
+  found_is : found ≡ place_found n ns
+  unfolding rows_in
+  found_is =
+      e
+      ∙ ap (λ (l : List (List ℕ)). place_found n (numbers_of (map row_in l))) cut_lem
+      ∙ ap (λ (k : ℕ). place_found n (numbers_of (rows_in k s))) a.counted
+      ∙ ap (λ (l : List Row). place_found n (numbers_of l)) (sym (used_are rows s a.clauses.table))
+
+  pub is_there : is_some found ≡ present rows s n
+  is_there = ap is_some found_is ∙ some_found n ns
+
+  pub answer_46 : found ≡ None → absent_refusal rows most s n ≡ 46
+  answer_46 none = refused_46 rows most s n a.passed (sym is_there ∙ ap is_some none)
+
+  pub answer_0 : (place : ℕ) → found ≡ Some place → absent_refusal rows most s n ≡ 0
+  answer_0 place some = unrefused rows most s n a.passed (sym is_there ∙ ap is_some some)
+
+  pub place_is : (place : ℕ) → found ≡ Some place → place ≡ place_of n ns
+  place_is place some = found_place n ns place (sym found_is ∙ some)
+
+-- an unrefused call
+pub good_unrefused : (rows most : ℕ) (s : List ℕ) (n : ℕ) → absent_refusal rows most s n ≡ 0 → good rows most s && order_number n ≡ true
+good_unrefused rows most s n zero = go (good rows most s && order_number n) refl
+  where
+    go : (t : Bool) → good rows most s && order_number n ≡ t → t ≡ true
+    go true e = refl
+    go false e = absurd (omega (arith, refused_25 rows most s n e))
+
+present_unrefused : (rows most : ℕ) (s : List ℕ) (n : ℕ) → absent_refusal rows most s n ≡ 0 → present rows s n ≡ true
+present_unrefused rows most s n zero = go (present rows s n) refl
+  where
+    go : (t : Bool) → present rows s n ≡ t → t ≡ true
+    go true e = refl
+    go false e = absurd (omega (arith, refused_46 rows most s n (good_unrefused rows most s n zero) e))
+
+-- the lot that it has found
+module _ (rows most : ℕ) (s : List ℕ) (n : ℕ) (zero : absent_refusal rows most s n ≡ 0) (lot : Lot) (p : PlacedIn rows s n lot) where
   abbrev rs : List Row
   rs = used_rows rows s
 
-  rows_are : rows_in c.used s ≡ rs
-  rows_are = ap (λ (k : ℕ). rows_in k s) a.counted ∙ sym (used_are rows s a.clauses.table)
+  clauses : Sound rows most s
+  clauses = sound rows most s (both (good rows most s) (order_number n) (good_unrefused rows most s n zero)).0
 
-  place_is : place ≡ place_of n (numbers_of rs)
-  place_is = e ∙ ap (λ (l : List Row). place_of n (numbers_of l)) rows_are
+  inside : lot.place < length rs
+  inside =
+      let here = ltb-true (place_of n (numbers_of rs)) (length (numbers_of rs)) (place_member n (numbers_of rs) ∙ present_unrefused rows most s n zero) in
+      omega (arith, p.place, length-map rs (λ (r : Row). r.number))
 
-  pub is_there : ltb place c.used ≡ present rows s n
-  is_there = (λ i. ltb (place_is i) ((a.counted ∙ sym (length-map rs (λ (r : Row). r.number))) i)) ∙ place_member n (numbers_of rs)
+  there : get_or rs lot.place no_row ≡ row_at lot.place s
+  there = row_there rows most s clauses lot.place inside
 
-  pub answer_46 : c.used ≤ place → absent_refusal rows most s n ≡ 46
-  answer_46 h = refused_46 rows most s n a.passed (sym is_there ∙ le-ltb place c.used h)
+  pub row_room : table_bytes (suc lot.place) ≤ length s
+  row_room = omega (arith, inside, used_rows_lem rows s clauses.table, clauses.table)
 
-  module _ (h : place < c.used) where
-    pub answer_0 : absent_refusal rows most s n ≡ 0
-    answer_0 = unrefused rows most s n a.passed (sym is_there ∙ lt-ltb place c.used h)
+  pub row_found : row_at lot.place s ≡ row_for rs n
+  unfolding row_for
+  row_found = sym there ∙ ap (λ (k : ℕ). get_or rs k no_row) p.place ∙ sym (numbered_place (λ (r : Row). r.number) (λ (r : Row). r) no_row rs n)
 
-    inside : place < length rs
-    inside = omega (arith, a.counted)
+  pub closable : rows ≤ most_rows → Closable lot.place lot.used lot.end s
+  closable small =
+      let lies = row_inside (table_bytes rows) rs lot.place clauses.ordered inside in
+      let few = used_rows_lem rows s clauses.table in
+      let start = ap (λ (r : Row). r.start) there in
+      let body = ap (λ (r : Row). r.start + body_bytes r) there in
+      record {
+        inside = omega (arith, inside, p.used);
+        few = omega (arith, p.used);
+        table = omega (arith, p.used, lies.0, start);
+        body = omega (arith, p.end, lies.1, body);
+        room = omega (arith, p.end, clauses.room);
+      }
 
-    there : get_or rs place no_row ≡ row_at place s
-    there = row_there rows most s a.clauses place inside
-
-    pub row_found : row_at place s ≡ row_for rs n
-    unfolding row_for
-    row_found = sym there ∙ ap (λ (k : ℕ). get_or rs k no_row) place_is ∙ sym (numbered_place (λ (r : Row). r.number) (λ (r : Row). r) no_row rs n)
-
-    pub closable : rows ≤ most_rows → Closable place c.used c.end s
-    closable small =
-        let lies = row_inside (table_bytes rows) rs place a.clauses.ordered inside in
-        let start = ap (λ (r : Row). r.start) there in
-        let body = ap (λ (r : Row). r.start + body_bytes r) there in
-        record {
-          inside = h;
-          few = omega (arith, a.few);
-          table = omega (arith, a.few, lies.0, start);
-          body = omega (arith, a.ended, lies.1, body);
-          room = omega (arith, a.ended, a.clauses.room);
-        }
-
-    pub closed_taken : Bytes s → closed place c.used c.end s ≡ taken_out rows most s n
-    unfolding lots_in
-    closed_taken bytes =
-        let lots = lots_in rows s in
-        let same = place_is ∙ ap (place_of n) (sym (lots_numbers s rs)) in
-        (λ i. closed place (a.counted i) (a.ended i) s)
-        ∙ closed_there rows most s a.clauses place bytes inside
-        ∙ ap (λ (k : ℕ). over (file_of rows (take k lots ++ drop (suc k) lots)) s) same
-        ∙ ap (λ (l : List Stored). over (file_of rows l) s) (sym (without_place n lots))
-        ∙ one_taken rows most s n answer_0
+  pub closed_taken : Bytes s → closed lot.place lot.used lot.end s ≡ taken_out rows most s n
+  unfolding lots_in
+  closed_taken bytes =
+      let lots = lots_in rows s in
+      let same = p.place ∙ ap (place_of n) (sym (lots_numbers s rs)) in
+      (λ i. closed lot.place (p.used i) (p.end i) s)
+      ∙ closed_there rows most s clauses lot.place bytes inside
+      ∙ ap (λ (k : ℕ). over (file_of rows (take k lots ++ drop (suc k) lots)) s) same
+      ∙ ap (λ (l : List Stored). over (file_of rows l) s) (sym (without_place n lots))
+      ∙ one_taken rows most s n zero
 
 -- the body that is handed out: as long as it says, and inside the slice
 body_row : (s : List ℕ) (rs : List Row) (n : ℕ) → body_in (map (lot_at s) rs) n ≡ part (row_for rs n).start (body_bytes (row_for rs n)) s
@@ -185,13 +221,6 @@ row_for_inside start (r ∷ rs) n e =
     go : (t : Bool) → r.start ≡ start → (row_for rs n).start + body_bytes (row_for rs n) ≤ end_of (start + body_bytes r) rs → (cond t r (row_for rs n)).start + body_bytes (cond t r (row_for rs n)) ≤ end_of (start + body_bytes r) rs
     go true here later = omega (arith, end_behind (start + body_bytes r) rs)
     go false here later = later
-
-pub good_unrefused : (rows most : ℕ) (s : List ℕ) (n : ℕ) → absent_refusal rows most s n ≡ 0 → good rows most s && order_number n ≡ true
-good_unrefused rows most s n zero = go (good rows most s && order_number n) refl
-  where
-    go : (t : Bool) → good rows most s && order_number n ≡ t → t ≡ true
-    go true e = refl
-    go false e = absurd (omega (arith, refused_25 rows most s n e))
 
 found_inside : (rows most : ℕ) (s : List ℕ) (n : ℕ) → absent_refusal rows most s n ≡ 0 → (row_for (used_rows rows s) n).start + body_bytes (row_for (used_rows rows s) n) ≤ length s
 found_inside rows most s n e =
@@ -225,6 +254,9 @@ module _ (rows most : ℕ) (s : List ℕ) (n : ℕ) (tray : List ℕ) where
   unfolding add_refusal ◌when◌ ◌orelse◌
   adding_25 e = rw e
 
+  pub tray_fits : good rows most s && order_number n ≡ true → tray_good most tray ≡ true → good rows most s && order_number n && tray_good most tray ≡ true
+  tray_fits e t = λ i. e i && t i
+
   module _ (e : good rows most s && order_number n && tray_good most tray ≡ true) where
     pub adding_4 : present rows s n ≡ true → add_refusal rows most s n tray ≡ 4
     unfolding add_refusal ◌when◌ ◌orelse◌
@@ -250,17 +282,13 @@ module _ (rows most : ℕ) (s : List ℕ) (n : ℕ) (tray : List ℕ) where
   one_added e = ap (λ (j : ℕ). after_adding (eqb j 0)) (sym e)
 
 -- what the code of adding has found, in the words of the chain
-module _ (rows most : ℕ) (s tray : List ℕ) (c : Contents) (n place : ℕ) (a : Asked rows most s c n) (e : place ≡ place_of n (numbers_of (rows_in c.used s))) where
+module _ (rows most : ℕ) (s tray : List ℕ) (c : Contents) (n : ℕ) (a : Asked rows most s c n) where
   pub room_is : leb rows c.used || ltb (length s - c.end) (length tray) ≡ no_room rows s tray
   room_is = λ i. leb rows (a.counted i) || ltb (length s - a.ended i) (length tray)
 
-  -- where there is room, a row is free and the body fits
-  pub room_told : leb rows c.used || ltb (length s - c.end) (length tray) ≡ false → (c.used < rows) × (table_bytes (suc c.used) ≤ c.end) × (c.end + length tray ≤ length s)
-  room_told f =
-      let each = neither (leb rows c.used) (ltb (length s - c.end) (length tray)) f in
-      let free = leb-false rows c.used each.0 in
-      let fits = ltb-false (length s - c.end) (length tray) each.1 in
-      (free, omega (arith, a.ended, end_behind (table_bytes rows) (used_rows rows s)), omega (arith, a.ended, a.clauses.room))
+  -- a row that is free ends before the bodies do
+  pub row_free : c.used < rows → table_bytes (suc c.used) ≤ c.end
+  row_free free = omega (arith, a.ended, end_behind (table_bytes rows) (used_rows rows s))
 
   pub appended_added : Bytes s → add_refusal rows most s n tray ≡ 0 → c.used < rows → c.end + length tray ≤ length s → appended c.used c.end n tray s ≡ added rows most s n tray
   appended_added bytes zero free room =

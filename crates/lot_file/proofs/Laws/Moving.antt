@@ -1,13 +1,13 @@
--- Laws of what is moved down in place: one byte more, one row more.
+-- Laws of what is moved down in place: a run of bytes, one row more.
 use mathlib.Core.Path.{◌≡◌, refl, ap, sym, ◌∙◌}
 use mathlib.Core.List.{List, [], ◌∷◌, ◌++◌, flat_map, append_assoc}
 use Prim.Native.Nat.{ℕ, suc, ◌+◌, ◌-◌, ◌≤◌, ◌<◌}
 use native.Mathlib.Omega.{arith}
-use lib.ListN.{length, get_or, set, take, drop, replicate, length-append, length-drop}
-use lib.Seq.{sets, get_or-set_other, drop-cons, drop-set-lt}
+use lib.ListN.{length, set, take, drop, replicate, length-append, length-drop}
+use lib.Seq.{sets, paste, sets-eq, drop-set-lt}
 use Rattle.packed.specs.Part.{part}
 use Rattle.packed.specs.Pieces.{cut}
-use Rattle.packed.proofs.Laws.Part.{part_length, part_split}
+use Rattle.packed.proofs.Laws.Part.{part_length}
 use Rattle.packed.proofs.Laws.Writing.{sets_append}
 use Rattle.lot_file.specs.declared.row.Row.{Row}
 use Rattle.lot_file.specs.Layout.{binary_bytes, bytes_of, row_bytes, table_bytes}
@@ -16,26 +16,12 @@ use Rattle.lot_file.specs.Reading.{no_row}
 use Rattle.lot_file.specs.Inner.Moving.{row_at, restarted, table_closed, Closable, closed}
 use Rattle.lot_file.proofs.Laws.Rows.{row_length, bytes_count, rows_next, rows_length}
 
--- no byte behind what was written has changed
-get_behind : (vs d : List ℕ) (at k : ℕ) → at + length vs ≤ k → get_or (sets d at vs) k 0 ≡ get_or d k 0
-get_behind [] d at k h = refl
-get_behind (v ∷ vs) d at k h = get_behind vs (set d at v) (suc at) k (omega arith) ∙ get_or-set_other d at k v 0 (omega arith)
-
-part_last : (at n : ℕ) (s : List ℕ) → at + n < length s → part at (n + 1) s ≡ part at n s ++ get_or s (at + n) 0 ∷ []
-part_last at n s h = part_split at n 1 s ∙ ap (λ (l : List ℕ). part at n s ++ take 1 l) (drop-cons s (at + n) 0 h)
-
-pub down_step : (d e : List ℕ) (to from i : ℕ) → to ≤ from → from + i < length d → e ≡ sets d to (part from i d) → set e (to + i) (get_or e (from + i) 0) ≡ sets d to (part from (i + 1) d)
-down_step d e to from i h l w =
-    let run = part from i d in
-    let size : length run ≡ i = part_length from i d (omega arith) in
-    let same = ap (λ (x : List ℕ). get_or x (from + i) 0) w ∙ get_behind run d to (from + i) (omega arith) in
-    (λ k. set (w k) (to + i) (same k))
-    ∙ ap (λ (n : ℕ). set (sets d to run) (to + n) (get_or d (from + i) 0)) (sym size)
-    ∙ sets_append run (get_or d (from + i) 0 ∷ []) d to
-    ∙ ap (sets d to) (sym (part_last from i d l))
-
-pub down_all : (d : List ℕ) (to from i n : ℕ) → i ≡ n → sets d to (part from i d) ≡ sets d to (part from n d)
-down_all d to from i n e = ap (λ (k : ℕ). sets d to (part from k d)) e
+-- a run copied down is a run written
+pub moved_down : (d : List ℕ) (to from end : ℕ) → to ≤ from → from ≤ end → end ≤ length d → paste d to (drop from d) (end - from) ≡ sets d to (part from (end - from) d)
+moved_down d to from end h l room =
+    let run = part from (end - from) d in
+    let size : length run ≡ end - from = part_length from (end - from) d (omega arith) in
+    sym (sets-eq run d to (omega arith) ∙ ap (λ (n : ℕ). take to d ++ run ++ drop (to + n) d) size)
 
 -- all bytes behind what was written are as they were
 pub drop_behind : (vs d : List ℕ) (at k : ℕ) → at + length vs ≤ k → drop k (sets d at vs) ≡ drop k d

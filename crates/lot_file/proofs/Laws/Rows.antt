@@ -6,9 +6,10 @@ use Prim.Native.Nat.{ℕ, zero, suc, ◌+◌, ◌-◌, ◌≤◌, ◌<◌}
 use native.Mathlib.Nat.{zero-add, add-zero, suc-add}
 use native.Mathlib.Omega.{arith}
 use lib.Dec.{eqb}
-use lib.ListN.{length, take, drop, length-append, length-drop}
+use lib.ListN.{length, take, drop, get_or, length-append, length-drop}
 use lib.Seq.{take-add, drop-drop, take_at, drop_at, get_or-drop}
 use borrow.Author.Tests.{eq-eqb, ne_eqb}
+use Rattle.std.specs.Simd.{first_chunks}
 use Rattle.packed.specs.Part.{part}
 use Rattle.packed.specs.Pieces.{cut}
 use Rattle.packed.proofs.Laws.Part.{part_part, part_split}
@@ -69,6 +70,22 @@ unfolding rows_in cut
 rows_cons n [] h = absurd (omega arith)
 rows_cons n (x ∷ s) h = refl
 
+-- a slice in chunks of ten bytes: the first of them, and the one at a place
+pub chunks_cut : (n m : ℕ) (s : List ℕ) → n ≤ m → table_bytes n ≤ length s → take n (first_chunks row_bytes m s) ≡ cut row_bytes n s
+unfolding cut
+chunks_cut zero m s h l = refl
+chunks_cut (suc n) zero s h l = absurd (omega arith)
+chunks_cut (suc n) (suc m) [] h l = absurd (omega arith)
+chunks_cut (suc n) (suc m) (x ∷ s) h l =
+    ap (λ (r : List (List ℕ)). take row_bytes (x ∷ s) ∷ r) (chunks_cut n m (drop row_bytes (x ∷ s)) (omega arith) (simp length-drop (omega arith)))
+
+pub chunk_at : (p m : ℕ) (s d : List ℕ) → p < m → get_or (first_chunks row_bytes m s) p d ≡ part (table_bytes p) row_bytes s
+chunk_at p zero s d h = absurd (omega arith)
+chunk_at zero (suc m) s d h = refl
+chunk_at (suc p) (suc m) s d h =
+    let wider : row_bytes + table_bytes p ≡ table_bytes (suc p) = omega arith in
+    chunk_at p m (drop row_bytes s) d (omega arith) ∙ ap (take row_bytes) (drop-drop (table_bytes p) row_bytes s ∙ ap (λ (k : ℕ). drop k s) wider)
+
 pub rows_split : (m n : ℕ) (s : List ℕ) → table_bytes (m + n) ≤ length s → rows_in (m + n) s ≡ rows_in m s ++ rows_in n (drop (table_bytes m) s)
 unfolding rows_in cut
 rows_split zero n s h = rw zero-add
@@ -82,15 +99,6 @@ rows_split (suc m) n s h =
     ∙ ap (λ (l : List ℕ). row_in (take row_bytes s) ∷ rows_in m (drop row_bytes s) ++ rows_in n l) (drop-drop (table_bytes m) row_bytes s)
     ∙ ap (λ (l : List Row). l ++ rows_in n (drop (row_bytes + table_bytes m) s)) (sym (rows_cons m s some))
     ∙ ap (λ (k : ℕ). rows_in (suc m) s ++ rows_in n (drop k s)) wider
-
-pub rows_one : (s : List ℕ) → 0 < length s → rows_in 1 s ≡ row_in (take row_bytes s) ∷ []
-unfolding rows_in cut
-rows_one s h = rows_cons 0 s h
-
--- a row more behind some, and before the rest
-pub rows_last : (n : ℕ) (s : List ℕ) → table_bytes (n + 1) ≤ length s → rows_in (n + 1) s ≡ rows_in n s ++ row_at n s ∷ []
-rows_last n s h =
-    rows_split n 1 s h ∙ ap (λ (l : List Row). rows_in n s ++ l) (rows_one (drop (table_bytes n) s) (simp length-drop (omega arith)))
 
 pub rows_next : (i n : ℕ) (s : List ℕ) → i < n → table_bytes n ≤ length s → rows_in (n - i) (drop (table_bytes i) s) ≡ row_at i s ∷ rows_in (n - (i + 1)) (drop (table_bytes (i + 1)) s)
 rows_next i n s h room =

@@ -1,39 +1,18 @@
--- Laws of a search among the first rows of a slice: a place that is come to is the number's own, or is passed, or there is none; and a number has a
--- place exactly if it is there.
+-- Laws of a search: a number has a place exactly if it is there, and the first row that has it is found.
 use mathlib.Core.Path.{◌≡◌, refl, ap, sym, ◌∙◌}
 use mathlib.Core.Bool.{Bool, true, false, ◌||◌, cond}
-use mathlib.Core.List.{List, [], ◌∷◌}
-use Prim.Native.Nat.{ℕ, suc, ◌+◌, ◌-◌, ◌≤◌, ◌<◌}
-use native.Mathlib.Nat.{add-zero}
+use mathlib.Core.List.{List, [], ◌∷◌, map}
+use Prim.Native.Nat.{ℕ, suc, ◌+◌}
 use native.Mathlib.Omega.{arith}
 use lib.Dec.{eqb, ltb, leb-zero, leb-suc-suc}
-use lib.ListN.{length, drop}
-use borrow.Author.Tests.{eq-eqb, ne_eqb}
+use lib.ListN.{length, length-map}
+use Rattle.std.specs.Prelude.{Some, None, is_some}
+use Rattle.std.specs.List.{position}
+use Rattle.std.proofs.lemmas.List.Recursion.{is_position_or_len}
 use Rattle.packed.specs.Every.{member}
-use Rattle.packed.specs.Pieces.{cut}
 use Rattle.lot_file.specs.declared.row.Row.{Row}
-use Rattle.lot_file.specs.Layout.{table_bytes}
-use Rattle.lot_file.specs.Good.{rows_in, numbers_of}
-use Rattle.lot_file.specs.Inner.Search.{place_of}
-use Rattle.lot_file.specs.Inner.Moving.{row_at}
-use Rattle.lot_file.proofs.Laws.Rows.{rows_next}
-
-module _ (i n number : ℕ) (s : List ℕ) where
-  pub place_here : i < n → table_bytes n ≤ length s → (row_at i s).number ≡ number → i + place_of number (numbers_of (rows_in (n - i) (drop (table_bytes i) s))) ≡ i
-  unfolding place_of
-  place_here h room e =
-      ap (λ (rs : List Row). i + place_of number (numbers_of rs)) (rows_next i n s h room)
-      ∙ rw (eq-eqb number (row_at i s).number (sym e)) (add-zero i)
-
-  pub place_past : i < n → table_bytes n ≤ length s → ((row_at i s).number ≡ number → ⊥) → i + place_of number (numbers_of (rows_in (n - i) (drop (table_bytes i) s))) ≡ i + 1 + place_of number (numbers_of (rows_in (n - (i + 1)) (drop (table_bytes (i + 1)) s)))
-  unfolding place_of
-  place_past h room other =
-      ap (λ (rs : List Row). i + place_of number (numbers_of rs)) (rows_next i n s h room)
-      ∙ rw (ne_eqb number (row_at i s).number (λ e. other (sym e))) (omega arith)
-
-  pub place_none : n ≤ i → i + place_of number (numbers_of (rows_in (n - i) (drop (table_bytes i) s))) ≡ i
-  unfolding place_of rows_in cut
-  place_none h = let none : n - i ≡ 0 = omega arith in rw none (add-zero i)
+use Rattle.lot_file.specs.Good.{row_in, numbers_of}
+use Rattle.lot_file.specs.Inner.Search.{place_of, place_found}
 
 -- a number that is there has a place before the end
 pub place_member : (number : ℕ) (ns : List ℕ) → ltb (place_of number ns) (length ns) ≡ member number ns
@@ -45,11 +24,28 @@ place_member number (n ∷ ns) = go (eqb number n) (place_member number ns)
     go true e = leb-suc-suc 0 (length ns) ∙ leb-zero (length ns)
     go false e = leb-suc-suc (suc (place_of number ns)) (length ns) ∙ e
 
-pub place_few : (number : ℕ) (ns : List ℕ) → place_of number ns ≤ length ns
-unfolding place_of
-place_few number [] = omega arith
-place_few number (n ∷ ns) = go (eqb number n) (place_few number ns)
+-- what is found
+pub some_found : (number : ℕ) (ns : List ℕ) → is_some (place_found number ns) ≡ member number ns
+some_found number ns = go (member number ns)
   where
-    go : (t : Bool) → place_of number ns ≤ length ns → cond t 0 (suc (place_of number ns)) ≤ suc (length ns)
-    go true h = omega arith
-    go false h = omega arith
+    go : (t : Bool) → is_some (cond t (Some (place_of number ns)) None) ≡ t
+    go true = refl
+    go false = refl
+
+pub found_place : (number : ℕ) (ns : List ℕ) (place : ℕ) → place_found number ns ≡ Some place → place ≡ place_of number ns
+found_place number ns place e = go (member number ns) e
+  where
+    go : (t : Bool) → cond t (Some (place_of number ns)) None ≡ Some place → place ≡ place_of number ns
+    go true some = cc
+    go false some = cc
+
+pub position_place : (number : ℕ) (ts : List (List ℕ)) → position (λ (b : List ℕ). eqb number (row_in b).number) ts ≡ place_found number (numbers_of (map row_in ts))
+unfolding place_of
+position_place number ts =
+    let has = λ (b : List ℕ). eqb number (row_in b).number in
+    let numbers = λ (l : List (List ℕ)). numbers_of (map row_in l) in
+    let step : (b : List ℕ) (l : List (List ℕ)) → place_of number (numbers (b ∷ l)) ≡ cond (has b) 0 (1 + place_of number (numbers l)) =
+    λ b l. ap (λ (m : ℕ). cond (eqb number (row_in b).number) 0 m) (omega arith) in
+    let same = sym (is_position_or_len (λ (l : List (List ℕ)). place_of number (numbers l)) has refl step ts) in
+    let count = sym (length-map (map row_in ts) (λ (r : Row). r.number) ∙ length-map ts row_in) in
+    (λ i. cond (ltb (same i) (count i)) (Some (same i)) None) ∙ ap (λ (t : Bool). cond t (Some (place_of number (numbers ts))) None) (place_member number (numbers ts))

@@ -1,4 +1,5 @@
 -- Laws of the envelope: its tests in short, which numbers it carries, what is read of a written one, and what an answer tells of the bytes.
+use Rattle.std.specs.Prelude.{Ok, Err}
 use mathlib.Core.Path.{◌≡◌, refl, ap, sym, ◌∙◌}
 use mathlib.Core.Bool.{Bool, true, false, not, ◌&&◌, ◌||◌, and-true, and_assoc}
 use mathlib.Core.List.{List, [], ◌∷◌, ◌++◌}
@@ -6,7 +7,7 @@ use Prim.Native.Nat.{ℕ, ◌+◌, ◌^◌, ◌≤◌, ◌<◌}
 use native.Mathlib.Omega.{arith}
 use lib.Dec.{eqb, leb, lit<}
 use lib.ListN.{length, take, get_or, length-append}
-use borrow.Author.Tests.{leb-true, le-leb, lt-ltb, eqb-true, eq-eqb, not-true}
+use borrow.Author.Tests.{leb-true, le-leb, lt-ltb, eqb-true, eq-eqb}
 use Rattle.packed.specs.Part.{byte_at, part}
 use Rattle.packed.specs.Every.{every}
 use Rattle.packed.specs.Digits.{are_digits}
@@ -14,16 +15,17 @@ use Rattle.packed.specs.Number.{number}
 use Rattle.packed.specs.Writing.{packed_bytes}
 use Rattle.packed.proofs.Laws.Told.{both, three}
 use Rattle.codes.specs.Chain.{◌when◌}
+use Rattle.codes.specs.Refusal.{refusal_number}
+use Rattle.codes.specs.declared.refusal.Refusal.{Refusal}
 use Rattle.codes.specs.Field.{Field, between, earning, field_good, table_good, table_numbers, table_takes, table_written}
-use Rattle.codes.proofs.Laws.Chain.{given_test, none_held}
+use Rattle.codes.proofs.Laws.Chain.{none_held}
 use Rattle.codes.proofs.Laws.Field.{table_split, digit_runs, total, runs_join, adjoining}
 use Rattle.codes.proofs.Laws.Table.{Adjoin, written_then_read as table-written, read_then_written as table-read, rows_of, rows_all}
 use Rattle.message.specs.Limits.{envelope_bytes, largest_serial}
 use Rattle.message.specs.declared.envelope.Kind.{Kind}
 use Rattle.message.specs.declared.envelope.Envelope.{Envelope}
-use Rattle.message.specs.declared.envelope.ReadEnvelope.{ReadEnvelope}
 use Rattle.message.specs.Envelope.{kind_byte, length_good, envelope_fields, envelope_good, read_envelope, envelope_values, envelope_of, envelope_said, written_envelope, body_of}
-use Rattle.message.proofs.Laws.Reading.{said_values, number_told, told}
+use Rattle.message.proofs.Laws.Reading.{said_values, told, refusal_told}
 
 -- eleven digits, and a serial
 fields_split : (s : List ℕ) → table_good 1 21 envelope_fields s ≡ are_digits (part 1 11 s) && between 1 largest_serial (number (part 8 4 s))
@@ -115,20 +117,18 @@ module _ (kind : Kind) (e : Envelope) (body : List ℕ) (fits : table_takes enve
       λ i.
       (ap (length_good kind) (whole_length kind e body) ∙ l) i && eq-eqb (kind_byte kind) (kind_byte kind) refl i && rows_of (field_good 1 bytes) 21 envelope_fields rows.1 i
 
-  pub written_then_read : length_good kind (envelope_bytes + length body) ≡ true → read_envelope kind bytes ≡ envelope_said (ReadEnvelope.Read e)
+  pub written_then_read : length_good kind (envelope_bytes + length body) ≡ true → read_envelope kind bytes ≡ envelope_said (Ok e)
   unfolding ◌when◌
   written_then_read l = sym (said_values (21 when not (envelope_good kind bytes)) (table_numbers 1 envelope_fields bytes) (envelope_values e) (ap (λ (t : Bool). 21 when not t) (written_good l)) (sym rows.0))
 
 -- what an answer tells of the bytes
-pub read_told : (kind : Kind) (bytes : List ℕ) (e : Envelope) → envelope_said (ReadEnvelope.Read e) ≡ read_envelope kind bytes → (envelope_good kind bytes ≡ true) × (e ≡ envelope_of bytes)
+pub read_told : (kind : Kind) (bytes : List ℕ) (e : Envelope) → envelope_said (Ok e) ≡ read_envelope kind bytes → (envelope_good kind bytes ≡ true) × (e ≡ envelope_of bytes)
 read_told kind bytes e h =
     let read = told (21 when not (envelope_good kind bytes)) (table_numbers 1 envelope_fields bytes) (envelope_values e) h in
     (none_held 21 (envelope_good kind bytes) (lit< tt) read.0, sym (from_values bytes e read.1))
 
-pub wrong_told : (kind : Kind) (bytes : List ℕ) → envelope_said ReadEnvelope.Wrong ≡ read_envelope kind bytes → envelope_good kind bytes ≡ false
-wrong_told kind bytes h =
-    let good = envelope_good kind bytes in
-    not-true good (given_test 21 (not good) (lit< tt) (number_told (21 when not good) 21 (table_numbers 1 envelope_fields bytes) h))
+pub wrong_told : (kind : Kind) (bytes : List ℕ) (r : Refusal) → envelope_said (Err r) ≡ read_envelope kind bytes → (envelope_good kind bytes ≡ false) × (refusal_number r ≡ 21)
+wrong_told kind bytes r h = refusal_told 21 (envelope_good kind bytes) r (table_numbers 1 envelope_fields bytes) h
 
 -- a good envelope is written again
 kind_first : (bytes : List ℕ) → envelope_bytes ≤ length bytes → take envelope_bytes bytes ≡ byte_at 1 bytes ∷ part 1 11 bytes
@@ -139,7 +139,7 @@ one_code : every (λ (f : Field). eqb f.code 21 || eqb f.code 21) envelope_field
 unfolding envelope_fields every
 one_code = refl
 
-pub read_then_written : (kind : Kind) (bytes : List ℕ) (e : Envelope) → envelope_said (ReadEnvelope.Read e) ≡ read_envelope kind bytes → written_envelope kind e ≡ take envelope_bytes bytes
+pub read_then_written : (kind : Kind) (bytes : List ℕ) (e : Envelope) → envelope_said (Ok e) ≡ read_envelope kind bytes → written_envelope kind e ≡ take envelope_bytes bytes
 read_then_written kind bytes e h =
     let read = told (21 when not (envelope_good kind bytes)) (table_numbers 1 envelope_fields bytes) (envelope_values e) h in
     let found = good_told kind bytes (read_told kind bytes e h).0 in

@@ -1,4 +1,5 @@
 -- Laws of the header: its rows fill it, its tests in short, which numbers it carries, and what is read of a written one.
+use Rattle.std.specs.Prelude.{Ok}
 use mathlib.Core.Path.{◌≡◌, refl, ap, sym, ◌∙◌}
 use mathlib.Core.Bool.{Bool, true, ◌&&◌, and_assoc, and-true}
 use mathlib.Core.List.{List, [], ◌∷◌, ◌++◌}
@@ -17,7 +18,6 @@ use Rattle.codes.proofs.Laws.Field.{table_split, digit_runs, total, runs_join, a
 use Rattle.message.specs.declared.route.Route.{Route}
 use Rattle.message.specs.declared.header.Header.{Header}
 use Rattle.message.specs.Limits.{largest_order_number, largest_centre}
-use Rattle.message.specs.declared.header.ReadHeader.{ReadHeader}
 use Rattle.message.specs.Layout.{body_code, read_body, written_body}
 use Rattle.message.specs.Route.{route_values, same_route}
 use Rattle.message.specs.Inner.Route.{route_at}
@@ -86,7 +86,7 @@ module _ (route : Route) where
       && (lt-ltb h.centre (100 ^ 2) (omega arith) i && true && (lt-ltb h.number (100 ^ 2) (omega arith) i && all.2 i && true)))))
 
   -- what an answer tells of the body, and what is told of a written one
-  pub read_told : (h : Header) (body : List ℕ) → header_said route (ReadHeader.Read h) ≡ read_body (header route) body → h ≡ header_of body
+  pub read_told : (h : Header) (body : List ℕ) → header_said route (Ok h) ≡ read_body (header route) body → h ≡ header_of body
   unfolding header_fields
   read_told h body e =
       let read = (told (body_code (header route) body) (table_numbers 1 (header_fields route) body) (header_values route h) e).1 in

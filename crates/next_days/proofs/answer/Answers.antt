@@ -5,4 +5,4 @@ use Rattle.next_days.proofs.answer.Goals as goal
 
 pub returns : goal.returns
 returns c =
-    record { counts = c.write_table.ensures.counts; written = c.write_table.ensures.written ∙ ap table_text c.made-table.ensures }
+    record { counts = c.write_table.ensures.counts; written = c.write_table.ensures.written ∙ ap table_text c.made.ensures }

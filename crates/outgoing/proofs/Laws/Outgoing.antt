@@ -1,7 +1,7 @@
 -- Laws of the ready documents: where a cursor stands, and what each answer of the tests leaves.
 use mathlib.Core.Path.{◌≡◌}
-use mathlib.Core.Bool.{true, false, and-eq-true_iff}
-use mathlib.Core.List.{List, []}
+use mathlib.Core.Bool.{true, and-eq-true_iff}
+use mathlib.Core.List.{List}
 use Prim.Native.Nat.{ℕ, ◌*◌, ◌%◌, ◌≤◌, ◌<◌}
 use native.Mathlib.Omega.{arith}
 use lib.Dec.{eqb, leb}
@@ -19,9 +19,6 @@ cursor_within ready cursor e =
 module _ (presentations returns : List ℕ) (presentations_sent returns_sent : ℕ) where
   pub each_good : both_good presentations returns presentations_sent returns_sent ≡ true → (ready_good presentations presentations_sent ≡ true) × (ready_good returns returns_sent ≡ true)
   each_good e = (and-eq-true_iff (ready_good presentations presentations_sent) (ready_good returns returns_sent)).0 e
-
-  pub nothing_next : both_good presentations returns presentations_sent returns_sent ≡ false → next presentations returns presentations_sent returns_sent ≡ []
-  nothing_next e = rw e
 
   pub next_presented : both_good presentations returns presentations_sent returns_sent ≡ true → presentations_sent < count_in presentations → next presentations returns presentations_sent returns_sent ≡ next_of presentations presentations_sent
   next_presented e h = rw (e, lt-ltb presentations_sent (count_in presentations) h)

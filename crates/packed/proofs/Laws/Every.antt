@@ -1,8 +1,13 @@
--- Laws of a test at every element.
+-- Laws of a test at every element, and of one at any element; what the library answers is what the definitions say.
 use mathlib.Core.Path.{◌≡◌, refl, ap, sym, ◌∙◌}
-use mathlib.Core.Bool.{Bool, true, false, ◌&&◌, and_assoc, and-true, and-eq-true_iff}
+use mathlib.Core.Bool.{Bool, true, false, ◌&&◌, ◌||◌, and_assoc, and-true, and-eq-true_iff}
 use mathlib.Core.List.{List, [], ◌∷◌, ◌++◌, map}
-use Rattle.packed.specs.Every.{every}
+use Prim.Native.Nat.{ℕ, suc, ◌+◌, ◌≤◌, ◌<◌}
+use native.Mathlib.Numerals.{add-one}
+use lib.ListN.{length, get_or, drop, drop_of_length-le}
+use lib.Seq.{drop-cons}
+use Rattle.std.specs.List.{list_all, list_any}
+use Rattle.packed.specs.Every.{every, any_of}
 
 module _ {ℓ} {A : Type ℓ} (p : A → Bool) where
   pub every_append : (xs ys : List A) → every p (xs ++ ys) ≡ every p xs && every p ys
@@ -22,6 +27,14 @@ module _ {ℓ} {A : Type ℓ} (p : A → Bool) where
   pub every_step : (ok : Bool) (x : A) (xs : List A) → ok && p x && every p xs ≡ ok && every p (x ∷ xs)
   unfolding every
   every_step ok x xs = and_assoc ok (p x) (every p xs)
+
+  -- so of a reading that has come to place i
+  pub every_more : (xs : List A) (i : ℕ) (d : A) (ok : Bool) → i < length xs → ok && p (get_or xs i d) && every p (drop (i + 1) xs) ≡ ok && every p (drop i xs)
+  every_more xs i d ok h =
+      rw add-one (every_step ok (get_or xs i d) (drop (suc i) xs) ∙ ap (λ (l : List A). ok && every p l) (sym (drop-cons xs i d h)))
+
+  pub every_end : (xs : List A) (i : ℕ) (ok : Bool) → length xs ≤ i → ok && every p (drop i xs) ≡ ok
+  every_end xs i ok h = ap (λ (l : List A). ok && every p l) (drop_of_length-le xs {i = i} h) ∙ every_none ok
 
 -- two tests at every element are the one at every element and the other
 regroup : (a b c d : Bool) → a && b && (c && d) ≡ a && c && (b && d)
@@ -54,3 +67,14 @@ pub every_always : {A : Type 0} (p : A → Bool) → ((x : A) → p x ≡ true) 
 unfolding every
 every_always p h [] = refl
 every_always p h (x ∷ xs) = rw (h x, every_always p h xs)
+
+-- the library's tests over a list
+pub all_every : {A : Type 0} (p : A → Bool) (xs : List A) → list_all p xs ≡ every p xs
+unfolding every
+all_every p [] = refl
+all_every p (x ∷ xs) = ap (λ (t : Bool). p x && t) (all_every p xs)
+
+pub any_any : {A : Type 0} (p : A → Bool) (xs : List A) → list_any p xs ≡ any_of p xs
+unfolding any_of
+any_any p [] = refl
+any_any p (x ∷ xs) = ap (λ (t : Bool). p x || t) (any_any p xs)

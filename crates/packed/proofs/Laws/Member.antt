@@ -1,11 +1,12 @@
 -- Laws of numbers in a list: in two lists end to end, above all of some, and a number more where none is there twice.
 use mathlib.Core.Path.{◌≡◌, refl, ap, sym, ◌∙◌}
-use mathlib.Core.Bool.{Bool, true, false, not, ◌&&◌, ◌||◌, false≢true}
+use mathlib.Core.Bool.{Bool, true, false, not, ◌&&◌, ◌||◌, or_assoc, false≢true}
 use mathlib.Core.List.{List, [], ◌∷◌, ◌++◌}
 use Prim.Native.Nat.{ℕ, ◌≤◌, ◌<◌}
 use native.Mathlib.Omega.{arith}
 use lib.Dec.{eqb, leb}
 use borrow.Author.Tests.{leb-true, le-leb, ne_eqb, eq-eqb, eqb-true, eqb-false}
+use Rattle.std.specs.List.{list_any}
 use Rattle.packed.specs.Every.{every, member, none_twice, none_above}
 use Rattle.packed.proofs.Laws.Every.{every_cons, every_then}
 
@@ -20,14 +21,10 @@ pub neither : (a b : Bool) → a || b ≡ false → (a ≡ false) × (b ≡ fals
 neither true b e = absurd (false≢true (sym e))
 neither false b e = (refl, e)
 
-or_assoc : (a b c : Bool) → a || (b || c) ≡ a || b || c
-or_assoc true b c = refl
-or_assoc false b c = refl
-
 pub member_append : (n : ℕ) (xs ys : List ℕ) → member n (xs ++ ys) ≡ member n xs || member n ys
 unfolding member
 member_append n [] ys = refl
-member_append n (x ∷ xs) ys = ap (λ (t : Bool). eqb n x || t) (member_append n xs ys) ∙ or_assoc (eqb n x) (member n xs) (member n ys)
+member_append n (x ∷ xs) ys = ap (λ (t : Bool). eqb n x || t) (member_append n xs ys) ∙ sym (or_assoc (eqb n x) (member n xs) (member n ys))
 
 -- a number above all of some is none of them
 pub member_above : (largest k : ℕ) (ns : List ℕ) → none_above largest ns ≡ true → largest < k → member k ns ≡ false
@@ -58,3 +55,9 @@ none_twice_last (n ∷ ns) k =
     (λ i. not (member_append n ns (k ∷ []) i) && none_twice_last ns k i)
     ∙ regroup (member n ns) (eqb n k) (none_twice ns) (member k ns)
     ∙ ap (λ (t : Bool). not (member n ns) && none_twice ns && not (t || member k ns)) (eqb_sym n k)
+
+-- what the library answers of a number in a list
+pub contains_member : (n : ℕ) (xs : List ℕ) → list_any (λ (x : ℕ). eqb x n) xs ≡ member n xs
+unfolding member
+contains_member n [] = refl
+contains_member n (x ∷ xs) = λ i. eqb_sym x n i || contains_member n xs i

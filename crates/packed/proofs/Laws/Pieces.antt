@@ -9,6 +9,7 @@ use lib.Dec.{leb}
 use lib.ListN.{length, take, drop, length-append, length-take, length-drop, take-append-drop, drop_of_length-le}
 use lib.Seq.{take_all, length-take-le, take-append-le, drop-append-le, drop-drop, take_at, drop_at}
 use borrow.Author.Tests.{leb-true, leb-false, le-leb, lt-leb}
+use Rattle.std.specs.Simd.{first_chunks}
 use Rattle.packed.specs.Part.{part}
 use Rattle.packed.specs.Every.{every}
 use Rattle.packed.specs.Pieces.{cut, pieces}
@@ -163,3 +164,13 @@ module _ (k m : ℕ) (wide : 0 < k) (wide' : 0 < m) (f : List ℕ → List ℕ) 
 
   pub pieces_made : (s : List ℕ) → every q (pieces k s) ≡ true → pieces m (flat_map f (pieces k s)) ≡ map f (pieces k s)
   pieces_made s e = made (length s) s (omega arith) e
+
+-- whole pieces are what the library cuts
+pub chunks_pieces : (k : ℕ) → 0 < k → (n : ℕ) (s : List ℕ) → length s ≡ n * k → first_chunks k n s ≡ pieces k s
+unfolding cut
+chunks_pieces k wide zero [] h = refl
+chunks_pieces k wide zero (x ∷ s) h = absurd (omega (arith, zero-mul k))
+chunks_pieces k wide (suc n) s h =
+    let long : k ≤ length s = omega (arith, suc-mul n k) in
+    let rest : length (drop k s) ≡ n * k = simp length-drop (omega (arith, suc-mul n k)) in
+    ap (λ (l : List (List ℕ)). take k s ∷ l) (chunks_pieces k wide n (drop k s) rest) ∙ sym (pieces_step k wide s (omega arith))

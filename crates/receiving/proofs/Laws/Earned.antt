@@ -8,6 +8,7 @@ use native.Mathlib.Omega.{arith}
 use lib.Dec.{eqb}
 use lib.ListN.{length}
 use borrow.Author.Tests.{eqb-true}
+use Rattle.std.specs.Prelude.{Option, None}
 use Rattle.codes.specs.Chain.{◌orelse◌}
 use Rattle.codes.specs.declared.code.Code.{Code}
 use Rattle.codes.specs.Code.{code_number}
@@ -15,10 +16,8 @@ use Rattle.codes.proofs.Laws.Chain.{goes_on, ends as ends-chain}
 use Rattle.message.specs.Content.{content_of}
 use Rattle.message.specs.Reading.{reading}
 use Rattle.message.proofs.Laws.Reading.{number_told, told}
-use Rattle.session.specs.declared.counters.Counters.{Counters}
 use Rattle.session.specs.declared.counters.Course.{Course}
 use Rattle.session.specs.declared.counters.Lot.{Lot}
-use Rattle.session.specs.declared.counters.OpenLot.{OpenLot}
 use Rattle.session.specs.declared.effect.Effect.{Effect}
 use Rattle.session.specs.declared.parties.Parties.{Parties}
 use Rattle.session.specs.declared.session.Receiving.{Receiving}
@@ -34,7 +33,7 @@ use Rattle.receiving.specs.Inner.Earned.{ends_lot, StandsFor}
 use Rattle.receiving.specs.Inner.Lent.{Lent}
 
 -- a refused message, by whether it ends a lot
-refused_moves : (e : Effect) (k : Course) → advance e false k ≡ cond (ends_lot e) (course (reopened OpenLot.None k.counters) empty) k
+refused_moves : (e : Effect) (k : Course) → advance e false k ≡ cond (ends_lot e) (course (reopened None k.counters) empty) k
 unfolding advance
 refused_moves (Effect.LotTotal lot) k = refl
 refused_moves Effect.Nothing k = refl
@@ -72,13 +71,13 @@ alike true effect meant e =
     }
 alike false effect meant e =
     record {
-      moves = λ (k : Course). refused_moves effect k ∙ ap (λ (b : Bool). cond b (course (reopened OpenLot.None k.counters) empty) k) e ∙ sym (refused_moves meant k);
+      moves = λ (k : Course). refused_moves effect k ∙ ap (λ (b : Bool). cond b (course (reopened None k.counters) empty) k) e ∙ sym (refused_moves meant k);
       ends_so = refused_ends effect ∙ sym (refused_ends meant);
       keeps_so = λ (count : ℕ) (lots : List Lot). refused_keeps effect count lots ∙ sym (refused_keeps meant count lots);
     }
 
 -- what the chain lets pass may be counted, and an accepted lot has a free place
-pub countable : (time : ℕ) (body : List ℕ) (p : Parties) (t : Running) (r : Receiving) (code : ℕ) (effect : Effect) → Lent p t r → code ≡ received_code (content_of body) time body p t r → StandsFor (eqb code 0) effect (received_effect (content_of body) body t) → Countable effect (eqb code 0) r.counters t
+pub countable : (time : ℕ) (body : List ℕ) (p : Parties) (t : Running) (r : Receiving) (code : ℕ) (effect : Effect) → Lent p t r → code ≡ received_code (content_of body) time body p t r → StandsFor (eqb code 0) effect (received_effect (content_of body) body t) → Countable effect (eqb code 0) (course r.counters t)
 countable time body p t r code effect g c s = record { counters = g.counters; running = g.running; sound = λ (e : eqb code 0 ≡ true). (allowed e).sound; carried = λ (e : eqb code 0 ≡ true). (allowed e).carried }
   where
     allowed : eqb code 0 ≡ true → Allowed effect (course r.counters t)
@@ -86,12 +85,12 @@ countable time body p t r code effect g c s = record { counters = g.counters; ru
         subst (λ (x : Effect). Allowed x (course r.counters t)) (sym (subst (λ (b : Bool). StandsFor b effect (received_effect (content_of body) body t)) e s))
         (received_allowed time body p t r g.running (content_of body) (sym c ∙ eqb-true code 0 e))
 
-pub free_place : (effect : Effect) (accepted : Bool) (c : Counters) (t : Running) → Countable effect accepted c t → accepted ≡ true → ends_lot effect ≡ true → c.lots < most_lots
-free_place (Effect.LotTotal lot) accepted c t g e l = (subst (λ (o : OpenLot). OpenSound o c.lots) (g.sound e) g.counters.open_lot).1
-free_place Effect.Nothing accepted c t g e l = absurd (false≢true l)
-free_place (Effect.Header number) accepted c t g e l = absurd (false≢true l)
-free_place (Effect.Detail more) accepted c t g e l = absurd (false≢true l)
-free_place Effect.SessionTotal accepted c t g e l = absurd (false≢true l)
+pub free_place : (effect : Effect) (accepted : Bool) (k : Course) → Countable effect accepted k → accepted ≡ true → ends_lot effect ≡ true → k.counters.lots < most_lots
+free_place (Effect.LotTotal lot) accepted k g e l = (subst (λ (o : Option ℕ). OpenSound o k.counters.lots) (g.sound e) g.counters.open_lot).1
+free_place Effect.Nothing accepted k g e l = absurd (false≢true l)
+free_place (Effect.Header number) accepted k g e l = absurd (false≢true l)
+free_place (Effect.Detail more) accepted k g e l = absurd (false≢true l)
+free_place Effect.SessionTotal accepted k g e l = absurd (false≢true l)
 
 -- when an effect stands for another: where the code accepts they are the same, and in any case both or neither end a lot
 pub stands_if : (code : ℕ) (effect meant : Effect) → (code ≡ 0 → effect ≡ meant) → ends_lot effect ≡ ends_lot meant → StandsFor (eqb code 0) effect meant

@@ -13,6 +13,7 @@ use Rattle.text.specs.declared.kind.Kind.TheVariants.{Start, Header, Detail, Lot
 use Rattle.text.specs.declared.line.Line.{Line}
 use Rattle.text.specs.Kind.{shape_of}
 use Rattle.text.specs.Line.{said_of}
+use Rattle.std.specs.Prelude.{Option, Some}
 use Rattle.centre.specs.declared.call.Order.{Order}
 use Rattle.script.specs.declared.reading.Asked.{Asked}
 use Rattle.script.specs.Reading.{u8, u16, u32, asked_by, name_of, meant, meant_by}
@@ -51,19 +52,19 @@ module _ (ns : List ℕ) (count : ℕ) where
 
   asked_taken : (kind : Kind) → (shape_of kind).asked ≤ count → asked_by kind ns ≡ asked_by kind (take count ns)
   unfolding asked_by
-  asked_taken Start h = λ t. Asked.Start (u32 (same 0 (omega arith) t)) (u16 (same 1 (omega arith) t)) (u16 (same 2 (omega arith) t))
-  asked_taken Header h = λ t. Asked.Call (Order.Header (u32 (same 0 (omega arith) t)) (u32 (same 1 (omega arith) t)) (u16 (same 2 (omega arith) t)) (u16 (same 3 (omega arith) t)))
-  asked_taken Detail h = λ t. Asked.Call (Order.Detail (u32 (same 0 (omega arith) t)) (u8 (same 1 (omega arith) t)))
-  asked_taken LotTotal h = λ t. Asked.Call (Order.LotTotal (u32 (same 0 h t)))
-  asked_taken SessionTotal h = λ t. Asked.Call (Order.SessionTotal (u32 (same 0 h t)))
-  asked_taken Receive h = λ t. Asked.Call (Order.Receive (u32 (same 0 h t)))
-  asked_taken Reply h = λ t. Asked.Call (Order.Reply (u32 (same 0 h t)))
-  asked_taken Clock h = λ t. Asked.Call (Order.Clock (u32 (same 0 h t)))
+  asked_taken Start h = λ t. Some (Asked.Start (u32 (same 0 (omega arith) t)) (u16 (same 1 (omega arith) t)) (u16 (same 2 (omega arith) t)))
+  asked_taken Header h = λ t. Some (Asked.Call (Order.Header (u32 (same 0 (omega arith) t)) (u32 (same 1 (omega arith) t)) (u16 (same 2 (omega arith) t)) (u16 (same 3 (omega arith) t))))
+  asked_taken Detail h = λ t. Some (Asked.Call (Order.Detail (u32 (same 0 (omega arith) t)) (u8 (same 1 (omega arith) t))))
+  asked_taken LotTotal h = λ t. Some (Asked.Call (Order.LotTotal (u32 (same 0 h t))))
+  asked_taken SessionTotal h = λ t. Some (Asked.Call (Order.SessionTotal (u32 (same 0 h t))))
+  asked_taken Receive h = λ t. Some (Asked.Call (Order.Receive (u32 (same 0 h t))))
+  asked_taken Reply h = λ t. Some (Asked.Call (Order.Reply (u32 (same 0 h t))))
+  asked_taken Clock h = λ t. Some (Asked.Call (Order.Clock (u32 (same 0 h t))))
   asked_taken Report h = refl
   asked_taken Passed h = refl
   asked_taken Bad h = refl
 
-pub reading_means : (line : Line) (asked : Asked) (entities : List ℕ) (more : ℕ) → asked ≡ asked_by line.kind line.numbers → entities ≡ map u16 (drop 3 line.numbers) → more ≡ line.count - 3 → (shape_of line.kind).asked ≤ line.count → (buffer : List ℕ) → meant_by (record { kind = line.kind; near = line.near; asked = asked; entities = entities; more = more; bytes = line.bytes; room = line.room }) buffer ≡ meant (said_of line buffer)
+pub reading_means : (line : Line) (asked : Option Asked) (entities : List ℕ) (more : ℕ) → asked ≡ asked_by line.kind line.numbers → entities ≡ map u16 (drop 3 line.numbers) → more ≡ line.count - 3 → (shape_of line.kind).asked ≤ line.count → (buffer : List ℕ) → meant_by (record { kind = line.kind; near = line.near; asked = asked; entities = entities; more = more; bytes = line.bytes; room = line.room }) buffer ≡ meant (said_of line buffer)
 reading_means line asked entities more a e m h buffer =
     let named = a ∙ asked_taken line.numbers line.count line.kind h in
     let represented : take more entities ≡ map u16 (drop 3 (take line.count line.numbers)) = (λ t. take (m t) (e t)) ∙ meant_behind u16 3 line.count line.numbers in

@@ -7,6 +7,7 @@ use native.Mathlib.Omega.{arith}
 use lib.Dec.{leb, lit<}
 use lib.ListN.{length}
 use borrow.Author.Tests.{leb-true, leb-false, ltb-false, eqb-true}
+use Rattle.std.specs.Prelude.{Option, Some, None}
 use Rattle.packed.specs.Every.{every}
 use Rattle.packed.specs.Pieces.{pieces}
 use Rattle.packed.specs.Writing.{packed_byte}
@@ -25,7 +26,6 @@ use Rattle.message.specs.Layout.{body_code}
 use Rattle.message.specs.Header.{time_of_day, order_number, header, header_of, header_sendable}
 use Rattle.message.specs.Total.{lot_total, lot_total_fields, total_of}
 use Rattle.message.proofs.Laws.Header.{order_told}
-use Rattle.session.specs.declared.counters.OpenLot.{OpenLot}
 use Rattle.session.specs.declared.counters.Course.{Course}
 use Rattle.session.specs.declared.effect.Effect.{Effect}
 use Rattle.session.specs.declared.parties.Parties.{Parties}
@@ -59,13 +59,13 @@ pub record Allowed (effect : Effect) (k : Course) : Type 0 where
   pub sound : PendingSound effect k.counters
   pub carried : PendingCarried effect k.running
 
-numbered_open : (lot : OpenLot) → is_open lot ≡ true → lot ≡ OpenLot.Numbered (open_number lot)
-numbered_open OpenLot.None e = absurd (false≢true e)
-numbered_open (OpenLot.Numbered n) e = refl
+numbered_open : (lot : Option ℕ) → is_open lot ≡ true → lot ≡ Some (open_number lot)
+numbered_open None e = absurd (false≢true e)
+numbered_open (Some n) e = refl
 
-this_open : (number : ℕ) (lot : OpenLot) → is_open_lot number lot ≡ true → lot ≡ OpenLot.Numbered number
-this_open number OpenLot.None e = absurd (false≢true e)
-this_open number (OpenLot.Numbered n) e = ap OpenLot.Numbered (eqb-true n number e)
+this_open : (number : ℕ) (lot : Option ℕ) → is_open_lot number lot ≡ true → lot ≡ Some number
+this_open number None e = absurd (false≢true e)
+this_open number (Some n) e = ap Some (eqb-true n number e)
 
 -- the presenter's codes let pass only what may be accepted; of a header without a word about running totals
 pub header_sound : (time moment centre number : ℕ) (p : Presenting) → header_stop time moment centre number p ≡ 0 → PendingSound (Effect.Header number) p.counters

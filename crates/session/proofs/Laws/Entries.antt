@@ -2,10 +2,10 @@
 use mathlib.Core.Path.{◌≡◌, refl, ap, ◌∙◌}
 use mathlib.Core.Bool.{true}
 use mathlib.Core.List.{List}
-use mathlib.Core.Option.{Option, none, some}
 use Prim.Native.Nat.{ℕ, ◌<◌}
 use native.Mathlib.Omega.{arith}
 use lib.ListN.{length}
+use Rattle.std.specs.Prelude.{Option, Some, None}
 use Rattle.packed.specs.Writing.{packed_byte}
 use Rattle.detail.specs.Codes.{part_sendable}
 use Rattle.detail.specs.Writing.{written_detail}
@@ -35,11 +35,11 @@ header_read : (route : Route) (h : Header) → table_takes (header_fields route)
 unfolding body_bytes
 header_read route h e = header_told route h e
 
-pub header_entry : (route : Route) (h : Header) → table_takes (header_fields route) (header_values route h) ≡ true → body_entry (body_bytes route (Body.opening h)) ≡ some (Entry.header h.number)
+pub header_entry : (route : Route) (h : Header) → table_takes (header_fields route) (header_values route h) ≡ true → body_entry (body_bytes route (Body.opening h)) ≡ Some (Entry.header h.number)
 unfolding received_entry
-header_entry route h fits = ap (λ (c : Content). received_entry c (body_bytes route (Body.opening h))) (content_told route (Body.opening h)) ∙ ap (λ (x : Header). some (Entry.header x.number)) (header_read route h fits)
+header_entry route h fits = ap (λ (c : Content). received_entry c (body_bytes route (Body.opening h))) (content_told route (Body.opening h)) ∙ ap (λ (x : Header). Some (Entry.header x.number)) (header_read route h fits)
 
-pub detail_entry : (operation : ℕ) (part : List ℕ) → part_sendable operation part ≡ true → body_entry (written_detail (packed_byte operation) part) ≡ some (sent_entry (Send.detail operation part))
+pub detail_entry : (operation : ℕ) (part : List ℕ) → part_sendable operation part ≡ true → body_entry (written_detail (packed_byte operation) part) ≡ Some (sent_entry (Send.detail operation part))
 unfolding received_entry
 detail_entry operation part s =
     let fit = sendable_part operation part s in
@@ -48,13 +48,13 @@ detail_entry operation part s =
     let some_bytes : 0 < length part = omega (arith, fit.least) in
     let op = operation_written o part some_bytes in
     ap (λ (c : Content). received_entry c body) (ap by_operation op ∙ detail_told o (operation_byte_lem operation fit.kind))
-    ∙ λ i. some (Entry.detail (of_operation (op i) (documents_written o part i)))
+    ∙ λ i. Some (Entry.detail (of_operation (op i) (documents_written o part i)))
 
-pub lot_total_entry : (route : Route) (t : Total) → body_entry (body_bytes route (Body.lot_ending t)) ≡ some Entry.lot_total
+pub lot_total_entry : (route : Route) (t : Total) → body_entry (body_bytes route (Body.lot_ending t)) ≡ Some Entry.lot_total
 unfolding received_entry
 lot_total_entry route t = ap (λ (c : Content). received_entry c (body_bytes route (Body.lot_ending t))) (content_told route (Body.lot_ending t))
 
-pub session_total_entry : (route : Route) (t : Total) → body_entry (body_bytes route (Body.session_ending t)) ≡ some Entry.session_total
+pub session_total_entry : (route : Route) (t : Total) → body_entry (body_bytes route (Body.session_ending t)) ≡ Some Entry.session_total
 unfolding received_entry
 session_total_entry route t = ap (λ (c : Content). received_entry c (body_bytes route (Body.session_ending t))) (content_told route (Body.session_ending t))
 
@@ -63,5 +63,5 @@ pub open_lot_same : (c : Counters) (t : Running) (b : Ledger) → ◌≡◌ {A =
 open_lot_same c t b course = ap (λ (k : Course). ending_lot k.counters k.running) course ∙ go b.current
   where
     go : (o : Option LedgerLot) → ◌≡◌ {A = Lot} (record { number = open_number (open_of o); gathered = running_of o }) (lot_of o)
-    go none = refl
-    go (some l) = refl
+    go None = refl
+    go (Some l) = refl

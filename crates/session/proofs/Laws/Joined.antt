@@ -4,11 +4,11 @@ use mathlib.Core.Path.{◌≡◌, ap, subst}
 use mathlib.Core.Bool.{Bool, true, false, cond}
 use mathlib.Core.List.{List, ◌∷◌, map}
 use mathlib.Core.Logic.{◌⊎◌, inl, inr}
-use mathlib.Core.Option.{Option, none, some}
 use Prim.Native.Nat.{ℕ, suc}
 use native.Mathlib.Omega.{arith}
 use lib.Dec.{eqb}
 use borrow.Author.Tests.{ne_eqb}
+use Rattle.std.specs.Prelude.{Option, Some, None}
 use Rattle.packed.specs.Every.{member}
 use Rattle.message.specs.declared.route.Route.{Route}
 use Rattle.message.specs.declared.envelope.Kind.{Kind}
@@ -31,8 +31,8 @@ use Rattle.session.proofs.Laws.Lists.{up_to}
 
 -- what waits, as the presenter's state has it
 abbrev pub waiting_effect : Option Waiting → Ledger → Effect
-waiting_effect none b = Effect.Nothing
-waiting_effect (some m) b = effect_of m.entry b
+waiting_effect None b = Effect.Nothing
+waiting_effect (Some m) b = effect_of m.entry b
 
 -- the operation of the reply to what waits
 abbrev pub reply_for : Entry → ReplyOperation
@@ -47,7 +47,7 @@ pub record OnLine (route : Route) (serial : ℕ) (m : Waiting) (trace : List Eve
   pub good : envelope_good Kind.Message m.message ≡ true
   pub way : (envelope_of m.message).route ≡ route
   pub numbered : serial_of m.message ≡ serial
-  pub reads : body_entry (body_of m.message) ≡ some m.entry
+  pub reads : body_entry (body_of m.message) ≡ Some m.entry
 
 pub record PresenterSide (p : Presenting) (t : Running) (b : PresenterLedger) : Type 0 where
   pub course : ◌≡◌ {A = Course} (record { counters = p.counters; running = t }) (summary b.ledger)
@@ -56,8 +56,8 @@ pub record PresenterSide (p : Presenting) (t : Running) (b : PresenterLedger) : 
 
 -- the open lot's number is no accepted lot's
 abbrev pub NewNumber : Option LedgerLot → List LedgerLot → Type 0
-NewNumber none ls = Unit {0}
-NewNumber (some l) ls = member l.number (numbers ls) ≡ false
+NewNumber None ls = Unit {0}
+NewNumber (Some l) ls = member l.number (numbers ls) ≡ false
 
 -- what the receiver's own book says of its state
 pub record Mirrored (r : Receiving) (t : Running) (b : Ledger) : Type 0 where
@@ -73,9 +73,9 @@ pub record Seen (last : ℕ) (serials : List ℕ) : Type 0 where
 
 -- nothing waits and the books are equal; or a message waits that was not received; or one that was, with the code that is kept
 pub data Link (p : Presenting) (r : Receiving) (waiting : Option Waiting) (confirming counting : Ledger) : Type 0 where
-  idle : waiting ≡ none → p.serial ≡ r.serial → confirming ≡ counting → Link p r waiting confirming counting
-  sent : (m : Waiting) → waiting ≡ some m → p.serial ≡ suc r.serial → confirming ≡ counting → Link p r waiting confirming counting
-  taken : (m : Waiting) → waiting ≡ some m → p.serial ≡ r.serial → counting ≡ enter m.entry (accepts r.reply.code) confirming → r.reply.operation ≡ reply_for m.entry → Link p r waiting confirming counting
+  idle : waiting ≡ None → p.serial ≡ r.serial → confirming ≡ counting → Link p r waiting confirming counting
+  sent : (m : Waiting) → waiting ≡ Some m → p.serial ≡ suc r.serial → confirming ≡ counting → Link p r waiting confirming counting
+  taken : (m : Waiting) → waiting ≡ Some m → p.serial ≡ r.serial → counting ≡ enter m.entry (accepts r.reply.code) confirming → r.reply.operation ≡ reply_for m.entry → Link p r waiting confirming counting
 
 -- the two ends of a direction: the record in the session, the running totals, and what was entered
 pub record PresentingEnd : Type 0 where
@@ -103,13 +103,13 @@ pub record Joined (route : Route) (p : PresentingEnd) (r : ReceivingEnd) (trace 
   pub receiver : Mirrored r.state r.running r.entered.ledger
   pub seen : Seen r.state.serial r.entered.serials
   pub link : Link p.state r.state p.entered.waiting p.entered.ledger r.entered.ledger
-  pub waits : (m : Waiting) → p.entered.waiting ≡ some m → OnLine route p.state.serial m trace
+  pub waits : (m : Waiting) → p.entered.waiting ≡ Some m → OnLine route p.state.serial m trace
   pub messages : (bytes : List ℕ) → WrittenBefore bytes trace → MessageFact route p.state.serial p.entered.waiting bytes
   pub replies : (bytes : List ℕ) → WrittenBefore bytes trace → ReplyFact route r.state.serial r.state.reply.code bytes
 
 module _ (route : Route) (p : PresentingEnd) (r : ReceivingEnd) (trace : List Event) (j : Joined route p r trace) where
   -- what waits is on the line after any call
-  pub still : (x : Event) (m : Waiting) → p.entered.waiting ≡ some m → OnLine route p.state.serial m (x ∷ trace)
+  pub still : (x : Event) (m : Waiting) → p.entered.waiting ≡ Some m → OnLine route p.state.serial m (x ∷ trace)
   still x m w = let o = j.waits m w in record { written = inr o.written; good = o.good; way = o.way; numbered = o.numbered; reads = o.reads }
 
   -- a call that writes nothing of this direction

@@ -2,11 +2,10 @@
 use mathlib.Core.Path.{◌≡◌, refl, ap, sym, ◌∙◌}
 use mathlib.Core.Bool.{Bool, true, false, false≢true}
 use mathlib.Core.List.{List, [], ◌∷◌, ◌++◌}
-use mathlib.Core.Option.{Option, none, some}
 use Prim.Native.Nat.{ℕ, suc}
 use native.Mathlib.Omega.{arith}
 use lib.ListN.{length, length-append}
-use Rattle.session.specs.declared.counters.OpenLot.{OpenLot}
+use Rattle.std.specs.Prelude.{Option, Some, None}
 use Rattle.session.specs.declared.counters.Lot.{Lot}
 use Rattle.session.specs.declared.counters.Course.{Course}
 use Rattle.session.specs.declared.effect.Effect.{Effect}
@@ -38,21 +37,21 @@ detail_sum operation [] = sym (adds_none operation)
 detail_sum operation (d ∷ ds) = ap (gather (detail_adds operation (d ∷ []))) (detail_sum operation ds) ∙ sym (adds_one operation d ds)
 
 -- the counters of a ledger
-abbrev pub open_of : Option LedgerLot → OpenLot
-open_of none = OpenLot.None
-open_of (some l) = OpenLot.Numbered l.number
+abbrev pub open_of : Option LedgerLot → Option ℕ
+open_of None = None
+open_of (Some l) = Some l.number
 
 abbrev pub running_of : Option LedgerLot → Running
-running_of none = empty
-running_of (some l) = sum l.documents
+running_of None = empty
+running_of (Some l) = sum l.documents
 
 abbrev pub summary : Ledger → Course
 summary b = record { counters = record { current = open_of b.current; lots = length b.lots; gathered = lots_sum b.lots }; running = running_of b.current }
 
 -- the lot that a total of the presenter would end
 abbrev pub lot_of : Option LedgerLot → Lot
-lot_of none = record { number = 0; gathered = empty }
-lot_of (some l) = lot_sum l
+lot_of None = record { number = 0; gathered = empty }
+lot_of (Some l) = lot_sum l
 
 -- what an entry does to the counters of a ledger
 abbrev pub effect_of : Entry → Ledger → Effect
@@ -62,7 +61,7 @@ effect_of Entry.lot_total b = Effect.LotTotal (lot_of b.current)
 effect_of Entry.session_total b = Effect.SessionTotal
 
 -- an entry that is accepted into an open lot finds one
-abbrev pub Finds : Entry → OpenLot → Type 0
+abbrev pub Finds : Entry → Option ℕ → Type 0
 Finds (Entry.header number) lot = Unit {0}
 Finds (Entry.detail ds) lot = is_open lot ≡ true
 Finds Entry.lot_total lot = is_open lot ≡ true
@@ -77,13 +76,13 @@ mirrors (Entry.detail ds) false b h = refl
 mirrors (Entry.detail ds) true b h = go b.current (h refl)
   where
     go : (current : Option LedgerLot) → is_open (open_of current) ≡ true → advance (Effect.Detail (sum ds)) true (summary (record { lots = b.lots; current = current })) ≡ summary (enter (Entry.detail ds) true (record { lots = b.lots; current = current }))
-    go none e = absurd (false≢true e)
-    go (some l) e = λ i. record { counters = (summary (record { lots = b.lots; current = some l })).counters; running = sym (sum_append l.documents ds) i }
+    go None e = absurd (false≢true e)
+    go (Some l) e = λ i. record { counters = (summary (record { lots = b.lots; current = Some l })).counters; running = sym (sum_append l.documents ds) i }
 mirrors Entry.lot_total false b h = refl
 mirrors Entry.lot_total true b h = go b.current (h refl)
   where
     go : (current : Option LedgerLot) → is_open (open_of current) ≡ true → advance (Effect.LotTotal (lot_of current)) true (summary (record { lots = b.lots; current = current })) ≡ summary (enter Entry.lot_total true (record { lots = b.lots; current = current }))
-    go none e = absurd (false≢true e)
-    go (some l) e =
-        λ i. record { counters = record { current = OpenLot.None; lots = sym (one_longer b.lots l) i; gathered = sym (lots_last b.lots l) i }; running = empty }
+    go None e = absurd (false≢true e)
+    go (Some l) e =
+        λ i. record { counters = record { current = None; lots = sym (one_longer b.lots l) i; gathered = sym (lots_last b.lots l) i }; running = empty }
 mirrors Entry.session_total accepted b h = refl

@@ -2,9 +2,9 @@
 use mathlib.Core.Path.{◌≡◌, ap, ◌∙◌}
 use mathlib.Core.Bool.{Bool, true, false, true≢false, false≢true}
 use mathlib.Core.List.{List, ◌++◌}
-use mathlib.Core.Option.{Option, some}
 use Prim.Native.Nat.{ℕ, ◌≤◌}
 use lib.Dec.{eqb}
+use Rattle.std.specs.Prelude.{Option, Some}
 use Rattle.packed.specs.Part.{byte_at}
 use Rattle.packed.specs.Number.{byte_value}
 use Rattle.codes.specs.declared.code.Code.{Code}
@@ -30,7 +30,7 @@ accepts c = eqb (code_number c) 0
 -- a message of a direction is no later than the presenter's last, and that one reads as what is waiting
 abbrev pub MessageFact : Route → (serial : ℕ) → Option Waiting → List ℕ → Type 0
 MessageFact route serial waiting bytes =
-    envelope_good Kind.Message bytes ≡ true → (envelope_of bytes).route ≡ route → (serial_of bytes ≤ serial) × ((m : Waiting) → serial_of bytes ≡ serial → waiting ≡ some m → body_entry (body_of bytes) ≡ some m.entry)
+    envelope_good Kind.Message bytes ≡ true → (envelope_of bytes).route ≡ route → (serial_of bytes ≤ serial) × ((m : Waiting) → serial_of bytes ≡ serial → waiting ≡ Some m → body_entry (body_of bytes) ≡ Some m.entry)
 
 -- a reply is to nothing later than the receiver's last, and that one brings the kept code
 abbrev pub ReplyFact : Route → (serial : ℕ) → Code → List ℕ → Type 0

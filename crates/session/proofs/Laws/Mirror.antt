@@ -2,11 +2,11 @@
 use mathlib.Core.Path.{◌≡◌, refl, ap, sym, subst, ◌∙◌}
 use mathlib.Core.Bool.{Bool, true, false, false≢true}
 use mathlib.Core.List.{List, [], ◌∷◌, ◌++◌, map}
-use mathlib.Core.Option.{Option, none, some}
 use Prim.Native.Nat.{ℕ, ◌<◌}
 use lib.Dec.{lit<}
 use lib.ListN.{length}
 use lib.Seq.{take-suc-set}
+use Rattle.std.specs.Prelude.{Option, Some, None}
 use Rattle.codes.specs.Body.{operation_of}
 use Rattle.codes.proofs.Laws.Chain.{passed, none_both}
 use Rattle.packed.specs.Every.{member}
@@ -15,7 +15,6 @@ use Rattle.message.specs.declared.content.Content.{Content}
 use Rattle.message.specs.Layout.{body_code}
 use Rattle.message.specs.Header.{header, header_of}
 use Rattle.message.specs.Total.{lot_total_fields, total_of}
-use Rattle.session.specs.declared.counters.OpenLot.{OpenLot}
 use Rattle.session.specs.declared.counters.Lot.{Lot}
 use Rattle.session.specs.declared.counters.Course.{Course}
 use Rattle.session.specs.declared.effect.Effect.{Effect}
@@ -37,7 +36,7 @@ use Rattle.session.proofs.Laws.Joined.{NewNumber, Mirrored}
 -- the lot that an accepted total ends is the open one of the book
 record Ended (number : ℕ) (t : Running) (b : Ledger) : Type 0 where
   lot : LedgerLot
-  current : b.current ≡ some lot
+  current : b.current ≡ Some lot
   same : ◌≡◌ {A = Lot} (record { number = number; gathered = t }) (lot_sum lot)
 
 module _ (r : Receiving) (t : Running) (b : Ledger) (m : Mirrored r t b) where
@@ -47,23 +46,23 @@ module _ (r : Receiving) (t : Running) (b : Ledger) (m : Mirrored r t b) where
   open_same : r.counters.current ≡ open_of b.current
   open_same = ap (λ (k : Course). k.counters.current) m.course
 
-  ended : (number : ℕ) → r.counters.current ≡ OpenLot.Numbered number → Ended number t b
+  ended : (number : ℕ) → r.counters.current ≡ Some number → Ended number t b
   ended number e = go b.current refl
     where
       go : (o : Option LedgerLot) → b.current ≡ o → Ended number t b
-      go none h = absurd (false≢true (ap is_open (sym (ap open_of h) ∙ sym open_same ∙ e)))
-      go (some l) h =
+      go None h = absurd (false≢true (ap is_open (sym (ap open_of h) ∙ sym open_same ∙ e)))
+      go (Some l) h =
           let numbered : number ≡ l.number = ap open_number (sym e ∙ open_same ∙ ap open_of h) in
           let gathered : t ≡ sum l.documents = ap (λ (k : Course). k.running) m.course ∙ ap running_of h in
           record { lot = l; current = h; same = λ i. record { number = numbered i; gathered = gathered i } }
 
   longer_new : (ds : List Document) (o : Option LedgerLot) → NewNumber o b.lots → NewNumber (longer ds o) b.lots
-  longer_new ds none n = tt
-  longer_new ds (some l) n = n
+  longer_new ds None n = tt
+  longer_new ds (Some l) n = n
 
   closed_once : (o : Option LedgerLot) → NewNumber o b.lots → Distinct (numbers (moved b.lots o))
-  closed_once none n = m.once
-  closed_once (some l) n = subst Distinct (sym (numbers_last b.lots l)) (distinct_last (numbers b.lots) l.number m.once n)
+  closed_once None n = m.once
+  closed_once (Some l) n = subst Distinct (sym (numbers_last b.lots l)) (distinct_last (numbers b.lots) l.number m.once n)
 
   module _ (body : List ℕ) where
     -- a header that is accepted has a number that no accepted lot has
@@ -94,11 +93,11 @@ module _ (r : Receiving) (t : Running) (b : Ledger) (m : Mirrored r t b) where
     course_mirrors Content.Detail accepted a =
         let e = Entry.detail (of_operation (operation_of body) (documents body)) in
         (λ i. advance (Effect.Detail (sym (detail_sum (operation_of body) (documents body)) i)) accepted (m.course i))
-        ∙ mirrors e accepted b (λ (h : accepted ≡ true). subst (λ (lot : OpenLot). is_open lot ≡ true) open_same (a h).sound)
+        ∙ mirrors e accepted b (λ (h : accepted ≡ true). subst (λ (lot : Option ℕ). is_open lot ≡ true) open_same (a h).sound)
     course_mirrors Content.LotTotal true a =
         let last = ended (total_of lot_total_fields body).number (a refl).sound in
         (λ i. advance (Effect.LotTotal ((last.same ∙ sym (ap lot_of last.current)) i)) true (m.course i))
-        ∙ mirrors Entry.lot_total true b (λ (h : true ≡ true). subst (λ (lot : OpenLot). is_open lot ≡ true) (sym (ap open_of last.current)) refl)
+        ∙ mirrors Entry.lot_total true b (λ (h : true ≡ true). subst (λ (lot : Option ℕ). is_open lot ≡ true) (sym (ap open_of last.current)) refl)
     course_mirrors Content.LotTotal false a = ap (advance (Effect.LotTotal (lot_of b.current)) false) m.course
     course_mirrors Content.SessionTotal accepted a = m.course
     course_mirrors Content.Unknown accepted a = m.course
@@ -113,7 +112,7 @@ module _ (r : Receiving) (t : Running) (b : Ledger) (m : Mirrored r t b) where
     unfolding received_effect received_entry advance enter kept
     lots_mirror Content.LotTotal true a room =
         let last = ended (total_of lot_total_fields body).number (a refl).sound in
-        let place = room (subst (λ (lot : OpenLot). is_open lot ≡ true) (sym (a refl).sound) refl) in
+        let place = room (subst (λ (lot : Option ℕ). is_open lot ≡ true) (sym (a refl).sound) refl) in
         take-suc-set r.lots r.counters.lots (record { number = (total_of lot_total_fields body).number; gathered = t }) place
         ∙ (λ i. m.kept i ++ last.same i ∷ [])
         ∙ sym (sums_last b.lots last.lot)

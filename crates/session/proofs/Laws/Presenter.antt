@@ -3,12 +3,13 @@ use mathlib.Core.Path.{◌≡◌, refl, ap, sym, subst, ◌∙◌}
 use mathlib.Core.Bool.{Bool, true, false, cond, false≢true}
 use mathlib.Core.List.{List, [], ◌∷◌}
 use mathlib.Core.Logic.{inl, inr}
-use mathlib.Core.Option.{Option, none, some, some-injective, none-ne-some}
 use Prim.Native.Nat.{ℕ, suc, ◌+◌, ◌≤◌}
 use native.Mathlib.Omega.{arith}
 use lib.Dec.{eqb}
 use lib.ListN.{length, take}
 use lib.Seq.{sets}
+use Rattle.std.specs.Prelude.{Option, Some, None}
+use Rattle.std.proofs.lemmas.Option.{none-some, same_Some}
 use Rattle.codes.proofs.Laws.Chain.{none_both}
 use Rattle.detail.specs.Codes.{presenter_code}
 use Rattle.detail.proofs.Laws.Codes.{accepted_part}
@@ -72,7 +73,7 @@ module _ (x : End) (e : Engine) (ready : Ready e) (different : e.session.parties
 
   module _ (j : Joined route here r trace) where
     -- what is pending, where an entry waits
-    pending_is : (m : Waiting) → bp.waiting ≡ some m → p.pending ≡ effect_of m.entry bp.ledger
+    pending_is : (m : Waiting) → bp.waiting ≡ Some m → p.pending ≡ effect_of m.entry bp.ledger
     pending_is m w = j.presenter.pending ∙ ap (λ (o : Option Waiting). waiting_effect o bp.ledger) w
 
     -- the ends after a call with this outcome, in which the running totals are the call's own or not
@@ -85,7 +86,7 @@ module _ (x : End) (e : Engine) (ready : Ready e) (different : e.session.parties
     -- what a send that nothing stops awaits is its entry's, and its body reads as that
     record SentSo (h : Held) (m : Send) : Type 0 where
       awaits : sent_effect m h ≡ effect_of (sent_entry m) bp.ledger
-      reads : body_entry (sent_body m h) ≡ some (sent_entry m)
+      reads : body_entry (sent_body m h) ≡ Some (sent_entry m)
       long : length_good Kind.Message (envelope_bytes + length (sent_body m h)) ≡ true
 
     module _ (time : ℕ) (m : Send) (line : List ℕ) where
@@ -123,10 +124,10 @@ module _ (x : End) (e : Engine) (ready : Ready e) (different : e.session.parties
             replies = all_replies;
           }
         where
-          on_line : (m : Waiting) → some waiting ≡ some m → OnLine route (suc p.serial) m (event ∷ trace)
+          on_line : (m : Waiting) → Some waiting ≡ Some m → OnLine route (suc p.serial) m (event ∷ trace)
           on_line m same =
               let fit = next_fits e.session ready.sound told.more in
-              subst (λ (x : Waiting). OnLine route (suc p.serial) x (event ∷ trace)) (some-injective waiting m same)
+              subst (λ (x : Waiting). OnLine route (suc p.serial) x (event ∷ trace)) (same_Some waiting m same)
               (record {
                 written = inl (refl, refl);
                 good = written_good Kind.Message (next_envelope e.session) body fit so.long;
@@ -135,25 +136,25 @@ module _ (x : End) (e : Engine) (ready : Ready e) (different : e.session.parties
                 reads = ap body_entry (body_told Kind.Message (next_envelope e.session) body) ∙ so.reads;
               })
 
-          waits : (m : Waiting) → bp.waiting ≡ some m → ⊥
+          waits : (m : Waiting) → bp.waiting ≡ Some m → ⊥
           waits m w = false≢true (sym told.idle ∙ ap is_pending (pending_is m w) ∙ pending_some m.entry bp.ledger)
 
-          linked : Link p r.state bp.waiting bp.ledger r.entered.ledger → Link (sent time effect e.session).presenting r.state (some waiting) bp.ledger r.entered.ledger
+          linked : Link p r.state bp.waiting bp.ledger r.entered.ledger → Link (sent time effect e.session).presenting r.state (Some waiting) bp.ledger r.entered.ledger
           linked (Link.idle w s b) = Link.sent waiting refl (ap suc s) b
           linked (Link.sent d w s b) = absurd (waits d w)
           linked (Link.taken d w s b o) = absurd (waits d w)
 
-          all_messages : (b : List ℕ) → WrittenBefore b (event ∷ trace) → MessageFact route (suc p.serial) (some waiting) b
+          all_messages : (b : List ℕ) → WrittenBefore b (event ∷ trace) → MessageFact route (suc p.serial) (Some waiting) b
           all_messages b (inl w) =
-              subst (MessageFact route (suc p.serial) (some waiting)) w.1
+              subst (MessageFact route (suc p.serial) (Some waiting)) w.1
               (λ (g : envelope_good Kind.Message bytes ≡ true) (way : (envelope_of bytes).route ≡ route). (
                 omega (arith, serial_read Kind.Message (next_envelope e.session) body (next_fits e.session ready.sound told.more)),
-                λ (m : Waiting) (s : serial_of bytes ≡ suc p.serial) (same : some waiting ≡ some m). ap body_entry (body_told Kind.Message (next_envelope e.session) body) ∙ so.reads ∙ ap (λ (x : Waiting). some x.entry) (some-injective waiting m same),
+                λ (m : Waiting) (s : serial_of bytes ≡ suc p.serial) (same : Some waiting ≡ Some m). ap body_entry (body_told Kind.Message (next_envelope e.session) body) ∙ so.reads ∙ ap (λ (x : Waiting). Some x.entry) (same_Some waiting m same),
               ))
           all_messages b (inr w) =
               λ (g : envelope_good Kind.Message b ≡ true) (way : (envelope_of b).route ≡ route).
               let old = (j.messages b w g way).0 in
-              (omega (arith, old), λ (m : Waiting) (s : serial_of b ≡ suc p.serial) (same : some waiting ≡ some m). absurd (omega (arith, old, s)))
+              (omega (arith, old), λ (m : Waiting) (s : serial_of b ≡ suc p.serial) (same : Some waiting ≡ Some m). absurd (omega (arith, old, s)))
 
           all_replies : (b : List ℕ) → WrittenBefore b (event ∷ trace) → ReplyFact route r.state.serial r.state.reply.code b
           all_replies b (inl w) = subst (ReplyFact route r.state.serial r.state.reply.code) w.1 (λ (g : envelope_good Kind.Reply bytes ≡ true) (way : (envelope_of bytes).route ≡ route). absurd (message_no_reply (next_envelope e.session) body g))
@@ -174,7 +175,7 @@ module _ (x : End) (e : Engine) (ready : Ready e) (different : e.session.parties
       abbrev reply_held : Held
       reply_held = lent Direction.presenting line e
 
-      finds : (m : Waiting) → bp.waiting ≡ some m → Finds m.entry (open_of bp.ledger.current)
+      finds : (m : Waiting) → bp.waiting ≡ Some m → Finds m.entry (open_of bp.ledger.current)
       finds m w = go m.entry (subst (λ (f : Effect). PendingSound f p.counters) (pending_is m w) ready.sound.pending)
         where
           same_open : p.counters.current ≡ open_of bp.ledger.current
@@ -186,7 +187,7 @@ module _ (x : End) (e : Engine) (ready : Ready e) (different : e.session.parties
           go Entry.lot_total s = sym (ap is_open same_open) ∙ ap is_open s
           go Entry.session_total s = tt
 
-      entered : (m : Waiting) (accepted : Bool) → bp.waiting ≡ some m → advance p.pending accepted (record { counters = p.counters; running = pt }) ≡ summary (enter m.entry accepted bp.ledger)
+      entered : (m : Waiting) (accepted : Bool) → bp.waiting ≡ Some m → advance p.pending accepted (record { counters = p.counters; running = pt }) ≡ summary (enter m.entry accepted bp.ledger)
       entered m accepted w = (λ i. advance ((pending_is m w) i) accepted (j.presenter.course i)) ∙ mirrors m.entry accepted bp.ledger (λ (h : accepted ≡ true). finds m w)
 
       replied_joined : WrittenBefore bytes trace → ReplyTold bytes e.session → Joined route (presenting_end (replied time (is_accepted bytes) reply_held).session.presenting (replied time (is_accepted bytes) reply_held).running (answered_with (is_accepted bytes) bp)) r trace
@@ -205,10 +206,10 @@ module _ (x : End) (e : Engine) (ready : Ready e) (different : e.session.parties
                 receiver = j.receiver;
                 seen = j.seen;
                 link = Link.idle refl s level;
-                waits = λ (m : Waiting) (waits : none ≡ some m). absurd (none-ne-some m waits);
+                waits = λ (m : Waiting) (waits : None ≡ Some m). absurd (none-some m waits);
                 messages =
                     λ (b : List ℕ) (w : WrittenBefore b trace) (g : envelope_good Kind.Message b ≡ true) (way : (envelope_of b).route ≡ route).
-                    ((j.messages b w g way).0, λ (m : Waiting) (q : serial_of b ≡ p.serial) (waits : none ≡ some m). absurd (none-ne-some m waits));
+                    ((j.messages b w g way).0, λ (m : Waiting) (q : serial_of b ≡ p.serial) (waits : None ≡ Some m). absurd (none-some m waits));
                 replies = j.replies;
               }
 

@@ -1,7 +1,6 @@
 -- The receiving end of a direction: whatever call is made there, the two ends stay joined.
 use mathlib.Core.Path.{◌≡◌, refl, ap, sym, subst, ◌∙◌}
 use mathlib.Core.Bool.{Bool, true, false, ◌||◌, cond, false≢true}
-use mathlib.Core.Option.{Option, none, some}
 use mathlib.Core.List.{List, [], ◌∷◌}
 use mathlib.Core.Logic.{◌⊎◌, inl, inr}
 use Prim.Native.Nat.{ℕ, suc, ◌≤◌, ◌<◌}
@@ -9,6 +8,7 @@ use native.Mathlib.Omega.{arith}
 use lib.Dec.{eqb}
 use lib.ListN.{length}
 use borrow.Author.Tests.{eqb-true, eq-eqb}
+use Rattle.std.specs.Prelude.{Option, Some, None}
 use Rattle.codes.proofs.Laws.Code.{accepts as code-accepts}
 use Rattle.packed.specs.Every.{member}
 use Rattle.message.specs.declared.route.Route.{Route}
@@ -21,7 +21,6 @@ use Rattle.message.specs.Reply.{written_reply_body}
 use Rattle.message.specs.Line.{whole_message, whole_reply}
 use Rattle.message.proofs.Laws.Envelope.{serial_told, whole_length}
 use Rattle.session.specs.Parties.{Direction, receiving_route}
-use Rattle.session.specs.declared.counters.OpenLot.{OpenLot}
 use Rattle.session.specs.declared.session.Receiving.{Receiving}
 use Rattle.session.specs.Limits.{most_lots}
 use Rattle.session.specs.declared.running.Running.{Running}
@@ -49,14 +48,14 @@ use Rattle.session.proofs.Laws.Mirror.{course_mirrors, lots_mirror, numbers_mirr
 use Rattle.session.proofs.Laws.Foreign.{Foreign, nothing_foreign, message_foreign, reply_fits}
 
 -- an open lot has a place among the accepted ones
-has_room : (lot : OpenLot) (lots : ℕ) → OpenSound lot lots → is_open lot ≡ true → lots < most_lots
-has_room OpenLot.None lots s e = absurd (false≢true e)
-has_room (OpenLot.Numbered n) lots s e = s.1
+has_room : (lot : Option ℕ) (lots : ℕ) → OpenSound lot lots → is_open lot ≡ true → lots < most_lots
+has_room None lots s e = absurd (false≢true e)
+has_room (Some n) lots s e = s.1
 
 -- the reply to a body has the operation of what it is read as
 abbrev pub reply_for_read : Option Entry → ReplyOperation
-reply_for_read none = ReplyOperation.Other
-reply_for_read (some e) = reply_for e
+reply_for_read None = ReplyOperation.Other
+reply_for_read (Some e) = reply_for e
 
 pub reply_entry : (body : List ℕ) → operation_for (content_of body) ≡ reply_for_read (body_entry body)
 unfolding received_entry
@@ -183,7 +182,7 @@ module _ (x : End) (e : Engine) (ready : Ready e) (different : e.session.parties
       linked next (Link.idle w s b) = absurd (omega (arith, next, s, (j.messages bytes brought told.good told.way).0))
       linked next (Link.taken d w s b o) = absurd (omega (arith, next, s, (j.messages bytes brought told.good told.way).0))
       linked next (Link.sent m w s b) =
-          let reads : body_entry body ≡ some m.entry = (j.messages bytes brought told.good told.way).1 m (next ∙ sym s) w in
+          let reads : body_entry body ≡ Some m.entry = (j.messages bytes brought told.good told.way).1 m (next ∙ sym s) w in
           Link.taken m w s (λ i. enter_read (reads i) (sym (code-accepts code) i) (sym b i)) (reply_entry body ∙ ap reply_for_read reads)
 
       taken_joined : serial_of bytes ≡ suc r.serial → Joined route p (receiving_end (receiving_after code body rt r) (receiving_course code body rt r).running entered) (event_of x (Call.receive time bytes) 0 (whole_reply (envelope_of bytes) kept) ∷ trace)

@@ -7,13 +7,13 @@ use native.Mathlib.Omega.{arith}
 use lib.Dec.{eqb}
 use lib.ListN.{length, length-set, length-replicate}
 use borrow.Author.Tests.{eqb-true}
+use Rattle.std.specs.Prelude.{Option, Some}
 use Rattle.message.specs.declared.envelope.Kind.{Kind}
 use Rattle.message.specs.Envelope.{serial_of, body_of}
 use Rattle.message.specs.Content.{content_of}
 use Rattle.message.specs.Line.{whole_message}
 use Rattle.message.proofs.Laws.Envelope.{serial_told}
 use Rattle.message.specs.Limits.{largest_serial}
-use Rattle.session.specs.declared.counters.OpenLot.{OpenLot}
 use Rattle.session.specs.declared.counters.Lot.{Lot}
 use Rattle.session.specs.declared.counters.Course.{Course}
 use Rattle.session.specs.declared.effect.Effect.{Effect}
@@ -63,7 +63,7 @@ advanced (Effect.Detail more) true k s h =
     record { counters = s.counters; fits = a.carried }
 advanced (Effect.LotTotal lot) true k s h =
     let a = h refl in
-    let room : OpenSound (OpenLot.Numbered lot.number) k.counters.lots = subst (λ (o : OpenLot). OpenSound o k.counters.lots) a.sound s.counters.open_lot in
+    let room : OpenSound (Some lot.number) k.counters.lots = subst (λ (o : Option ℕ). OpenSound o k.counters.lots) a.sound s.counters.open_lot in
     let g = s.counters.gathered in
     let f : Fits most_lot_documents lot.gathered = subst (Fits most_lot_documents) (sym a.carried) s.fits in
     record {

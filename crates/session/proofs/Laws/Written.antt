@@ -8,6 +8,7 @@ use native.Mathlib.Omega.{arith}
 use lib.Dec.{lit<}
 use lib.ListN.{length, take}
 use borrow.Author.Tests.{le-leb}
+use Rattle.std.specs.Prelude.{Option, Some, None}
 use Rattle.packed.specs.Writing.{packed_byte}
 use Rattle.codes.specs.Body.{operation_of}
 use Rattle.codes.proofs.Laws.Chain.{none_both, held}
@@ -27,7 +28,6 @@ use Rattle.message.proofs.Laws.Envelope.{body_told, written_then_read, read_then
 use Rattle.message.proofs.Laws.Header.{in_range}
 use Rattle.message.proofs.Laws.Total.{lot_in_range, session_in_range}
 use Rattle.message.proofs.Laws.Line.{message_read}
-use Rattle.session.specs.declared.counters.OpenLot.{OpenLot}
 use Rattle.session.specs.declared.session.Session.{Session}
 use Rattle.session.specs.Limits.{most_lot_documents}
 use Rattle.session.specs.Parties.{presenting_route, Direction}
@@ -50,9 +50,9 @@ detail_long operation part s =
     λ i. le-leb (envelope_bytes + 1) whole (omega (arith, size, fit.least)) i && le-leb whole message_room (omega (arith, size, fit.whole, fit.most)) i
 
 -- the number of an open lot fits its field, and 0 does where none is open
-number_fits : (lot : OpenLot) (lots : ℕ) → OpenSound lot lots → open_number lot < 100 ^ 2
-number_fits OpenLot.None lots s = omega arith
-number_fits (OpenLot.Numbered n) lots s = omega (arith, s.0)
+number_fits : (lot : Option ℕ) (lots : ℕ) → OpenSound lot lots → open_number lot < 100 ^ 2
+number_fits None lots s = omega arith
+number_fits (Some n) lots s = omega (arith, s.0)
 
 module _ (s : Session) (sound : Sound s) where
   -- the bodies of the three sends of a fixed length

@@ -1,12 +1,14 @@
 -- Laws of one commission: the four outcomes of the call, what keeps the product small, and the bounds of the result.
 use mathlib.Core.Path.{◌≡◌, refl}
-use mathlib.Core.Bool.{Bool, true, false, ◌&&◌, cond, false≢true}
+use mathlib.Core.Bool.{true, false, ◌&&◌, cond, false≢true}
 use mathlib.Core.List.{List}
 use Prim.Native.Nat.{ℕ, zero, suc, ◌*◌, ◌≤◌}
 use native.Mathlib.Nat.{mul-le-mul}
 use native.Mathlib.Omega.{arith}
-use lib.Dec.{leb, ltb, eqb, lit<}
-use borrow.Author.Tests.{leb-true, ltb-false, ne_eqb}
+use lib.Dec.{leb, eqb, lit<}
+use borrow.Author.Tests.{leb-true, ne_eqb}
+use Rattle.std.specs.Prelude.{Option, IfSome, Result, Ok, Err}
+use Rattle.packed.specs.Every.{every}
 use Rattle.packed.proofs.Laws.Told.{both, three}
 use Rattle.codes.specs.Field.{between}
 use Rattle.codes.proofs.Laws.Chain.{all_held}
@@ -14,33 +16,33 @@ use Rattle.codes.specs.Chain.{◌when◌, ◌orelse◌}
 use Rattle.document.specs.Limits.{largest_nominal, largest_commission}
 use Rattle.tariff.specs.declared.row.Row.{Row}
 use Rattle.tariff.specs.declared.search.Rule.{Rule}
-use Rattle.tariff.specs.declared.commission.CommissionAnswer.{CommissionAnswer}
+use Rattle.tariff.specs.declared.commission.CommissionRefusal.{CommissionRefusal}
 use Rattle.tariff.specs.Tariff.{largest_key, largest_rate, rows_of, row_good, good_tariff}
 use Rattle.tariff.specs.Rounding.{rounded}
 use Rattle.tariff.specs.Commission.{raised_to, cut_to, by_row, rule_of, is_known, due, within_limits, key_known, commission_refusal, commission_shown, commissioned, Bounded, EveryCommission}
 use Rattle.tariff.specs.Inner.Bounds.{nominal_bound, product_bound, rate_of}
-use Rattle.tariff.proofs.Laws.Rows.{rule_told}
+use Rattle.tariff.proofs.Laws.Rows.{each_good, rule_told}
 
 -- the outcomes, by what is known of the tests before them
 module _ (tariff : List ℕ) (key nominal typed : ℕ) where
-  abbrev Answered : CommissionAnswer → Type 0
+  abbrev Answered : Result ℕ CommissionRefusal → Type 0
   Answered a = commission_shown a ≡ commissioned tariff key nominal typed
 
-  pub wrong_tariff : good_tariff tariff ≡ false → Answered CommissionAnswer.WrongTariff
+  pub wrong_tariff : good_tariff tariff ≡ false → Answered (Err CommissionRefusal.WrongTariff)
   unfolding commissioned commission_refusal ◌when◌ ◌orelse◌
   wrong_tariff bad = rw bad
 
   module _ (good : good_tariff tariff ≡ true) where
-    pub over_limits : within_limits nominal typed ≡ false → Answered CommissionAnswer.OverLimits
+    pub over_limits : within_limits nominal typed ≡ false → Answered (Err CommissionRefusal.OverLimits)
     unfolding commissioned commission_refusal ◌when◌ ◌orelse◌
     over_limits over = rw (good, over)
 
     module _ (within : within_limits nominal typed ≡ true) where
-      pub unknown_key : key_known (rows_of tariff) key ≡ false → Answered CommissionAnswer.UnknownKey
+      pub unknown_key : key_known (rows_of tariff) key ≡ false → Answered (Err CommissionRefusal.UnknownKey)
       unfolding commissioned commission_refusal ◌when◌ ◌orelse◌
       unknown_key none = rw (good, within, none)
 
-      pub given : key_known (rows_of tariff) key ≡ true → Answered (CommissionAnswer.Given (due (rule_of (rows_of tariff) key) nominal typed))
+      pub given : key_known (rows_of tariff) key ≡ true → Answered (Ok (due (rule_of (rows_of tariff) key) nominal typed))
       unfolding commissioned commission_refusal ◌when◌ ◌orelse◌
       given known = rw (good, within, known)
 
@@ -53,40 +55,29 @@ row_told r e =
       leb-true r.greatest largest_commission last.2,
     )
 
--- by a good tariff no product passes its bound
-pub rate_most : (tariff : List ℕ) (key : ℕ) → good_tariff tariff ≡ true → rate_of (rule_of (rows_of tariff) key) ≤ largest_rate
-rate_most tariff key good =
-    rule_told tariff key good (λ (rule : Rule). rate_of rule ≤ largest_rate) (λ z. omega arith) (omega arith) (λ r g. (row_told r g).0)
+-- by good rows no product passes its bound
+pub rate_most : (rows : List Row) (key : ℕ) → every row_good rows ≡ true → IfSome (rule_of rows key) (λ (rule : Rule). rate_of rule ≤ largest_rate)
+rate_most rows key good =
+    rule_told key (λ (o : Option Rule). IfSome o (λ (rule : Rule). rate_of rule ≤ largest_rate)) (λ z. omega arith) tt (λ r g. (row_told r g).0) rows good
 
 pub product_most : (nominal rate : ℕ) → nominal ≤ nominal_bound → rate ≤ largest_rate → nominal * rate ≤ product_bound
 product_most nominal rate h k = mul-le-mul h k
 
 -- a result that is raised and cut lies between the two
-raised : (least n : ℕ) → least ≤ raised_to least n
-raised least n = go (ltb n least) refl
-  where
-    go : (t : Bool) → ltb n least ≡ t → least ≤ cond t least n
-    go true e = omega arith
-    go false e = ltb-false n least e
-
-cut_between : (least greatest n : ℕ) → least ≤ greatest → least ≤ n → (least ≤ cut_to greatest n) × (cut_to greatest n ≤ greatest)
-cut_between least greatest n h k = go (ltb greatest n) refl
-  where
-    go : (t : Bool) → ltb greatest n ≡ t → (least ≤ cond t greatest n) × (cond t greatest n ≤ greatest)
-    go true e = (h, omega arith)
-    go false e = (k, ltb-false greatest n e)
+cut_between : (least greatest n : ℕ) → least ≤ greatest → (least ≤ cut_to greatest (raised_to least n)) × (cut_to greatest (raised_to least n) ≤ greatest)
+cut_between least greatest n h = (omega arith, omega arith)
 
 pub row_between : (r : Row) (nominal : ℕ) → row_good r ≡ true → (r.least ≤ by_row r nominal) × (by_row r nominal ≤ r.greatest)
 unfolding by_row
 row_between r nominal good =
-    let product = rounded (nominal * r.rate) in
-    cut_between r.least r.greatest (raised_to r.least product) (row_told r good).1 (raised r.least product)
+    cut_between r.least r.greatest (rounded (nominal * r.rate)) (row_told r good).1
 
 -- the commission that a good tariff gives fits its digits
 pub due_most : (tariff : List ℕ) (key nominal typed : ℕ) → good_tariff tariff ≡ true → typed ≤ largest_commission → due (rule_of (rows_of tariff) key) nominal typed ≤ largest_commission
 unfolding due
 due_most tariff key nominal typed good h =
-    rule_told tariff key good (λ (rule : Rule). due rule nominal typed ≤ largest_commission) (λ z. h) (omega arith) (λ r g. omega (arith, (row_between r nominal g).1, (row_told r g).2))
+    rule_told key (λ (o : Option Rule). due o nominal typed ≤ largest_commission) (λ z. h) (omega arith) (λ r g. omega (arith, (row_between r nominal g).1, (row_told r g).2))
+    (rows_of tariff) (each_good tariff good)
 
 -- a nominal and a typed commission that earn no 01
 pub limits_told : (nominal typed : ℕ) → within_limits nominal typed ≡ true → (nominal ≤ largest_nominal) × (typed ≤ largest_commission)
@@ -104,11 +95,13 @@ code_told tariff key nominal typed e =
 due_bounded : (tariff : List ℕ) (key nominal typed : ℕ) → (key ≡ 0 → ⊥) → good_tariff tariff ≡ true → key_known (rows_of tariff) key ≡ true → Bounded tariff key (due (rule_of (rows_of tariff) key) nominal typed)
 unfolding due
 due_bounded tariff key nominal typed other good known =
-    rule_told tariff key good
-    (λ (rule : Rule). rule_of (rows_of tariff) key ≡ rule → is_known rule ≡ true → Bounded tariff key (due rule nominal typed))
+    rule_told key
+    (λ (o : Option Rule). rule_of (rows_of tariff) key ≡ o → is_known o ≡ true → Bounded tariff key (due o nominal typed))
     (λ z. absurd (other z))
     (λ e k. absurd (false≢true k))
     (λ r g e k. record { row = r; keyed = e; at_least = (row_between r nominal g).0; at_most = (row_between r nominal g).1 })
+    (rows_of tariff)
+    (each_good tariff good)
     refl
     known
 

@@ -8,6 +8,7 @@ use native.Mathlib.Omega.{arith}
 use lib.Dec.{eqb, lit<}
 use lib.ListN.{length}
 use borrow.Author.Tests.{eqb-true, eqb-false, le-leb}
+use Rattle.std.specs.Prelude.{Option}
 use Rattle.packed.specs.Part.{part}
 use Rattle.packed.specs.Every.{every}
 use Rattle.packed.specs.Digits.{are_digits}
@@ -24,7 +25,7 @@ use Rattle.tariff.specs.declared.search.Rule.{Rule}
 use Rattle.tariff.specs.Tariff.{rows_of, good_tariff}
 use Rattle.tariff.specs.Commission.{rule_of, key_known, due, within_limits, commissioned}
 use Rattle.tariff.specs.Tray.{tariff_key, key_digits, amount_digits, document_refusal, with_commission, filled_document, AfterFilling}
-use Rattle.tariff.proofs.Laws.Rows.{rule_told}
+use Rattle.tariff.proofs.Laws.Rows.{each_good, rule_told}
 use Rattle.tariff.proofs.Laws.Commission.{given, due_most}
 use Rattle.tariff.proofs.Laws.Judged.{nothing}
 use Rattle.tariff.proofs.Laws.Kept.{commission_place, key_kept, key_digits_kept, nominal_kept_lem, nominal_digits_kept, fields_kept, served_kept, commission_written, commission_digits, amounts_written, written_again}
@@ -96,7 +97,7 @@ module _ (tariff d : List ℕ) (good : good_tariff tariff ≡ true) (whole : len
   typed_passed : (a b : ℕ) → (tariff_key d ≡ 0 → ⊥) → due (rule_of rows (tariff_key d)) (nominal d) a ≡ due (rule_of rows (tariff_key d)) (nominal d) b
   unfolding due
   typed_passed a b other =
-      rule_told tariff (tariff_key d) good (λ (rule : Rule). due rule (nominal d) a ≡ due rule (nominal d) b) (λ z. absurd (other z)) refl (λ r g. refl)
+      rule_told (tariff_key d) (λ (o : Option Rule). due o (nominal d) a ≡ due o (nominal d) b) (λ z. absurd (other z)) refl (λ r g. refl) rows (each_good tariff good)
 
   pub filled_again : filled_document rows (filled_document rows d) ≡ filled_document rows d
   filled_again = go (eqb (tariff_key d) 0) refl

@@ -2,23 +2,21 @@
 use mathlib.Core.Path.{◌≡◌, refl, ap, sym, ◌∙◌, subst}
 use mathlib.Core.Bool.{true, false}
 use mathlib.Core.List.{List, [], ◌∷◌}
-use Prim.Native.Nat.{ℕ, suc, ◌+◌, ◌-◌, ◌≤◌, ◌<◌}
-use native.Mathlib.Nat.{add-zero, zero-add}
+use Prim.Native.Nat.{ℕ, suc, ◌+◌, ◌≤◌, ◌<◌}
+use native.Mathlib.Nat.{add-zero}
 use native.Mathlib.Omega.{arith}
-use borrow.Author.Tests.{eq-eqb, ne_eqb, eqb-true, eqb-false}
-use lib.Dec.{eqb, lit<}
-use lib.ListN.{length, drop}
-use Rattle.packed.specs.Part.{part}
-use Rattle.packed.proofs.Laws.Part.{part_all}
-use Rattle.packed.proofs.Laws.Pieces.{pieces_at, pieces_end}
+use borrow.Author.Tests.{eq-eqb, ne_eqb}
+use lib.ListN.{length, drop, get_or, drop_of_length-le}
+use lib.Seq.{drop-cons}
+use Rattle.std.specs.Prelude.{Err}
 use Rattle.codes.specs.Chain.{◌when◌, ◌orelse◌}
 use Rattle.codes.proofs.Laws.Chain.{ends, goes_on}
-use Rattle.document.specs.Limits.{document_bytes}
-use Rattle.document.specs.Part.{documents_of}
 use Rattle.tariff.specs.declared.row.Row.{Row}
+use Rattle.tariff.specs.declared.filled.Earned.{Earned}
+use Rattle.tariff.specs.declared.filled.FillRefusal.{FillRefusal}
 use Rattle.tariff.specs.Commission.{key_known}
-use Rattle.tariff.specs.Tray.{tariff_key, key_digits, amount_digits, document_refusal, first_refusal, good_before}
-use Rattle.tariff.specs.Inner.Judged.{judged}
+use Rattle.tariff.specs.Tray.{tariff_key, key_digits, amount_digits, document_refusal, first_refusal, good_before, fill_shown}
+use Rattle.tariff.specs.Inner.Judged.{earned_number, judged}
 
 -- one document, by what is known of the tests before
 module _ (rows : List Row) (d : List ℕ) where
@@ -45,9 +43,6 @@ pub record Passed (rows : List Row) (all left : List (List ℕ)) (place : ℕ) :
   pub count : place + good_before rows left ≡ good_before rows all
 
 module _ (rows : List Row) (all : List (List ℕ)) where
-  pub none_passed : Passed rows all all 0
-  none_passed = record { code = refl; count = zero-add (good_before rows all) }
-
   -- it stops at a document that earns something
   stops : (place : ℕ) (d : List ℕ) (ds : List (List ℕ)) → Passed rows all (d ∷ ds) place → (document_refusal rows d ≡ 0 → ⊥) → record { code = document_refusal rows d; documents = place } ≡ judged rows all
   unfolding first_refusal good_before
@@ -70,25 +65,32 @@ module _ (rows : List Row) (all : List (List ℕ)) where
   unfolding first_refusal good_before
   done place p = λ i. record { code = p.code i; documents = (sym (add-zero place) ∙ p.count) i }
 
--- the same at a place of the tray, where a document is lent as a part of it and has earned this
-module _ (rows : List Row) (tray : List ℕ) (at place : ℕ) (p : Passed rows (documents_of tray) (documents_of (drop at tray)) place) where
-  module _ (h : at < length tray) (n : ℕ) (e : n ≡ document_refusal rows (part at (at + document_bytes - at) tray)) where
-    number : n ≡ document_refusal rows (part at document_bytes tray)
-    number = e ∙ ap (document_refusal rows) (part_all at document_bytes tray)
+-- the same at a place of the documents, which has earned this
+module _ (rows : List Row) (all : List (List ℕ)) (place : ℕ) (p : Passed rows all (drop place all) place) where
+  module _ (h : place < length all) where
+    left : Passed rows all (get_or all place [] ∷ drop (suc place) all) place
+    left = subst (λ (ds : List (List ℕ)). Passed rows all ds place) (drop-cons all place [] h) p
 
-    left : Passed rows (documents_of tray) (part at document_bytes tray ∷ documents_of (drop (at + document_bytes) tray)) place
-    left = subst (λ (ds : List (List ℕ)). Passed rows (documents_of tray) ds place) (pieces_at document_bytes (lit< tt) at tray h) p
+    pub stops_at : (e : Earned) → earned_number (Err e) ≡ document_refusal rows (get_or all place []) → fill_shown (Err (FillRefusal.Document place e)) ≡ judged rows all
+    stops_at e told =
+        shown e
+        ∙ (λ i. record { code = told i; documents = place })
+        ∙ stops rows all place (get_or all place []) (drop (suc place) all) left (λ z. some e (told ∙ z))
+      where
+        shown : (e : Earned) → fill_shown (Err (FillRefusal.Document place e)) ≡ record { code = earned_number (Err e); documents = place }
+        shown Earned.WrongKey = refl
+        shown Earned.WrongAmount = refl
+        shown Earned.UnknownKey = refl
 
-    pub stops_at : eqb n 0 ≡ false → record { code = n; documents = place } ≡ judged rows (documents_of tray)
-    stops_at bad =
-        let some = eqb-false n 0 bad in
-        (λ i. record { code = number i; documents = place })
-        ∙ stops rows (documents_of tray) place (part at document_bytes tray) (documents_of (drop (at + document_bytes) tray)) left (λ z. some (number ∙ z))
+        some : (e : Earned) → earned_number (Err e) ≡ 0 → ⊥
+        some Earned.WrongKey z = omega arith
+        some Earned.WrongAmount z = omega arith
+        some Earned.UnknownKey z = omega arith
 
-    pub passes_at : eqb n 0 ≡ true → Passed rows (documents_of tray) (documents_of (drop (at + document_bytes) tray)) (place + 1)
-    passes_at good =
-        passes rows (documents_of tray) place (part at document_bytes tray) (documents_of (drop (at + document_bytes) tray)) left (sym number ∙ eqb-true n 0 good)
+    pub passes_at : 0 ≡ document_refusal rows (get_or all place []) → Passed rows all (drop (place + 1) all) (place + 1)
+    passes_at told =
+        subst (λ (k : ℕ). Passed rows all (drop k all) (place + 1)) {x = suc place} {y = place + 1} (omega arith) (passes rows all place (get_or all place []) (drop (suc place) all) left (sym told))
 
-  pub done_at : length tray ≤ at → record { code = 0; documents = place } ≡ judged rows (documents_of tray)
+  pub done_at : length all ≤ place → record { code = 0; documents = place } ≡ judged rows all
   done_at h =
-      done rows (documents_of tray) place (subst (λ (ds : List (List ℕ)). Passed rows (documents_of tray) ds place) (pieces_end document_bytes (lit< tt) at tray h) p)
+      done rows all place (subst (λ (ds : List (List ℕ)). Passed rows all ds place) (drop_of_length-le all {i = place} h) p)

@@ -1,56 +1,40 @@
--- Laws of the rows of a tariff as a reading goes through them: one row and the rest, what a search finds, and whether all are good.
+-- Laws of the rows of a tariff: how they are cut from its numbers, what a search finds, and whether all are good.
 use mathlib.Core.Path.{◌≡◌, refl, ap, sym, ◌∙◌}
-use mathlib.Core.Bool.{Bool, true, false, not, ◌&&◌, ◌||◌, cond, and-true, and-false}
+use mathlib.Core.Bool.{Bool, true, false, ◌&&◌, ◌||◌, cond, and-false}
 use mathlib.Core.List.{List, [], ◌∷◌, map}
-use Prim.Native.Nat.{ℕ, ◌+◌, ◌*◌, ◌%◌, ◌≤◌, ◌<◌}
+use Prim.Native.Nat.{ℕ, ◌+◌, ◌*◌, ◌/◌, ◌%◌, ◌≤◌, ◌<◌}
+use native.Mathlib.Numerals.{add-one}
+use native.Mathlib.Omega.{arith}
 use lib.Dec.{eqb, leb, lit<}
-use lib.ListN.{length, drop, length-map}
+use lib.ListN.{length, drop, get_or, length-map, drop_of_length-le}
+use lib.Seq.{drop-cons}
 use borrow.Author.Tests.{eq-eqb, ne_eqb, le-leb, lt-leb, eqb-true}
-use Rattle.packed.specs.Part.{part}
-use Rattle.packed.specs.Every.{every, member}
-use Rattle.packed.specs.Pieces.{pieces}
+use Rattle.std.specs.Simd.{first_chunks}
+use Rattle.std.specs.Prelude.{Option, Some, None, is_some, option_map}
+use Rattle.packed.specs.Every.{every, member, none_twice}
+use Rattle.packed.specs.Pieces.{cut, pieces}
+use Rattle.packed.proofs.Laws.Member.{eqb_sym}
+use Rattle.packed.proofs.Laws.Every.{every_cons}
 use Rattle.packed.proofs.Laws.Told.{both, three}
-use Rattle.packed.proofs.Laws.Pieces.{pieces_at, pieces_end, pieces_count}
-use Rattle.codes.specs.Numbered.{numbered}
-use Rattle.codes.proofs.Laws.Numbered.{found_told}
+use Rattle.packed.proofs.Laws.Pieces.{chunks_pieces, pieces_count}
 use Rattle.tariff.specs.declared.row.Row.{Row}
 use Rattle.tariff.specs.declared.search.Rule.{Rule}
-use Rattle.tariff.specs.Tariff.{most_keys, row_numbers, row_in, rows_of, whole_rows, row_good, keys_of, none_twice, good_tariff}
-use Rattle.tariff.specs.Commission.{searched, rule_of, is_known}
+use Rattle.tariff.specs.Tariff.{most_keys, row_numbers, row_in, rows_of, whole_rows, row_good, keys_of, good_tariff}
+use Rattle.tariff.specs.Commission.{searched, rule_of}
 
--- the row at a place of the numbers
-abbrev pub row_at : (at : ℕ) (ns : List ℕ) → Row
-row_at at ns = row_in (part at row_numbers ns)
-
-pub rows_at : (at : ℕ) (ns : List ℕ) → at < length ns → rows_of (drop at ns) ≡ row_at at ns ∷ rows_of (drop (at + row_numbers) ns)
+-- the rows, each an array of its numbers
+pub chunk_rows : (ns : List ℕ) → length ns % row_numbers ≡ 0 → map row_in (first_chunks row_numbers (length ns / row_numbers) ns) ≡ rows_of ns
 unfolding rows_of
-rows_at at ns h = ap (map row_in) (pieces_at row_numbers (lit< tt) at ns h)
-
-pub rows_end : (at : ℕ) (ns : List ℕ) → length ns ≤ at → rows_of (drop at ns) ≡ []
-unfolding rows_of
-rows_end at ns h = ap (map row_in) (pieces_end row_numbers (lit< tt) at ns h)
-
--- a search ends at the key's own row, goes on past another, and finds nothing at the end
-module _ (at : ℕ) (ns : List ℕ) (key : ℕ) where
-  pub found_row_lem : at < length ns → (row_at at ns).key ≡ key → searched (rows_of (drop at ns)) key ≡ Rule.ByRow (row_at at ns)
-  unfolding searched numbered
-  found_row_lem h e = rw (rows_at at ns h, eq-eqb key (row_at at ns).key (sym e))
-
-  pub passed_row : at < length ns → ((row_at at ns).key ≡ key → ⊥) → searched (rows_of (drop at ns)) key ≡ searched (rows_of (drop (at + row_numbers) ns)) key
-  unfolding searched numbered
-  passed_row h other = rw (rows_at at ns h, ne_eqb key (row_at at ns).key (λ e. other (sym e)))
-
-  pub none_left : length ns ≤ at → searched (rows_of (drop at ns)) key ≡ Rule.Unknown
-  unfolding searched numbered
-  none_left h = rw (rows_end at ns h)
+chunk_rows ns whole =
+    ap (map row_in) (chunks_pieces row_numbers (lit< tt) (length ns / row_numbers) ns (omega arith))
 
 -- a search finds a key that is among the keys, and no other
-found_key : (rows : List Row) (key : ℕ) → is_known (searched rows key) ≡ member key (keys_of rows)
-unfolding searched numbered member
+found_key : (rows : List Row) (key : ℕ) → is_some (searched rows key) ≡ member key (keys_of rows)
+unfolding member
 found_key [] key = refl
-found_key (r ∷ rows) key = one_more (eqb key r.key) (found_key rows key)
+found_key (r ∷ rows) key = rw (eqb_sym key r.key) (one_more (eqb r.key key) (found_key rows key))
   where
-    one_more : (t : Bool) → is_known (searched rows key) ≡ member key (keys_of rows) → is_known (cond t (Rule.ByRow r) (searched rows key)) ≡ t || member key (keys_of rows)
+    one_more : (t : Bool) → is_some (searched rows key) ≡ member key (keys_of rows) → is_some (cond t (Some r) (searched rows key)) ≡ t || member key (keys_of rows)
     one_more true e = refl
     one_more false e = e
 
@@ -58,34 +42,40 @@ found_key (r ∷ rows) key = one_more (eqb key r.key) (found_key rows key)
 abbrev pub all_good : List Row → Bool
 all_good rows = none_twice (keys_of rows) && every row_good rows
 
--- a reading that has found them good so far: all rows, one more, none left
-regroup : (ok u g n e : Bool) → ok && u && g && (n && e) ≡ ok && (u && n && (g && e))
-regroup true true true n e = refl
-regroup true true false true e = refl
-regroup true true false false e = refl
-regroup true false g n e = refl
-regroup false u g n e = refl
+-- at a place: the row there is not good, its key comes again, or the rows behind it decide
+module _ (rows : List (List ℕ)) (place : ℕ) (h : place < length rows) where
+  abbrev row : Row
+  row = row_in (get_or rows place [])
+
+  abbrev behind : List Row
+  behind = map row_in (drop (place + 1) rows)
+
+  row_and_rest : map row_in (drop place rows) ≡ row ∷ behind
+  row_and_rest = rw add-one (ap (map row_in) (drop-cons rows place [] h))
+
+  pub bad_row : row_good row ≡ false → all_good (map row_in (drop place rows)) ≡ false
+  unfolding every
+  bad_row e = ap all_good row_and_rest ∙ rw (e, and-false (none_twice (keys_of (row ∷ behind))))
+
+  pub key_twice : true ≡ is_some (searched behind row.key) → all_good (map row_in (drop place rows)) ≡ false
+  unfolding none_twice
+  key_twice e = ap all_good row_and_rest ∙ rw (← found_key behind row.key, ← e)
+
+  pub rest_decides : row_good row ≡ true → false ≡ is_some (searched behind row.key) → all_good (map row_in (drop place rows)) ≡ all_good behind
+  unfolding none_twice every
+  rest_decides e once = ap all_good row_and_rest ∙ rw (← found_key behind row.key, ← once, e)
+
+pub no_rows : (rows : List (List ℕ)) (place : ℕ) → length rows ≤ place → true ≡ all_good (map row_in (drop place rows))
+unfolding none_twice every
+no_rows rows place h = ap (λ (rest : List (List ℕ)). all_good (map row_in rest)) (sym (drop_of_length-le rows {i = place} h))
 
 rows_count : (ns : List ℕ) → leb (length (rows_of ns)) most_keys ≡ leb (length ns) (most_keys * row_numbers)
 unfolding rows_of
 rows_count ns = ap (λ (n : ℕ). leb n most_keys) (length-map (pieces row_numbers ns) row_in) ∙ pieces_count row_numbers (lit< tt) most_keys ns
 
-pub good_start : (ns : List ℕ) → length ns % row_numbers ≡ 0 → length ns ≤ most_keys * row_numbers → all_good (rows_of ns) ≡ good_tariff ns
+pub rows_decide : (ns : List ℕ) → length ns % row_numbers ≡ 0 → length ns ≤ most_keys * row_numbers → all_good (rows_of ns) ≡ good_tariff ns
 unfolding good_tariff
-good_start ns whole few = rw (eq-eqb (length ns % row_numbers) 0 whole, rows_count ns, le-leb (length ns) (most_keys * row_numbers) few)
-
-pub good_step : (ok : Bool) (at : ℕ) (ns : List ℕ) → at < length ns → ok && not (is_known (searched (rows_of (drop (at + row_numbers) ns)) (row_at at ns).key)) && row_good (row_at at ns) && all_good (rows_of (drop (at + row_numbers) ns)) ≡ ok && all_good (rows_of (drop at ns))
-unfolding none_twice every
-good_step ok at ns h =
-    let r = row_at at ns in
-    let rest = rows_of (drop (at + row_numbers) ns) in
-    ap (λ (twice : Bool). ok && not twice && row_good r && all_good rest) (found_key rest r.key)
-    ∙ regroup ok (not (member r.key (keys_of rest))) (row_good r) (none_twice (keys_of rest)) (every row_good rest)
-    ∙ ap (λ (rows : List Row). ok && all_good rows) (sym (rows_at at ns h))
-
-pub good_end : (ok : Bool) (at : ℕ) (ns : List ℕ) → length ns ≤ at → ok && all_good (rows_of (drop at ns)) ≡ ok
-unfolding none_twice every
-good_end ok at ns h = ap (λ (rows : List Row). ok && all_good rows) (rows_end at ns h) ∙ and-true ok
+rows_decide ns whole few = rw (eq-eqb (length ns % row_numbers) 0 whole, rows_count ns, le-leb (length ns) (most_keys * row_numbers) few)
 
 -- what 42 is given for before a row is read
 pub cut_row : (ns : List ℕ) → (length ns % row_numbers ≡ 0 → ⊥) → good_tariff ns ≡ false
@@ -104,19 +94,23 @@ told ns e =
     let whole = three (whole_rows ns) (leb (length (rows_of ns)) most_keys) (none_twice (keys_of (rows_of ns))) first.0 in
     (eqb-true (length ns % row_numbers) 0 whole.0, first.1)
 
-pub whole_rows_lem : (ns : List ℕ) → good_tariff ns ≡ true → length ns % row_numbers ≡ 0
-whole_rows_lem ns e = (told ns e).0
+pub each_good : (ns : List ℕ) → good_tariff ns ≡ true → every row_good (rows_of ns) ≡ true
+each_good ns e = (told ns e).1
 
--- what holds of the typed commission where the key is 0, of an unknown key and of each good row holds of what a good tariff says of a key
-module _ (ns : List ℕ) (key : ℕ) (good : good_tariff ns ≡ true) (P : Rule → Type 0) (typed : key ≡ 0 → P Rule.Typed) (none : P Rule.Unknown) (row : (r : Row) → row_good r ≡ true → P (Rule.ByRow r)) where
-  by_search : P (searched (rows_of ns) key)
-  unfolding searched
-  by_search = found_told (λ (r : Row). r.key) Rule.ByRow Rule.Unknown key row_good P none (λ r e g. row r g) (rows_of ns) (told ns good).1
-
-  pub rule_told : P (rule_of (rows_of ns) key)
-  unfolding rule_of
-  rule_told = go (eqb key 0) refl
+-- what holds of the typed commission where the key is 0, of an unknown key and of each good row holds of what good rows say of a key
+module _ (key : ℕ) (P : Option Rule → Type 0) (typed : key ≡ 0 → P (Some Rule.Typed)) (none : P None) (row : (r : Row) → row_good r ≡ true → P (Some (Rule.ByRow r))) where
+  by_search : (rows : List Row) → every row_good rows ≡ true → P (option_map Rule.ByRow (searched rows key))
+  by_search [] good = none
+  by_search (r ∷ rows) good = let first = every_cons row_good r rows good in go (eqb r.key key) first.0 (by_search rows first.1)
     where
-      go : (t : Bool) → eqb key 0 ≡ t → P (cond t Rule.Typed (searched (rows_of ns) key))
+      go : (t : Bool) → row_good r ≡ true → P (option_map Rule.ByRow (searched rows key)) → P (option_map Rule.ByRow (cond t (Some r) (searched rows key)))
+      go true g rest = row r g
+      go false g rest = rest
+
+  pub rule_told : (rows : List Row) → every row_good rows ≡ true → P (rule_of rows key)
+  unfolding rule_of
+  rule_told rows good = go (eqb key 0) refl
+    where
+      go : (t : Bool) → eqb key 0 ≡ t → P (cond t (Some Rule.Typed) (option_map Rule.ByRow (searched rows key)))
       go true e = typed (eqb-true key 0 e)
-      go false e = by_search
+      go false e = by_search rows good

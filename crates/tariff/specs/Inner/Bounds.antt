@@ -15,4 +15,3 @@ product_bound = nominal_bound * largest_rate
 abbrev pub rate_of : Rule → ℕ
 rate_of Rule.Typed = 0
 rate_of (Rule.ByRow r) = r.rate
-rate_of Rule.Unknown = 0

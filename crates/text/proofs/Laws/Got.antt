@@ -1,25 +1,12 @@
 -- What is got, where it fits and where it does not.
-use mathlib.Core.Path.{◌≡◌, refl, ap}
-use mathlib.Core.Bool.{Bool, true, false, cond}
-use mathlib.Core.List.{List}
-use Prim.Native.Nat.{ℕ, ◌≤◌, ◌<◌}
-use lib.Dec.{leb}
-use lib.ListN.{length}
+use Rattle.std.proofs.Common.{◌≡◌, ℕ, ◌≤◌, ◌<◌, Some, None, Bool, cond, List, length, ap}
 use borrow.Author.Tests.{le-leb, lt-leb}
-use Rattle.text.specs.Got.{none, got, fitting}
+use Rattle.text.specs.Got.{fitting}
 
-pub fitting_none : (most : ℕ) → fitting most none ≡ none
+pub fitting_fits : (most : ℕ) (bytes : List ℕ) → length bytes ≤ most → fitting most (Some bytes) ≡ Some bytes
 unfolding fitting
-fitting_none most = go (leb 0 most)
-  where
-    go : (b : Bool) → cond b none none ≡ none
-    go true = refl
-    go false = refl
+fitting_fits most bytes h = ap (λ (b : Bool). cond b (Some bytes) None) (le-leb (length bytes) most h)
 
-pub fitting_fits : (most : ℕ) (bytes : List ℕ) → length bytes ≤ most → fitting most (got bytes) ≡ got bytes
+pub fitting_over : (most : ℕ) (bytes : List ℕ) → most < length bytes → fitting most (Some bytes) ≡ None
 unfolding fitting
-fitting_fits most bytes h = ap (λ (b : Bool). cond b (got bytes) none) (le-leb (length bytes) most h)
-
-pub fitting_over : (most : ℕ) (bytes : List ℕ) → most < length bytes → fitting most (got bytes) ≡ none
-unfolding fitting
-fitting_over most bytes h = ap (λ (b : Bool). cond b (got bytes) none) (lt-leb (length bytes) most h)
+fitting_over most bytes h = ap (λ (b : Bool). cond b (Some bytes) None) (lt-leb (length bytes) most h)

@@ -17,7 +17,8 @@ use Rattle.packed.proofs.Laws.Told.{both, three}
 use Rattle.packed.proofs.Laws.Part.{part_part, part_split}
 use Rattle.packed.proofs.Laws.Writing.{packed_length, written_then_read, part_sets}
 use Rattle.text.specs.declared.wire.Memory.{Memory}
-use Rattle.text.specs.Got.{Got, none, got}
+use Rattle.std.specs.Prelude.{Some, None}
+use Rattle.text.specs.Got.{Got}
 use Rattle.text.specs.Memory.{contents_bytes, most_entries, wire_bytes, entry_number, end_of, place_below, last_place, between_places, entry_bytes, recalled}
 use Rattle.text.specs.Held.{Written, held_under, contents, entries, Rising, Holds, next_number, has_room}
 use Rattle.text.proofs.Laws.Memory.{place_here, place_none, place_on, last_within, recall_short}
@@ -106,28 +107,29 @@ rising_small above most (w ∷ ws) zero h r = (r.0, r.1)
 rising_small above most (w ∷ ws) (suc i) h r = let on = rising_small w.number most ws i (omega arith) r.2 in (omega arith, on.1)
 
 -- none of those before one has its number, or a larger one
-rising_before : (above most : ℕ) (ws : List Written) (i wanted : ℕ) → i < length ws → Rising above most ws → (at ws i).number ≤ wanted → held_under (take i ws) wanted ≡ none
+rising_before : (above most : ℕ) (ws : List Written) (i wanted : ℕ) → i < length ws → Rising above most ws → (at ws i).number ≤ wanted → held_under (take i ws) wanted ≡ None
 unfolding Rising held_under
 rising_before above most ws zero wanted h r k = refl
 rising_before above most [] (suc i) wanted h r k = absurd (omega arith)
 rising_before above most (w ∷ ws) (suc i) wanted h r k =
     let on = rising_small w.number most ws i (omega arith) r.2 in
-    ap (λ (b : Bool). cond b (got w.bytes) (held_under (take i ws) wanted)) (ne_eqb w.number wanted (omega arith))
+    ap (λ (b : Bool). cond b (Some w.bytes) (held_under (take i ws) wanted)) (ne_eqb w.number wanted (omega arith))
     ∙ rising_before w.number most ws i wanted (omega arith) r.2 k
 
 -- none of those from a place on has a number that is not above it
-rising_behind : (above most : ℕ) (ws : List Written) (i wanted : ℕ) → Rising above most ws → wanted ≤ above + i → held_under (drop i ws) wanted ≡ none
+rising_behind : (above most : ℕ) (ws : List Written) (i wanted : ℕ) → Rising above most ws → wanted ≤ above + i → held_under (drop i ws) wanted ≡ None
 unfolding Rising held_under
 rising_behind above most [] zero wanted r h = refl
 rising_behind above most [] (suc i) wanted r h = refl
 rising_behind above most (w ∷ ws) zero wanted r h =
-    ap (λ (b : Bool). cond b (got w.bytes) (held_under ws wanted)) (ne_eqb w.number wanted (omega (arith, r.0)))
+    ap (λ (b : Bool). cond b (Some w.bytes) (held_under ws wanted)) (ne_eqb w.number wanted (omega (arith, r.0)))
     ∙ rising_behind w.number most ws zero wanted r.2 (omega (arith, r.0))
 rising_behind above most (w ∷ ws) (suc i) wanted r h = rising_behind w.number most ws i wanted r.2 (omega (arith, r.0))
 
 -- what is held, by those before a place and those from it on
 abbrev or_else : Got → Got → Got
-or_else g other = cond g.good g other
+or_else None other = other
+or_else (Some bytes) other = Some bytes
 
 held_split : (ws : List Written) (i wanted : ℕ) → held_under ws wanted ≡ or_else (held_under (take i ws) wanted) (held_under (drop i ws) wanted)
 unfolding held_under
@@ -135,7 +137,7 @@ held_split ws zero wanted = refl
 held_split [] (suc i) wanted = refl
 held_split (w ∷ ws) (suc i) wanted = go (eqb w.number wanted) (held_split ws i wanted)
   where
-    go : (b : Bool) → held_under ws wanted ≡ or_else (held_under (take i ws) wanted) (held_under (drop i ws) wanted) → cond b (got w.bytes) (held_under ws wanted) ≡ or_else (cond b (got w.bytes) (held_under (take i ws) wanted)) (held_under (drop i ws) wanted)
+    go : (b : Bool) → held_under ws wanted ≡ or_else (held_under (take i ws) wanted) (held_under (drop i ws) wanted) → cond b (Some w.bytes) (held_under ws wanted) ≡ or_else (cond b (Some w.bytes) (held_under (take i ws) wanted)) (held_under (drop i ws) wanted)
     go true e = refl
     go false e = e
 
@@ -157,7 +159,7 @@ module _ (m : Memory) (wire : List ℕ) (ws : List Written) (so : Holds m wire w
       ∙ written_then_read 8 (end_at ws (i + 1)) fits
       ∙ ap (end_at ws) (add-one i)
 
-  bytes_at : (i : ℕ) → i < length ws → between_places wire (end_of wire i) (end_of wire (i + 1)) ≡ got (at ws i).bytes
+  bytes_at : (i : ℕ) → i < length ws → between_places wire (end_of wire i) (end_of wire (i + 1)) ≡ Some (at ws i).bytes
   unfolding between_places contents
   bytes_at i h =
       let from = end_at ws i in
@@ -172,10 +174,10 @@ module _ (m : Memory) (wire : List ℕ) (ws : List Written) (so : Holds m wire w
       ∙ ap (take (length (at ws i).bytes)) (contents_drop ws i ∙ ap contents (drop-cons ws i nobody h))
       ∙ take_at (at ws i).bytes _ (length (at ws i).bytes) refl in
       (λ t. between_places wire (end_at_lem i (omega arith) t) (end_at_lem (i + 1) (omega arith) t))
-      ∙ (λ t. cond (le-ltb contents_bytes to (omega (arith, end_most ws (i + 1), so.fit)) t) none (cond (le-ltb to from (omega (arith, size, end_next ws i h)) t) none (got (bytes t))))
+      ∙ (λ t. cond (le-ltb contents_bytes to (omega (arith, end_most ws (i + 1), so.fit)) t) None (cond (le-ltb to from (omega (arith, size, end_next ws i h)) t) None (Some (bytes t))))
 
   -- those from a place on, by the first of them
-  behind : (i : ℕ) → i < length ws → held_under (drop i ws) wanted ≡ cond (eqb (at ws i).number wanted) (got (at ws i).bytes) (held_under (drop (suc i) ws) wanted)
+  behind : (i : ℕ) → i < length ws → held_under (drop i ws) wanted ≡ cond (eqb (at ws i).number wanted) (Some (at ws i).bytes) (held_under (drop (suc i) ws) wanted)
   unfolding held_under
   behind i h = ap (λ (l : List Written). held_under l wanted) (drop-cons ws i nobody h)
 
@@ -186,31 +188,31 @@ module _ (m : Memory) (wire : List ℕ) (ws : List Written) (so : Holds m wire w
   Found i = entry_bytes wire (place_below wire wanted i) ≡ held_under ws wanted
 
   -- one place further down, where none has the number behind it
-  found_step : (i : ℕ) → i < length ws → held_under (drop (suc i) ws) wanted ≡ none → (held_under (drop i ws) wanted ≡ none → Found i) → Found (suc i)
+  found_step : (i : ℕ) → i < length ws → held_under (drop (suc i) ws) wanted ≡ None → (held_under (drop i ws) wanted ≡ None → Found i) → Found (suc i)
   found_step i h e on = go (eqb (at ws i).number wanted) refl (ltb (at ws i).number wanted) refl
     where
       go : (b : Bool) → eqb (at ws i).number wanted ≡ b → (s : Bool) → ltb (at ws i).number wanted ≡ s → Found (suc i)
       go true is s f =
           let same = eqb-true (at ws i).number wanted is in
           ap (entry_bytes wire) (sym (place_here wire wanted (suc i) i (at ws i).number refl (sym (number_at i h)) same))
-          ∙ ap (λ (b : Bool). cond b none (between_places wire (end_of wire i) (end_of wire (i + 1)))) (ne_eqb i most_entries (omega (arith, so.few)))
+          ∙ ap (λ (b : Bool). cond b None (between_places wire (end_of wire i) (end_of wire (i + 1)))) (ne_eqb i most_entries (omega (arith, so.few)))
           ∙ bytes_at i h
-          ∙ sym (from_there i h (omega arith) ∙ behind i h ∙ ap (λ (b : Bool). cond b (got (at ws i).bytes) (held_under (drop (suc i) ws) wanted)) is)
+          ∙ sym (from_there i h (omega arith) ∙ behind i h ∙ ap (λ (b : Bool). cond b (Some (at ws i).bytes) (held_under (drop (suc i) ws) wanted)) is)
       go false is true f =
           let less = ltb-true (at ws i).number wanted f in
           ap (entry_bytes wire) (sym (place_none wire wanted (suc i) i (at ws i).number refl (sym (number_at i h)) (eqb-false (at ws i).number wanted is) less))
-          ∙ sym (from_there i h (omega arith) ∙ behind i h ∙ ap (λ (b : Bool). cond b (got (at ws i).bytes) (held_under (drop (suc i) ws) wanted)) is ∙ e)
+          ∙ sym (from_there i h (omega arith) ∙ behind i h ∙ ap (λ (b : Bool). cond b (Some (at ws i).bytes) (held_under (drop (suc i) ws) wanted)) is ∙ e)
       go false is false f =
           ap (entry_bytes wire) (sym (place_on wire wanted (suc i) i (at ws i).number refl (sym (number_at i h)) (eqb-false (at ws i).number wanted is) (ltb-false (at ws i).number wanted f)))
-          ∙ on (behind i h ∙ ap (λ (b : Bool). cond b (got (at ws i).bytes) (held_under (drop (suc i) ws) wanted)) is ∙ e)
+          ∙ on (behind i h ∙ ap (λ (b : Bool). cond b (Some (at ws i).bytes) (held_under (drop (suc i) ws) wanted)) is ∙ e)
 
-  found_below : (i : ℕ) → i ≤ length ws → held_under (drop i ws) wanted ≡ none → Found i
+  found_below : (i : ℕ) → i ≤ length ws → held_under (drop i ws) wanted ≡ None → Found i
   unfolding place_below
   found_below zero h e = sym e
   found_below (suc i) h e = found_step i h e (found_below i (omega arith))
 
   -- where a search begins, none has the number any more
-  none_behind : (b : Bool) → leb m.kept wanted ≡ b → held_under (drop (min m.kept wanted) ws) wanted ≡ none
+  none_behind : (b : Bool) → leb m.kept wanted ≡ b → held_under (drop (min m.kept wanted) ws) wanted ≡ None
   unfolding held_under
   none_behind true e =
       let all : length ws ≤ min m.kept wanted = omega (arith, so.kept, leb-true m.kept wanted e) in
@@ -232,7 +234,7 @@ module _ (m : Memory) (wire : List ℕ) (ws : List Written) (so : Holds m wire w
           let few : m.kept ≤ most_entries = omega (arith, so.few, so.kept) in
           let place : min m.kept wanted ≡ last_place m.kept wanted = last_within m.kept wanted few (min m.kept wanted) refl in
           let from : min m.kept wanted ≤ length ws = omega (arith, so.kept) in
-          ap (λ (b : Bool). cond b none (entry_bytes wire (place_below wire wanted (last_place m.kept wanted)))) e
+          ap (λ (b : Bool). cond b None (entry_bytes wire (place_below wire wanted (last_place m.kept wanted)))) e
           ∙ ap (λ (k : ℕ). entry_bytes wire (place_below wire wanted k)) (sym place)
           ∙ found_below (min m.kept wanted) from (none_behind (leb m.kept wanted) refl)
 

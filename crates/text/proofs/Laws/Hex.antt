@@ -1,6 +1,6 @@
 -- Bytes as text: its length, one byte more, that what was written is read again, and what a word of digits comes to.
 use mathlib.Core.Path.{◌≡◌, refl, ap, sym, ◌∙◌}
-use mathlib.Core.Bool.{Bool, true, false, ◌&&◌, ◌||◌, cond, and-false, false≢true, true≢false}
+use mathlib.Core.Bool.{Bool, true, false, ◌&&◌, cond, and-false}
 use mathlib.Core.List.{List, [], ◌∷◌}
 use Prim.Native.Nat.{ℕ, suc, ◌+◌, ◌*◌, ◌/◌, ◌%◌, ◌≤◌, ◌<◌}
 use native.Mathlib.Numerals.{add-one}
@@ -8,14 +8,15 @@ use native.Mathlib.Omega.{arith}
 use lib.Dec.{ltb}
 use lib.ListN.{length, take, drop, get_or, set}
 use lib.Seq.{sets, drop-cons}
-use borrow.Author.Tests.{ltb-true, ltb-false, lt-ltb, le-ltb}
+use borrow.Author.Tests.{lt-ltb, le-ltb}
 use Rattle.packed.specs.Every.{every}
 use Rattle.packed.proofs.Laws.Writing.{part_sets}
 use Rattle.text.specs.Digit.{digit_value, is_hexadecimal}
 use Rattle.text.specs.Word.{equal_bytes}
-use Rattle.text.specs.Got.{Got, none, got, fitting}
+use Rattle.std.specs.Prelude.{Some, None}
+use Rattle.text.specs.Got.{Got, fitting}
 use Rattle.text.specs.Hex.{hex_digit, hex_text, hex_bytes, is_paired, hex_word}
-use Rattle.text.proofs.Laws.Got.{fitting_none, fitting_fits, fitting_over}
+use Rattle.text.proofs.Laws.Got.{fitting_fits, fitting_over}
 
 pub length_hex : (bs : List ℕ) → length (hex_text bs) ≡ 2 * length bs
 unfolding hex_text
@@ -56,66 +57,56 @@ module _ (w : List ℕ) (i high low : ℕ) (h : i * 2 + 1 < length w) (x : high 
   unfolding every
   pair = ap (every is_hexadecimal) (pair_on w i h) ∙ (λ t. ltb (sym x t) 16 && (ltb (sym y t) 16 && every is_hexadecimal (drop ((i + 1) * 2) w)))
 
-  pub pair_not : ltb 15 high || ltb 15 low ≡ true → every is_hexadecimal (drop (i * 2) w) ≡ false
-  pair_not e = pair ∙ go (ltb 15 high) refl (ltb 15 low) refl e
-    where
-      go : (a : Bool) → ltb 15 high ≡ a → (b : Bool) → ltb 15 low ≡ b → a || b ≡ true → ltb high 16 && (ltb low 16 && every is_hexadecimal (drop ((i + 1) * 2) w)) ≡ false
-      go true e b f t = rw (le-ltb high 16 (ltb-true 15 high e))
-      go false e true f t = rw (le-ltb low 16 (ltb-true 15 low f)) (and-false (ltb high 16))
-      go false e false f t = absurd (false≢true t)
+  pub high_not : 16 ≤ high → every is_hexadecimal (drop (i * 2) w) ≡ false
+  high_not e = pair ∙ ap (λ (b : Bool). b && (ltb low 16 && every is_hexadecimal (drop ((i + 1) * 2) w))) (le-ltb high 16 e)
 
-  pub pair_is : ltb 15 high || ltb 15 low ≡ false → (high ≤ 15) × (low ≤ 15)
-  pair_is e = go (ltb 15 high) refl (ltb 15 low) refl e
-    where
-      go : (a : Bool) → ltb 15 high ≡ a → (b : Bool) → ltb 15 low ≡ b → a || b ≡ false → (high ≤ 15) × (low ≤ 15)
-      go true e b f t = absurd (true≢false t)
-      go false e true f t = absurd (true≢false t)
-      go false e false f t = (ltb-false 15 high e, ltb-false 15 low f)
+  pub low_not : 16 ≤ low → every is_hexadecimal (drop (i * 2) w) ≡ false
+  low_not e = pair ∙ ap (λ (b : Bool). ltb high 16 && (b && every is_hexadecimal (drop ((i + 1) * 2) w))) (le-ltb low 16 e) ∙ and-false (ltb high 16)
 
-  pub digits_on : ltb 15 high || ltb 15 low ≡ false → every is_hexadecimal (drop ((i + 1) * 2) w) ≡ every is_hexadecimal (drop (i * 2) w)
-  digits_on e =
-      let told = pair_is e in
-      sym (pair ∙ rw (lt-ltb high 16 (omega arith), lt-ltb low 16 (omega arith)))
+  pub digits_on : high < 16 → low < 16 → every is_hexadecimal (drop ((i + 1) * 2) w) ≡ every is_hexadecimal (drop (i * 2) w)
+  digits_on e f = sym (pair ∙ rw (lt-ltb high 16 e, lt-ltb low 16 f))
 
 -- what a reading of pairs comes to: bytes that do not fit, a byte that is no digit, and all of them
 module _ (most : ℕ) (w : List ℕ) where
   abbrev pairs : Bool → Got
-  pairs b = fitting most (cond b (got (hex_bytes w)) none)
+  pairs b = fitting most (cond b (Some (hex_bytes w)) None)
 
-  pub pairs_over : most < length w / 2 → none ≡ pairs (every is_hexadecimal w)
+  pub pairs_over : most < length w / 2 → None ≡ pairs (every is_hexadecimal w)
+  unfolding fitting
   pairs_over h = go (every is_hexadecimal w)
     where
-      go : (b : Bool) → none ≡ pairs b
+      go : (b : Bool) → None ≡ pairs b
       go true = sym (fitting_over most (hex_bytes w) (omega (arith, length_bytes w)))
-      go false = sym (fitting_none most)
+      go false = refl
 
-  pub pairs_not : every is_hexadecimal w ≡ false → none ≡ pairs (every is_hexadecimal w)
-  pairs_not e = sym (ap pairs e ∙ fitting_none most)
+  pub pairs_not : every is_hexadecimal w ≡ false → None ≡ pairs (every is_hexadecimal w)
+  unfolding fitting
+  pairs_not e = sym (ap pairs e)
 
-  pub pairs_all : (d₀ d : List ℕ) → length d₀ ≡ most → length w / 2 ≤ most → every is_hexadecimal w ≡ true → d ≡ sets d₀ 0 (hex_bytes w) → got (take (length w / 2) d) ≡ pairs (every is_hexadecimal w)
+  pub pairs_all : (d₀ d : List ℕ) → length d₀ ≡ most → length w / 2 ≤ most → every is_hexadecimal w ≡ true → d ≡ sets d₀ 0 (hex_bytes w) → Some (take (length w / 2) d) ≡ pairs (every is_hexadecimal w)
   pairs_all d₀ d size h e written =
       let fits : length (hex_bytes w) ≤ most = omega (arith, length_bytes w) in
-      ap (λ (l : List ℕ). got (take (length w / 2) l)) written
-      ∙ ap got (part_sets (hex_bytes w) d₀ 0 (length w / 2) (length_bytes w) (omega arith))
+      ap (λ (l : List ℕ). Some (take (length w / 2) l)) written
+      ∙ ap (λ (l : List ℕ). Some l) (part_sets (hex_bytes w) d₀ 0 (length w / 2) (length_bytes w) (omega arith))
       ∙ sym (ap pairs e ∙ fitting_fits most (hex_bytes w) fits)
 
 -- what a word comes to: no bytes at all, pairs, or none
 module _ (w : List ℕ) where
   abbrev word_by : (dash paired : Bool) → Got
-  word_by dash paired = cond dash (got []) (cond paired (cond (every is_hexadecimal w) (got (hex_bytes w)) none) none)
+  word_by dash paired = cond dash (Some []) (cond paired (cond (every is_hexadecimal w) (Some (hex_bytes w)) None) None)
 
-  pub hex_dash : equal_bytes w (45 ∷ []) ≡ true → hex_word w ≡ got []
+  pub hex_dash : equal_bytes w (45 ∷ []) ≡ true → hex_word w ≡ Some []
   unfolding hex_word
   hex_dash e = ap (λ (b : Bool). word_by b (is_paired (length w))) e
 
-  pub hex_pairs : equal_bytes w (45 ∷ []) ≡ false → is_paired (length w) ≡ true → hex_word w ≡ cond (every is_hexadecimal w) (got (hex_bytes w)) none
+  pub hex_pairs : equal_bytes w (45 ∷ []) ≡ false → is_paired (length w) ≡ true → hex_word w ≡ cond (every is_hexadecimal w) (Some (hex_bytes w)) None
   unfolding hex_word
   hex_pairs e p = λ t. word_by (e t) (p t)
 
-  pub hex_none : equal_bytes w (45 ∷ []) ≡ false → is_paired (length w) ≡ false → hex_word w ≡ none
+  pub hex_none : equal_bytes w (45 ∷ []) ≡ false → is_paired (length w) ≡ false → hex_word w ≡ None
   unfolding hex_word
   hex_none e p = λ t. word_by (e t) (p t)
 
-pub hex_nothing : hex_word [] ≡ none
+pub hex_nothing : hex_word [] ≡ None
 unfolding hex_word equal_bytes
 hex_nothing = refl

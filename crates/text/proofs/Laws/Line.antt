@@ -1,6 +1,6 @@
--- Laws of a line's parts: the next word, numbers one behind another, bytes, all behind the end, and what a whole line says.
+-- Laws of a line's parts: numbers one behind another, bytes, all behind the end, and what a whole line says.
 use mathlib.Core.Path.{◌≡◌, refl, ap, sym, ◌∙◌}
-use mathlib.Core.Bool.{Bool, true, false, ◌&&◌, cond, and_assoc, and-false, false≢true}
+use mathlib.Core.Bool.{Bool, true, false, ◌&&◌, cond, and_assoc, and-false}
 use mathlib.Core.List.{List, [], ◌∷◌, ◌++◌, map}
 use Prim.Native.Nat.{ℕ, zero, suc, ◌+◌, ◌-◌, ◌≤◌, ◌<◌}
 use native.Mathlib.Nat.{sub-zero, add-zero, zero-add}
@@ -8,8 +8,8 @@ use native.Mathlib.Omega.{arith}
 use lib.Dec.{eqb, leb, leb-zero, leb-suc-zero, leb-suc-suc}
 use lib.ListN.{length, take, drop, get_or, set, length-take, length-append, length-map}
 use lib.Seq.{sets, take_all, take-nil, drop-nil, length-take-le, get_or-take}
-use borrow.Author.Tests.{eqb-true, eqb-false, eq-eqb, ne_eqb, leb-true, leb-false, lt-ltb, le-ltb}
-use Rattle.packed.specs.Part.{part}
+use borrow.Author.Tests.{eqb-true, eq-eqb, ne_eqb, leb-true, le-leb, lt-leb, lt-ltb, le-ltb}
+use Rattle.std.specs.Prelude.{Option, Some, None, is_some, unwrap_or, not, ◌||◌}
 use Rattle.packed.specs.Every.{every}
 use Rattle.packed.proofs.Laws.Told.{both}
 use Rattle.packed.proofs.Laws.Writing.{sets_behind, part_sets}
@@ -20,51 +20,19 @@ use Rattle.text.specs.declared.line.Numbers.{Numbers}
 use Rattle.text.specs.declared.line.Data.{Data}
 use Rattle.text.specs.declared.line.Parts.{Parts}
 use Rattle.text.specs.declared.line.End.{End}
-use Rattle.text.specs.declared.word.Word.{Word}
 use Rattle.text.specs.Ascii.{ascii, byte}
-use Rattle.text.specs.Word.{equal_bytes, words}
-use Rattle.text.specs.Inner.Word.{NextWord}
+use Rattle.text.specs.Word.{equal_bytes, runs, not_empty, words}
+use Rattle.text.specs.declared.word.Split.{Split}
+use Rattle.text.specs.Inner.Word.{words_from}
+use Rattle.text.specs.declared.kind.Source.{Source}
+use Rattle.text.specs.declared.kind.Source.TheVariants.{Hex, HexOrWritten}
+use Rattle.text.proofs.Laws.Hex.{hex_nothing}
 use Rattle.text.specs.Number.{decimal, is_number}
-use Rattle.text.specs.Got.{Got, fitting, got_of}
+use Rattle.text.specs.Got.{Got, fitting}
 use Rattle.text.specs.Hex.{hex_word}
 use Rattle.text.specs.Kind.{kind_of, is_bad, shape_of}
 use Rattle.text.specs.Line.{is_none, is_at, first_of, hex_or_written, written_under, bytes_from, bytes_in, words_of, asked_words, more_words, numbers_in, are_numbers, is_whole, room_in, most_room, longest_line, is_end, Said, no_call, read_call, read_words, read_line}
-use Rattle.text.specs.Inner.Line.{NumbersRead, DataRead, PartsRead, EndRead}
-use Rattle.text.proofs.Laws.Told.{and_then}
-use Rattle.text.proofs.Laws.Got.{fitting_none}
-use Rattle.text.proofs.Laws.Hex.{hex_nothing}
-
--- the next word, and the words behind it
-module _ (at : ℕ) (line : List ℕ) (r : Word) (next : NextWord at line r) where
-  pub words_on : (r.from ≡ r.to → ⊥) → words (drop at line) ≡ part r.from (r.to - r.from) line ∷ words (drop r.to line)
-  words_on e = next.words ∙ ap (λ (b : Bool). cond b [] (part r.from (r.to - r.from) line ∷ words (drop r.to line))) (ne_eqb r.from r.to e)
-
-  pub words_none : r.from ≡ r.to → words (drop at line) ≡ []
-  words_none e = next.words ∙ ap (λ (b : Bool). cond b [] (part r.from (r.to - r.from) line ∷ words (drop r.to line))) (eq-eqb r.from r.to e)
-
-  pub over : eqb r.from r.to ≡ is_none (words (drop at line))
-  over = go (eqb r.from r.to) refl
-    where
-      go : (b : Bool) → eqb r.from r.to ≡ b → eqb r.from r.to ≡ is_none (words (drop at line))
-      go true e = e ∙ sym (ap is_none (words_none (eqb-true r.from r.to e)))
-      go false e = e ∙ sym (ap is_none (words_on (eqb-false r.from r.to e)))
-
-  pub first_word : part r.from (r.to - r.from) line ≡ first_of (words (drop at line))
-  first_word = go (eqb r.from r.to) refl
-    where
-      go : (b : Bool) → eqb r.from r.to ≡ b → part r.from (r.to - r.from) line ≡ first_of (words (drop at line))
-      go true e =
-          let none : r.to - r.from ≡ 0 = omega (arith, eqb-true r.from r.to e) in
-          ap (λ (n : ℕ). part r.from n line) none ∙ sym (ap first_of (words_none (eqb-true r.from r.to e)))
-      go false e = sym (ap first_of (words_on (eqb-false r.from r.to e)))
-
-  -- a test that nothing passes tells that there is a word
-  pub words_behind : (p : List ℕ → Bool) → p [] ≡ false → p (first_of (words (drop at line))) ≡ true → words (drop r.to line) ≡ drop 1 (words (drop at line))
-  words_behind p fails e = go (eqb r.from r.to) refl
-    where
-      go : (b : Bool) → eqb r.from r.to ≡ b → words (drop r.to line) ≡ drop 1 (words (drop at line))
-      go true f = absurd (false≢true (sym (ap (λ (ws : List (List ℕ)). p (first_of ws)) (words_none (eqb-true r.from r.to f)) ∙ fails) ∙ e))
-      go false f = sym (ap (drop 1) (words_on (eqb-false r.from r.to f)))
+use Rattle.text.specs.Inner.Line.{AreNumbers, AreBytes, AreParts, IsEnd}
 
 -- A reading of numbers that has come to i: with the words that are left it is as the whole is to be.
 pub record Rest (ws rest : List (List ℕ)) (most i first : ℕ) (before numbers : List ℕ) : Type 0 where
@@ -131,13 +99,9 @@ pub asked_none : (n : ℕ) (rest : List (List ℕ)) → n ≡ 0 → (take n rest
 asked_none n rest e = (ap (λ (k : ℕ). take k rest) e, ap (λ (k : ℕ). drop k rest) e)
 
 -- `@`
-pub at_none : (w : List ℕ) → length w ≡ 0 → false ≡ is_at w
+pub at_none : (w : List ℕ) → length w ≡ 0 → is_at w ≡ false
 at_none [] e = refl
 at_none (b ∷ w) e = absurd (omega arith)
-
-pub at_some : (w : List ℕ) → is_at w ≡ true → 1 ≤ length w
-at_some [] e = absurd (false≢true e)
-at_some (b ∷ w) e = omega arith
 
 module _ (held : ℕ → Got) (w : List ℕ) where
   pub written_is : is_at w ≡ true → hex_or_written held w ≡ written_under held (drop 1 w)
@@ -148,20 +112,53 @@ module _ (held : ℕ → Got) (w : List ℕ) where
   unfolding hex_or_written
   hex_is e = ap (λ (b : Bool). cond b (written_under held (drop 1 w)) (hex_word w)) e
 
--- nothing is no bytes
-pub no_hex : (most : ℕ) → (fitting most (hex_word [])).good ≡ false
-no_hex most = ap (λ (g : Got). g.good) (ap (fitting most) hex_nothing ∙ fitting_none most)
+-- where no word is, no bytes are; and the bytes that a word is
+pub no_bytes : (held : ℕ → Got) (source : Source) → bytes_from held (Some source) [] ≡ None
+unfolding bytes_from
+no_bytes held Hex = hex_nothing
+no_bytes held HexOrWritten = hex_is held [] refl ∙ hex_nothing
 
-pub no_word : (held : ℕ → Got) (most : ℕ) → (fitting most (hex_or_written held [])).good ≡ false
-no_word held most = ap (λ (g : Got). (fitting most g).good) (hex_is held [] refl) ∙ no_hex most
+module _ (held : ℕ → Got) (ws behind : List (List ℕ)) (w : List ℕ) (source : Option Source) (next : ws ≡ w ∷ behind) where
+  pub hex_in : source ≡ Some Hex → bytes_from held source ws ≡ hex_word w
+  unfolding bytes_from
+  hex_in e = λ t. bytes_from held (e t) (next t)
+
+  pub written_in : source ≡ Some HexOrWritten → bytes_from held source ws ≡ hex_or_written held w
+  unfolding bytes_from
+  written_in e = λ t. bytes_from held (e t) (next t)
+
+  pub words_behind : (s : Source) → source ≡ Some s → behind ≡ drop (words_of source) ws
+  words_behind s e = sym (λ t. drop (words_of (e t)) (next t))
+
+-- a word of one byte
+pub single : (w : List ℕ) (b : ℕ) → length w ≡ 1 → get_or w 0 0 ≡ b → w ≡ b ∷ []
+single [] b h e = absurd (omega arith)
+single (x ∷ []) b h e = ap (λ (y : ℕ). y ∷ []) e
+single (x ∷ y ∷ w) b h e = absurd (omega arith)
+
+pub other_end : (w : List ℕ) → (length w ≡ 1 → (get_or w 0 0 ≡ 65 → ⊥) × (get_or w 0 0 ≡ 66 → ⊥)) → is_end w ≡ false
+unfolding equal_bytes
+other_end [] h = refl
+other_end (x ∷ []) h = λ t. ne_eqb x 65 (h refl).0 t && true || ne_eqb x 66 (h refl).1 t && true
+other_end (x ∷ y ∷ w) h = λ t. and-false (eqb x 65) t || and-false (eqb x 66) t
+
+-- a line with a word is not empty
+pub worded : (line : List ℕ) (w : List ℕ) (ws : List (List ℕ)) → words line ≡ w ∷ ws → 0 < length line
+unfolding runs not_empty
+worded [] w ws e = absurd (let z : [] ≡ w ∷ ws = e in cc)
+worded (b ∷ line) w ws e = omega arith
+
+pub is_word : (r : Option Split) (b : Bool) → is_some r ≡ b → is_none (words_from r) ≡ not b
+is_word None b e = ap not e
+is_word (Some split) b e = ap not e
 
 -- the room that a line says
 module _ (s : Shape) (numbers : List ℕ) (count : ℕ) (h : count ≤ length numbers) where
   abbrev room_by : Bool → ℕ → ℕ
   room_by said n = cond (s.room && said) n most_room
 
-  size : eqb (length (take count numbers)) (s.asked + 1) ≡ eqb count (s.asked + 1)
-  size = ap (λ (n : ℕ). eqb n (s.asked + 1)) (length-take-le count numbers h)
+  size_lem : eqb (length (take count numbers)) (s.asked + 1) ≡ eqb count (s.asked + 1)
+  size_lem = ap (λ (n : ℕ). eqb n (s.asked + 1)) (length-take-le count numbers h)
 
   pub room_said : s.room && eqb count (s.asked + 1) ≡ true → get_or numbers s.asked 0 ≡ room_in s (take count numbers)
   unfolding room_in
@@ -169,19 +166,11 @@ module _ (s : Shape) (numbers : List ℕ) (count : ℕ) (h : count ≤ length nu
       let told = both s.room (eqb count (s.asked + 1)) e in
       let inside : s.asked < count = omega (arith, eqb-true count (s.asked + 1) told.1) in
       sym (get_or-take count numbers s.asked 0 inside)
-      ∙ sym (ap (λ (b : Bool). cond b (get_or (take count numbers) s.asked 0) most_room) (ap (λ (b : Bool). s.room && b) size ∙ e))
+      ∙ sym (ap (λ (b : Bool). cond b (get_or (take count numbers) s.asked 0) most_room) (ap (λ (b : Bool). s.room && b) size_lem ∙ e))
 
   pub room_not : s.room && eqb count (s.asked + 1) ≡ false → most_room ≡ room_in s (take count numbers)
   unfolding room_in
-  room_not e = sym (ap (λ (b : Bool). cond b (get_or (take count numbers) s.asked 0) most_room) (ap (λ (b : Bool). s.room && b) size ∙ e))
-
--- as many as are asked for
-enough : (n : ℕ) (ws : List (List ℕ)) → eqb (length (take n ws)) n ≡ leb n (length ws)
-enough n ws = go (leb n (length ws)) refl
-  where
-    go : (b : Bool) → leb n (length ws) ≡ b → eqb (length (take n ws)) n ≡ leb n (length ws)
-    go true e = eq-eqb (length (take n ws)) n (length-take-le n ws (leb-true n (length ws) e)) ∙ sym e
-    go false e = ne_eqb (length (take n ws)) n (λ same. omega (arith, length-take n ws, leb-false n (length ws) e)) ∙ sym e
+  room_not e = sym (ap (λ (b : Bool). cond b (get_or (take count numbers) s.asked 0) most_room) (ap (λ (b : Bool). s.room && b) size_lem ∙ e))
 
 -- numbers with nothing behind them are no more than that
 no_more : (most : ℕ) (ws : List (List ℕ)) → every is_number (take most ws) && is_none (drop most ws) ≡ are_numbers most ws
@@ -195,105 +184,102 @@ no_more (suc most) (w ∷ ws) =
     ∙ sym (and_assoc (is_number w) (every is_number ws) (leb (length ws) most))
     ∙ ap (λ (b : Bool). is_number w && every is_number ws && b) (sym (leb-suc-suc (length ws) most))
 
--- all behind the end: the numbers that are asked for, the bytes, the numbers that follow, and nothing else
-module _ (held : ℕ → Got) (most : ℕ) (s : Shape) (line : List ℕ) (ws : List (List ℕ)) (zeros n₁ n₂ buffer : List ℕ) (first rest : Numbers) (read : Data) (last : Bool) (one : NumbersRead ws s.asked 0 zeros n₁ line first) (two : DataRead held most s.source (words (drop first.at line)) buffer line read) (three : NumbersRead (words (drop read.at line)) s.more s.asked n₁ n₂ line rest) (end : last ≡ is_none (words (drop rest.at line))) where
-  abbrev is_asked : Bool
-  is_asked = first.good && eqb first.count s.asked
-
-  abbrev are_bytes : Bool
-  are_bytes = is_asked && read.bytes.good
-
-  abbrev are_all : Bool
-  are_all = are_bytes && (rest.good && last)
-
-  asked_good : is_asked ≡ true → first.good ≡ true
-  asked_good e = (both first.good (eqb first.count s.asked) e).0
-
-  asked_is : is_asked ≡ every is_number (asked_words s ws) && leb s.asked (length ws)
-  asked_is =
-      and_then first.good (every is_number (asked_words s ws)) (eqb first.count s.asked) (leb s.asked (length ws)) one.good
-      (λ e. ap (λ (n : ℕ). eqb n s.asked) (one.count e) ∙ enough s.asked ws)
-
-  bytes_got : is_asked ≡ true → got_of read.bytes buffer ≡ bytes_in held most s ws
-  bytes_got e = two.got ∙ ap (λ (l : List (List ℕ)). fitting most (bytes_from held s.source l)) (one.rest (asked_good e))
-
-  bytes_are : are_bytes ≡ every is_number (asked_words s ws) && leb s.asked (length ws) && (bytes_in held most s ws).good
-  bytes_are = and_then is_asked _ read.bytes.good _ asked_is (λ e. ap (λ (g : Got). g.good) (bytes_got e))
-
-  more_words_lem : are_bytes ≡ true → words (drop read.at line) ≡ more_words s ws
-  more_words_lem e =
-      let told = both is_asked read.bytes.good e in
-      two.rest told.1 ∙ ap (drop (words_of s.source)) (one.rest (asked_good told.0))
-
-  more_are : are_bytes ≡ true → rest.good && last ≡ are_numbers s.more (more_words s ws)
-  more_are e =
-      and_then rest.good _ last _ three.good (λ g. end ∙ ap is_none (three.rest g))
-      ∙ no_more s.more (words (drop read.at line))
-      ∙ ap (are_numbers s.more) (more_words_lem e)
-
-  pub parts_whole : are_all ≡ is_whole held most s ws
+-- all behind the end, by its parts: the numbers that are asked for, the bytes, the numbers that follow, and nothing else
+module _ (held : ℕ → Got) (most : ℕ) (s : Shape) (ws : List (List ℕ)) where
+  whole_is : (a b c d : Bool) → every is_number (take s.asked ws) ≡ a → leb s.asked (length ws) ≡ b → is_some (bytes_in held most s ws) ≡ c → are_numbers s.more (more_words s ws) ≡ d → is_whole held most s ws ≡ a && b && c && d
   unfolding is_whole
-  parts_whole = and_then are_bytes _ (rest.good && last) _ bytes_are more_are
+  whole_is a b c d e f g h = λ t. e t && f t && g t && h t
 
-  pub parts_bytes : are_all ≡ true → take read.bytes.count buffer ≡ (bytes_in held most s ws).bytes
-  parts_bytes e =
-      let told = both is_asked read.bytes.good (both are_bytes (rest.good && last) e).0 in
-      ap (λ (g : Got). g.bytes) (bytes_got told.0)
+  pub no_asked : every is_number (take s.asked ws) ≡ false → is_whole held most s ws ≡ false
+  no_asked e = whole_is false _ _ _ e refl refl refl
 
-  pub parts_numbers : length zeros ≡ 19 → s.asked + s.more ≤ 19 → are_all ≡ true → take (s.asked + rest.count) n₂ ≡ numbers_in s ws
-  parts_numbers size sized e =
-      let all = both are_bytes (rest.good && last) e in
-      let told = both is_asked read.bytes.good all.0 in
-      let good = (both rest.good last all.1).0 in
-      let more = words (drop read.at line) in
-      let xs = map decimal (asked_words s ws) in
-      let ys = map decimal (take s.more more) in
-      let few = (both (every is_number (more_words s ws)) (leb (length (more_words s ws)) s.more) (sym (more_are all.0) ∙ all.1)).1 in
-      let asked = (both (every is_number (asked_words s ws)) (leb s.asked (length ws)) (sym asked_is ∙ told.0)).1 in
-      let wide : length xs ≡ s.asked = length-map (asked_words s ws) decimal ∙ length-take-le s.asked ws (leb-true s.asked (length ws) asked) in
-      let counted : length ys ≡ rest.count = length-map (take s.more more) decimal ∙ sym (three.count good) in
-      let both-sized : length (xs ++ ys) ≡ s.asked + rest.count = length-append xs ys ∙ (λ t. wide t + counted t) in
-      let written : n₂ ≡ sets zeros 0 (xs ++ ys) = three.numbers good ∙ sets_behind xs ys zeros n₁ 0 s.asked (one.numbers (asked_good told.0)) (zero-add (length xs) ∙ wide) in
-      let whole : take s.more more ≡ more_words s ws = ap (take s.more) (more_words_lem all.0) ∙ take_all s.more (more_words s ws) (leb-true (length (more_words s ws)) s.more few) in
-      ap (take (s.asked + rest.count)) written
-      ∙ part_sets (xs ++ ys) zeros 0 (s.asked + rest.count) both-sized (omega (arith, three.within))
-      ∙ ap (λ (l : List (List ℕ)). xs ++ map decimal l) whole
+  module _ (zeros n₁ : List ℕ) (first : Numbers) (one : AreNumbers ws s.asked 0 zeros n₁ first) where
+    pub too_few : first.count < s.asked → is_whole held most s ws ≡ false
+    too_few h = whole_is true false _ _ one.good few refl refl
+      where
+        few : leb s.asked (length ws) ≡ false
+        few = lt-leb s.asked (length ws) (omega (arith, one.count, length-take s.asked ws))
+
+    module _ (enough : s.asked ≤ first.count) where
+      asked : leb s.asked (length ws) ≡ true
+      asked = le-leb s.asked (length ws) (omega (arith, one.count, length-take s.asked ws))
+
+      bytes_lem : fitting most (bytes_from held s.source (words first.rest.now)) ≡ bytes_in held most s ws
+      bytes_lem = ap (λ (l : List (List ℕ)). fitting most (bytes_from held s.source l)) one.rest
+
+      pub no_data : fitting most (bytes_from held s.source (words first.rest.now)) ≡ None → is_whole held most s ws ≡ false
+      no_data e = whole_is true true false _ one.good asked (ap is_some (sym bytes_lem ∙ e)) refl
+
+      module _ (buffer : List ℕ) (read : Data) (two : AreBytes held most s.source (words first.rest.now) buffer read) where
+        pub data_got : bytes_in held most s ws ≡ Some (take read.count buffer)
+        data_got = sym bytes_lem ∙ two.got
+
+        more_are : words read.rest.now ≡ more_words s ws
+        more_are = two.rest ∙ ap (drop (words_of s.source)) one.rest
+
+        by_more : (b : Bool) → every is_number (take s.more (words read.rest.now)) && is_none (drop s.more (words read.rest.now)) ≡ b → is_whole held most s ws ≡ b
+        by_more b e = whole_is true true true b one.good asked (ap is_some data_got) (ap (are_numbers s.more) (sym more_are) ∙ sym (no_more s.more (words read.rest.now)) ∙ e)
+
+        pub no_more_asked : every is_number (take s.more (words read.rest.now)) ≡ false → is_whole held most s ws ≡ false
+        no_more_asked e = by_more false (ap (λ (b : Bool). b && is_none (drop s.more (words read.rest.now))) e)
+
+        module _ (n₂ : List ℕ) (rest : Numbers) (three : AreNumbers (words read.rest.now) s.more s.asked n₁ n₂ rest) where
+          pub parts_end : (b : Bool) → is_none (words rest.rest.now) ≡ b → is_whole held most s ws ≡ b
+          parts_end b e = by_more b ((λ t. three.good t && is_none (sym three.rest t)) ∙ e)
+
+          pub parts_numbers : length zeros ≡ 19 → s.asked + s.more ≤ 19 → is_none (words rest.rest.now) ≡ true → take (s.asked + rest.count) n₂ ≡ numbers_in s ws
+          parts_numbers size sized e =
+              let more = words read.rest.now in
+              let xs = map decimal (asked_words s ws) in
+              let ys = map decimal (take s.more more) in
+              let few = (both (every is_number more) (leb (length more) s.more) (sym (no_more s.more more) ∙ (λ t. three.good t && is_none (sym three.rest t)) ∙ e)).1 in
+              let wide : length xs ≡ s.asked = length-map (asked_words s ws) decimal ∙ length-take-le s.asked ws (leb-true s.asked (length ws) asked) in
+              let counted : length ys ≡ rest.count = length-map (take s.more more) decimal ∙ sym three.count in
+              let both-sized : length (xs ++ ys) ≡ s.asked + rest.count = length-append xs ys ∙ (λ t. wide t + counted t) in
+              let written : n₂ ≡ sets zeros 0 (xs ++ ys) = three.numbers ∙ sets_behind xs ys zeros n₁ 0 s.asked one.numbers (zero-add (length xs) ∙ wide) in
+              let most_more : rest.count ≤ s.more = omega (arith, three.count, length-take s.more more) in
+              ap (take (s.asked + rest.count)) written
+              ∙ part_sets (xs ++ ys) zeros 0 (s.asked + rest.count) both-sized (omega arith)
+              ∙ ap (λ (l : List (List ℕ)). xs ++ map decimal l) (take_all s.more more (leb-true (length more) s.more few) ∙ more_are)
 
 -- a call, by its end and what stands behind it
-module _ (held : ℕ → Got) (most : ℕ) (kind : Kind) (s : Shape) (line : List ℕ) (ws : List (List ℕ)) (buffer : List ℕ) (end : End) (parts : Parts) (room : ℕ) (shaped : s ≡ shape_of kind) (one : EndRead ws line end) (two : PartsRead held most s (words (drop end.at line)) buffer parts) (three : room ≡ room_in s (take parts.count parts.numbers)) where
-  abbrev is_call : Bool
-  is_call = end.good && parts.good
+module _ (held : ℕ → Got) (most : ℕ) (kind : Kind) (ws : List (List ℕ)) where
+  abbrev call_by : Shape → Said
+  call_by s = cond (is_end (first_of ws) && is_whole held most s (drop 1 ws) && leb (room_in s (numbers_in s (drop 1 ws))) most_room) (record { kind = kind; near = equal_bytes (first_of ws) (ascii "A"); numbers = numbers_in s (drop 1 ws); bytes = unwrap_or (bytes_in held most s (drop 1 ws)) []; room = room_in s (numbers_in s (drop 1 ws)) }) (no_call Bad)
 
-  abbrev call_by : Bool → Said
-  call_by good = cond good (record { kind = kind; near = equal_bytes (first_of ws) (ascii "A"); numbers = numbers_in s (drop 1 ws); bytes = (bytes_in held most s (drop 1 ws)).bytes; room = room_in s (numbers_in s (drop 1 ws)) }) (no_call Bad)
-
-  numbers_are : is_call ≡ true → take parts.count parts.numbers ≡ numbers_in s (drop 1 ws)
-  numbers_are e = let told = both end.good parts.good e in two.numbers told.1 ∙ ap (numbers_in s) (one.rest told.0)
-
-  room_is : is_call ≡ true → room ≡ room_in s (numbers_in s (drop 1 ws))
-  room_is e = three ∙ ap (room_in s) (numbers_are e)
-
-  call_is : is_call ≡ is_end (first_of ws) && is_whole held most s (drop 1 ws)
-  call_is = and_then end.good _ parts.good _ one.good (λ e. two.good ∙ ap (is_whole held most s) (one.rest e))
-
-  good_is : is_call && leb room most_room ≡ is_end (first_of ws) && is_whole held most s (drop 1 ws) && leb (room_in s (numbers_in s (drop 1 ws))) most_room
-  good_is = and_then is_call _ (leb room most_room) _ call_is (λ e. ap (λ (n : ℕ). leb n most_room) (room_is e))
-
-  read_is : call_by (is_call && leb room most_room) ≡ read_call held most kind ws
+  pub no_end : is_end (first_of ws) ≡ false → read_call held most kind ws ≡ no_call Bad
   unfolding read_call
-  read_is = ap call_by good_is ∙ ap (λ (x : Shape). cond (is_end (first_of ws) && is_whole held most x (drop 1 ws) && leb (room_in x (numbers_in x (drop 1 ws))) most_room) (record { kind = kind; near = equal_bytes (first_of ws) (ascii "A"); numbers = numbers_in x (drop 1 ws); bytes = (bytes_in held most x (drop 1 ws)).bytes; room = room_in x (numbers_in x (drop 1 ws)) }) (no_call Bad)) shaped
+  no_end e = ap (λ (b : Bool). cond (b && is_whole held most (shape_of kind) (drop 1 ws) && leb (room_in (shape_of kind) (numbers_in (shape_of kind) (drop 1 ws))) most_room) (record { kind = kind; near = equal_bytes (first_of ws) (ascii "A"); numbers = numbers_in (shape_of kind) (drop 1 ws); bytes = unwrap_or (bytes_in held most (shape_of kind) (drop 1 ws)) []; room = room_in (shape_of kind) (numbers_in (shape_of kind) (drop 1 ws)) }) (no_call Bad)) e
 
-  pub call_good : is_call && leb room most_room ≡ true → ◌≡◌ {A = Said} (record { kind = kind; near = end.near; numbers = take parts.count parts.numbers; bytes = take parts.bytes buffer; room = room }) (read_call held most kind ws)
-  call_good e =
-      let call = (both is_call (leb room most_room) e).0 in
-      let told = both end.good parts.good call in
-      let bytes = two.got told.1 ∙ ap (λ (l : List (List ℕ)). (bytes_in held most s l).bytes) (one.rest told.0) in
-      (λ t. record { kind = kind; near = one.near t; numbers = numbers_are call t; bytes = bytes t; room = room_is call t })
-      ∙ sym (ap call_by e)
-      ∙ read_is
+  module _ (s : Shape) (shaped : s ≡ shape_of kind) (end : End) (one : IsEnd ws end) where
+    read_is : call_by s ≡ read_call held most kind ws
+    unfolding read_call
+    read_is = ap call_by shaped
 
-  pub call_bad : is_call && leb room most_room ≡ false → no_call Bad ≡ read_call held most kind ws
-  call_bad e = sym (ap call_by e) ∙ read_is
+    abbrev call_if : Bool → Bool → Said
+    call_if whole fits = cond (true && whole && fits) (record { kind = kind; near = equal_bytes (first_of ws) (ascii "A"); numbers = numbers_in s (drop 1 ws); bytes = unwrap_or (bytes_in held most s (drop 1 ws)) []; room = room_in s (numbers_in s (drop 1 ws)) }) (no_call Bad)
+
+    call_is : (whole fits : Bool) → is_whole held most s (words end.rest.now) ≡ whole → leb (room_in s (numbers_in s (drop 1 ws))) most_room ≡ fits → read_call held most kind ws ≡ call_if whole fits
+    call_is whole fits e f = sym read_is ∙ (λ t. cond (one.good t && (ap (is_whole held most s) (sym one.rest) ∙ e) t && f t) (record { kind = kind; near = equal_bytes (first_of ws) (ascii "A"); numbers = numbers_in s (drop 1 ws); bytes = unwrap_or (bytes_in held most s (drop 1 ws)) []; room = room_in s (numbers_in s (drop 1 ws)) }) (no_call Bad))
+
+    pub no_parts : is_whole held most s (words end.rest.now) ≡ false → read_call held most kind ws ≡ no_call Bad
+    no_parts e = call_is false _ e refl
+
+    module _ (buffer : List ℕ) (parts : Parts) (two : AreParts held most s (words end.rest.now) buffer parts) (room : ℕ) (three : room ≡ room_in s (take parts.count parts.numbers)) where
+      numbers_are : take parts.count parts.numbers ≡ numbers_in s (drop 1 ws)
+      numbers_are = two.numbers ∙ ap (numbers_in s) one.rest
+
+      room_is : room ≡ room_in s (numbers_in s (drop 1 ws))
+      room_is = three ∙ ap (room_in s) numbers_are
+
+      pub no_room : most_room < room → read_call held most kind ws ≡ no_call Bad
+      no_room h = call_is true false two.good (ap (λ (n : ℕ). leb n most_room) (sym room_is) ∙ lt-leb room most_room h)
+
+      pub call_said : room ≤ most_room → ◌≡◌ {A = Said} (record { kind = kind; near = end.near; numbers = take parts.count parts.numbers; bytes = take parts.bytes buffer; room = room }) (read_call held most kind ws)
+      call_said h =
+          let bytes = ap (λ (g : Got). unwrap_or g []) (sym two.got ∙ ap (bytes_in held most s) one.rest) in
+          (λ t. record { kind = kind; near = one.near t; numbers = numbers_are t; bytes = bytes t; room = room_is t })
+          ∙ sym (call_is true true two.good (ap (λ (n : ℕ). leb n most_room) (sym room_is) ∙ le-leb room most_room h))
 
 -- a line, by its length, its first word and its first byte
 module _ (held : ℕ → Got) (most : ℕ) (line : List ℕ) where

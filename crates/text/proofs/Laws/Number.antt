@@ -11,7 +11,7 @@ use lib.ListN.{length, drop, get_or, drop_of_length-le}
 use lib.Seq.{drop-cons}
 use borrow.Author.Tests.{lt-ltb, le-ltb}
 use Rattle.packed.specs.Every.{every}
-use Rattle.text.specs.declared.number.Number.{Number}
+use Rattle.std.specs.Prelude.{Some, None}
 use Rattle.text.specs.Digit.{digit_value, is_decimal}
 use Rattle.text.specs.Number.{decimal, are_decimal, is_sized, is_number, number_if}
 
@@ -49,15 +49,15 @@ after_least v bs = omega (arith, mul-le-mul_left v (one-le-pow (length bs) 10 (l
 
 -- what a reading comes to: no digits, a value that does not fit, and a number
 module _ (w : List ℕ) where
-  pub no_digits_lem : every is_decimal w ≡ false → record { good = false; value = 0 } ≡ number_if (are_decimal w) (decimal w)
+  pub no_digits_lem : every is_decimal w ≡ false → None ≡ number_if (are_decimal w) (decimal w)
   no_digits_lem e = sym (ap (λ (b : Bool). number_if (b && ltb (decimal w) (2 ^ 64)) (decimal w)) e)
 
-  pub too_large : 2 ^ 64 ≤ decimal w → record { good = false; value = 0 } ≡ number_if (are_decimal w) (decimal w)
+  pub too_large : 2 ^ 64 ≤ decimal w → None ≡ number_if (are_decimal w) (decimal w)
   too_large h = sym (ap (λ (b : Bool). number_if b (decimal w)) (ap (λ (b : Bool). every is_decimal w && b) (le-ltb (decimal w) (2 ^ 64) h) ∙ and-false (every is_decimal w)))
 
-  pub a_number : (v : ℕ) → every is_decimal w ≡ true → v ≡ decimal w → v < 2 ^ 64 → record { good = true; value = v } ≡ number_if (are_decimal w) (decimal w)
+  pub a_number : (v : ℕ) → every is_decimal w ≡ true → v ≡ decimal w → v < 2 ^ 64 → Some v ≡ number_if (are_decimal w) (decimal w)
   a_number v e same h =
-      (λ t. record { good = true; value = same t })
+      (λ t. Some (same t))
       ∙ sym (λ t. number_if (e t && lt-ltb (decimal w) (2 ^ 64) (rw same at h) t) (decimal w))
 
 -- by the count of digits
@@ -69,14 +69,11 @@ pub unsized : (w : List ℕ) → is_sized (length w) ≡ false → is_number w �
 unfolding is_number
 unsized w e = ap (λ (b : Bool). b && are_decimal w) e
 
--- what a number that was read tells
-module _ (b : Bool) (v : ℕ) (r : Number) (said : r ≡ number_if b v) where
-  pub told_good : r.good ≡ b
-  told_good = ap (λ (n : Number). n.good) said ∙ go b
-    where
-      go : (t : Bool) → (number_if t v).good ≡ t
-      go true = refl
-      go false = refl
+-- what a reading tells
+pub told_none : (b : Bool) (v : ℕ) → None ≡ number_if b v → b ≡ false
+told_none true v e = absurd (let z : None ≡ Some v = e in cc)
+told_none false v e = refl
 
-  pub told_value : b ≡ true → r.value ≡ v
-  told_value e = ap (λ (n : Number). n.value) said ∙ ap (λ (t : Bool). (number_if t v).value) e
+pub told_some : (b : Bool) (v n : ℕ) → Some n ≡ number_if b v → (b ≡ true) × (n ≡ v)
+told_some true v n e = (refl, let z : Some n ≡ Some v = e in cc)
+told_some false v n e = absurd (let z : Some n ≡ None = e in cc)

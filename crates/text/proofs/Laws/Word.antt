@@ -3,68 +3,54 @@
 use mathlib.Core.Path.{◌≡◌, refl, ap, sym, ◌∙◌}
 use mathlib.Core.Bool.{Bool, true, false, ◌&&◌, cond}
 use mathlib.Core.List.{List, [], ◌∷◌}
-use Prim.Native.Nat.{ℕ, zero, suc, ◌+◌, ◌-◌, ◌≤◌, ◌<◌}
-use native.Mathlib.Numerals.{add-one}
+use Prim.Native.Nat.{ℕ, suc, ◌+◌, ◌-◌, ◌≤◌, ◌<◌}
 use native.Mathlib.Omega.{arith}
-use lib.Dec.{eqb, eqb-suc-zero}
-use lib.ListN.{length, take, drop, get_or, drop_of_length-le}
-use lib.Seq.{drop-cons, drop-drop}
-use borrow.Author.Tests.{eqb-true, eq-eqb, ne_eqb}
+use lib.Dec.{eqb, ltb}
+use lib.ListN.{length, take, drop, drop_of_length-le}
+use lib.Seq.{drop-drop}
+use Rattle.std.proofs.Common.{length-drop, one-add}
+use Rattle.packed.specs.Part.{part}
+use borrow.Author.Tests.{eqb-true, eq-eqb, ltb-false}
 use Rattle.packed.proofs.Laws.Told.{both}
-use Rattle.text.specs.declared.word.Word.{Word}
+use Rattle.std.specs.Prelude.{bytes_eq, Some, None}
+use Rattle.std.specs.List.{position, position_or_len}
+use Rattle.std.proofs.lemmas.List.Recursion.{is_position_or_len}
 use Rattle.text.specs.Word.{equal_bytes, before, is_space, is_other, onto_first, runs, not_empty, words}
-use Rattle.text.specs.Inner.Word.{words_from}
 
--- a search that has come to i: it ends there, or goes on
-module _ (p : ℕ → Bool) (l : List ℕ) (i : ℕ) where
-  pub before_here : i < length l → p (get_or l i 0) ≡ true → i + before p (drop i l) ≡ i
-  unfolding before
-  before_here h e =
-      let here : before p (drop i l) ≡ 0 = ap (before p) (drop-cons l i 0 h) ∙ ap (λ (b : Bool). cond b 0 (suc (before p (drop (suc i) l)))) e in
-      omega arith
+-- a search is std's, and so is a comparison
+pub before_is : (p : ℕ → Bool) (l : List ℕ) → before p l ≡ position_or_len p l
+unfolding before
+before_is p l = is_position_or_len (before p) p refl (λ x xs. ap (λ (n : ℕ). cond (p x) 0 n) (sym (one-add (before p xs)))) l
 
-  pub before_on : i < length l → p (get_or l i 0) ≡ false → i + before p (drop i l) ≡ i + 1 + before p (drop (i + 1) l)
-  unfolding before
-  before_on h e =
-      let on : before p (drop i l) ≡ suc (before p (drop (suc i) l)) = ap (before p) (drop-cons l i 0 h) ∙ ap (λ (b : Bool). cond b 0 (suc (before p (drop (suc i) l)))) e in
-      let next : before p (drop (i + 1) l) ≡ before p (drop (suc i) l) = ap (λ (k : ℕ). before p (drop k l)) (add-one i) in
-      omega arith
-
-  pub before_end : length l ≤ i → i + before p (drop i l) ≡ i
-  unfolding before
-  before_end h = let none : before p (drop i l) ≡ 0 = ap (before p) (drop_of_length-le l {i = i} h) in omega arith
-
--- a comparison that has come to i
-module _ (a b : List ℕ) (i : ℕ) where
-  pub same_on : i < length a → i < length b → get_or a i 0 ≡ get_or b i 0 → equal_bytes (drop (i + 1) a) (drop (i + 1) b) ≡ equal_bytes (drop i a) (drop i b)
-  unfolding equal_bytes
-  same_on ha hb e =
-      sym
-      ((λ t. equal_bytes (drop-cons a i 0 ha t) (drop-cons b i 0 hb t))
-      ∙ ap (λ (x : Bool). x && equal_bytes (drop (suc i) a) (drop (suc i) b)) (eq-eqb (get_or a i 0) (get_or b i 0) e)
-      ∙ sym (ap (λ (k : ℕ). equal_bytes (drop k a) (drop k b)) (add-one i)))
-
-  pub same_not : i < length a → i < length b → (get_or a i 0 ≡ get_or b i 0 → ⊥) → equal_bytes (drop i a) (drop i b) ≡ false
-  unfolding equal_bytes
-  same_not ha hb e =
-      (λ t. equal_bytes (drop-cons a i 0 ha t) (drop-cons b i 0 hb t))
-      ∙ ap (λ (x : Bool). x && equal_bytes (drop (suc i) a) (drop (suc i) b)) (ne_eqb (get_or a i 0) (get_or b i 0) e)
-
-  pub same_end : length a ≤ i → length b ≤ i → equal_bytes (drop i a) (drop i b) ≡ true
-  unfolding equal_bytes
-  same_end ha hb = λ t. equal_bytes (drop_of_length-le a {i = i} ha t) (drop_of_length-le b {i = i} hb t)
-
--- what is of another length is another
-pub same_lengths : (a b : List ℕ) → (length a ≡ length b → ⊥) → equal_bytes a b ≡ false
-unfolding equal_bytes
-same_lengths [] [] h = absurd (h refl)
-same_lengths [] (y ∷ b) h = refl
-same_lengths (x ∷ a) [] h = refl
-same_lengths (x ∷ a) (y ∷ b) h = go (eqb x y) (same_lengths a b (λ e. h (ap suc e)))
+before_most : (p : ℕ → Bool) (l : List ℕ) → before p l ≤ length l
+unfolding before
+before_most p [] = omega arith
+before_most p (b ∷ bs) = go (p b) (before_most p bs)
   where
-    go : (t : Bool) → equal_bytes a b ≡ false → t && equal_bytes a b ≡ false
-    go true e = e
-    go false e = refl
+    go : (t : Bool) → before p bs ≤ length bs → cond t 0 (suc (before p bs)) ≤ length (b ∷ bs)
+    go true h = omega arith
+    go false h = omega arith
+
+pub found_at : (p : ℕ → Bool) (l : List ℕ) (n : ℕ) → position p l ≡ Some n → n ≡ before p l
+found_at p l n e = go (ltb (position_or_len p l) (length l)) e ∙ sym (before_is p l)
+  where
+    go : (b : Bool) → cond b (Some (position_or_len p l)) None ≡ Some n → n ≡ position_or_len p l
+    go true e = cc
+    go false e = absurd (let z : None ≡ Some n = e in cc)
+
+pub found_none : (p : ℕ → Bool) (l : List ℕ) → position p l ≡ None → before p l ≡ length l
+found_none p l e = go (ltb (position_or_len p l) (length l)) refl e
+  where
+    go : (b : Bool) → ltb (position_or_len p l) (length l) ≡ b → cond b (Some (position_or_len p l)) None ≡ None → before p l ≡ length l
+    go true f e = absurd (let z : Some (position_or_len p l) ≡ None = e in cc)
+    go false f e = omega (arith, before_is p l, before_most p l, ltb-false (position_or_len p l) (length l) f)
+
+pub same_is : (a b : List ℕ) → bytes_eq a b ≡ equal_bytes a b
+unfolding equal_bytes
+same_is [] [] = refl
+same_is [] (y ∷ b) = refl
+same_is (x ∷ a) [] = refl
+same_is (x ∷ a) (y ∷ b) = ap (λ (t : Bool). eqb x y && t) (same_is a b)
 
 -- what it says: the runs are equal
 pub same_then_equal : (a b : List ℕ) → equal_bytes a b ≡ true → a ≡ b
@@ -125,30 +111,29 @@ words_behind (b ∷ bs) = go (is_space b) refl (words_behind bs)
     go false e on = rw e on
 
 -- a word that begins at once
-words_here : (l : List ℕ) → before is_other l ≡ 0 → words l ≡ cond (eqb (before is_space l) 0) [] (take (before is_space l) l ∷ words (drop (before is_space l) l))
+words_here : (l : List ℕ) → 0 < length l → before is_other l ≡ 0 → words l ≡ take (before is_space l) l ∷ words (drop (before is_space l) l)
 unfolding before runs not_empty
-words_here [] e = refl
-words_here (b ∷ bs) e = go (is_space b) refl e
+words_here [] h e = absurd (omega arith)
+words_here (b ∷ bs) h e = go (is_space b) refl e
   where
-    go : (t : Bool) → is_space b ≡ t → before is_other (b ∷ bs) ≡ 0 → words (b ∷ bs) ≡ cond (eqb (before is_space (b ∷ bs)) 0) [] (take (before is_space (b ∷ bs)) (b ∷ bs) ∷ words (drop (before is_space (b ∷ bs)) (b ∷ bs)))
+    go : (t : Bool) → is_space b ≡ t → before is_other (b ∷ bs) ≡ 0 → words (b ∷ bs) ≡ take (before is_space (b ∷ bs)) (b ∷ bs) ∷ words (drop (before is_space (b ∷ bs)) (b ∷ bs))
     go true e z = absurd (omega (arith, rw e at z))
     go false e z =
-        rw (e, eqb-suc-zero (before is_space bs))
+        rw e
         (ap (λ (rs : List (List ℕ)). not_empty (onto_first b rs)) (runs_first is_space bs) ∙ ap (λ (ws : List (List ℕ)). (b ∷ take (before is_space bs) bs) ∷ ws) (words_behind bs))
 
 -- the next word stands from the first byte that is no space to the space behind it
-pub next_word : (line : List ℕ) (at : ℕ) (r : Word) → r.from ≡ at + before is_other (drop at line) → r.to ≡ r.from + before is_space (drop r.from line) → words (drop at line) ≡ words_from r line
-next_word line at r begins ends =
-    let rest : drop (before is_other (drop at line)) (drop at line) ≡ drop r.from line = drop-drop (before is_other (drop at line)) at line ∙ ap (λ (k : ℕ). drop k line) (sym begins) in
-    let none : before is_other (drop r.from line) ≡ 0 = ap (before is_other) (sym rest) ∙ skipped (drop at line) in
-    let size : before is_space (drop r.from line) ≡ r.to - r.from = omega arith in
-    let test : eqb (before is_space (drop r.from line)) 0 ≡ eqb r.from r.to = same_test (before is_space (drop r.from line)) r.from r.to ends in
-    let end : drop (before is_space (drop r.from line)) (drop r.from line) ≡ drop r.to line = drop-drop (before is_space (drop r.from line)) r.from line ∙ ap (λ (k : ℕ). drop k line) (sym ends) in
-    words_skip (drop at line)
+pub next_word : (line : List ℕ) (from to : ℕ) → from ≡ before is_other line → from < length line → to ≡ from + before is_space (drop from line) → words line ≡ part from (to - from) line ∷ words (drop to line)
+next_word line from to begins h ends =
+    let rest : drop (before is_other line) line ≡ drop from line = ap (λ (k : ℕ). drop k line) (sym begins) in
+    let size : before is_space (drop from line) ≡ to - from = omega arith in
+    let end : drop (before is_space (drop from line)) (drop from line) ≡ drop to line = drop-drop (before is_space (drop from line)) from line ∙ ap (λ (k : ℕ). drop k line) (sym ends) in
+    words_skip line
     ∙ ap words rest
-    ∙ words_here (drop r.from line) none
-    ∙ (λ t. cond (test t) [] (take (size t) (drop r.from line) ∷ words (end t)))
-  where
-    same_test : (k from to : ℕ) → to ≡ from + k → eqb k 0 ≡ eqb from to
-    same_test zero from to e = sym (eq-eqb from to (omega arith))
-    same_test (suc k) from to e = eqb-suc-zero k ∙ sym (ne_eqb from to (omega arith))
+    ∙ words_here (drop from line) (omega (arith, length-drop from line)) (ap (before is_other) (sym rest) ∙ skipped line)
+    ∙ (λ t. take (size t) (drop from line) ∷ words (end t))
+
+-- there is none where nothing but spaces stand
+pub no_word : (line : List ℕ) → length line ≤ before is_other line → words line ≡ []
+unfolding runs not_empty
+no_word line h = words_skip line ∙ ap words (drop_of_length-le line {i = before is_other line} h)

@@ -1,29 +1,36 @@
 -- `compensation_date` goes from the date to its number, through the table, and back.
-use mathlib.Core.Path.{◌≡◌, ap, sym, ◌∙◌}
-use mathlib.Core.Bool.{true, false}
-use Prim.Native.Nat.{ℕ}
-use Rattle.calendar.specs.declared.compensation.Compensation.{Compensation}
-use Rattle.calendar.specs.Dates.{is_day2028, day_number}
+use mathlib.Core.Path.{◌≡◌, refl, ap, sym, ◌∙◌}
+use mathlib.Core.Bool.{true}
+use Prim.Native.Nat.{ℕ, zero, suc}
+use native.Mathlib.Omega.{arith}
+use Rattle.std.specs.Prelude.{Ok}
+use Rattle.calendar.specs.Dates.{is_day2028, day_number, date_of}
 use Rattle.calendar.specs.Year.{next_in2028}
 use Rattle.calendar.specs.Compensation.{on_day, compensation}
 use Rattle.calendar.proofs.compensation.compensation_date.Goals as goal
 
-a_day : (date : ℕ) → is_day2028 date ≡ true → on_day (next_in2028 (day_number date)) ≡ compensation date
+-- the number of the next working day decides, and 0 is no day
+module _ (date day next : ℕ) (valid : true ≡ is_day2028 date) (numbered : day ≡ day_number date) (found : next ≡ next_in2028 day) where
+  decided : on_day next ≡ compensation date
+  unfolding compensation
+  decided = rw (← valid, found, numbered)
+
+some_day : (next : ℕ) → (next ≡ 0 → ⊥) → Ok (date_of next) ≡ on_day next
+unfolding on_day
+some_day zero h = absurd (h refl)
+some_day (suc n) h = refl
+
+pub returns-then-not-is_day : goal.returns-then-not-is_day
 unfolding compensation
-a_day date e = rw e
+returns-then-not-is_day c = rw (sym c.if-not-is_day.ensures)
 
-no_day : (date : ℕ) → is_day2028 date ≡ false → Compensation.NoDay ≡ compensation date
-unfolding compensation
-no_day date e = rw e
+pub returns-in-0 : goal.returns-in-0
+unfolding on_day
+returns-in-0 c =
+    ap on_day (sym c.in-0.is) ∙ decided c.args.date c.day_number.result c.next_day.result c.if-not-is_day.ensures c.day_number.ensures c.next_day.ensures
 
-pub day_number-requires : goal.day_number-requires
-day_number-requires c = sym c.is_day.ensures ∙ c.if-is_day.true
-
-pub returns-then-is_day : goal.returns-then-is_day
-returns-then-is_day c =
-    c.on_day.ensures
-    ∙ ap on_day (c.next_day.ensures ∙ ap next_in2028 c.day_number.ensures)
-    ∙ a_day c.args.date (sym c.is_day.ensures ∙ c.if-is_day.true)
-
-pub returns : goal.returns
-returns c = no_day c.args.date (sym c.is_day.ensures ∙ c.if-is_day.false)
+pub returns-in_default : goal.returns-in_default
+returns-in_default c =
+    ap Ok c.date_of.ensures
+    ∙ some_day c.next_day.result (λ none. omega arith)
+    ∙ decided c.args.date c.day_number.result c.next_day.result c.if-not-is_day.ensures c.day_number.ensures c.next_day.ensures

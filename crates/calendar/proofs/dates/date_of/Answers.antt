@@ -8,26 +8,20 @@ use Rattle.calendar.proofs.dates.date_of.Goals as goal
 
 pub loop-month-init : goal.loop-month-init
 unfolding date_of
-loop-month-init c = (omega arith, refl, c.requires)
+loop-month-init c = (refl, c.requires)
 
 pub returns-then-day-days : goal.returns-then-day-days
 unfolding month_days
 returns-then-day-days c =
-    sym (in_month_at c.loop-month.month c.loop-month.day (omega arith) c.loop-month.invariant.2 (omega (arith, c.month_days-days.ensures, c.if-day-days.true))) ∙ c.loop-month.invariant.1
-
-pub loop-month-smaller : goal.loop-month-smaller
-unfolding month_days
-loop-month-smaller c = omega arith
+    rw c.from.ensures (sym (in_month_at c.loop-month.month c.loop-month.day (omega arith) c.loop-month.invariant.1 c.if-day-days.true) ∙ c.loop-month.invariant.0)
 
 pub loop-month-preserved : goal.loop-month-preserved
 unfolding month_days
-loop-month-preserved c =
-    let days = c.month_days-days.ensures in (
-      omega arith,
-      rw (add-one, days) (sym (after_month_at c.loop-month.month c.loop-month.day (omega arith) (omega (arith, days))) ∙ c.loop-month.invariant.1),
-      omega arith,
-    )
+loop-month-preserved c = (
+  rw add-one (sym (after_month_at c.loop-month.month c.loop-month.day (omega arith) c.if-day-days.false) ∙ c.loop-month.invariant.0),
+  omega arith,
+)
 
 pub returns : goal.returns
 unfolding month_days
-returns c = sym (past_months c.loop-month.month c.loop-month.day (omega arith)) ∙ c.loop-month.invariant.1
+returns c = sym (past_months c.loop-month.month c.loop-month.day (omega arith)) ∙ c.loop-month.invariant.0

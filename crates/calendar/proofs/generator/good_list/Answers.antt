@@ -3,22 +3,24 @@ use native.Mathlib.Numerals.{add-one}
 use native.Mathlib.Omega.{arith}
 use Rattle.calendar.proofs.Laws.Ascending.{behind_nothing, none_behind, not_above_at, past_year_at, good_day_at}
 use Rattle.calendar.proofs.generator.good_list.Goals as goal
+use Rattle.calendar.proofs.generator.good_list.Goals.{then-day-last-via-then-day-last, then-day-last-via-else-day-last+then-day-gt-YEAR_DAYS}
 
-pub loop-i-init : goal.loop-i-init
-loop-i-init c = (omega arith, behind_nothing c.args.unworked.now)
+pub loop-day-init : goal.loop-day-init
+loop-day-init c = behind_nothing c.args.unworked.now
 
 pub returns-then-day-last : goal.returns-then-day-last
 returns-then-day-last c =
-    sym (not_above_at c.loop-i.last c.args.unworked.now c.loop-i.i (omega arith) c.if-day-last.true) ∙ c.loop-i.invariant.1
-
-pub returns-then-day-gt-YEAR_DAYS : goal.returns-then-day-gt-YEAR_DAYS
-returns-then-day-gt-YEAR_DAYS c =
-    sym (past_year_at c.loop-i.last c.args.unworked.now c.loop-i.i (omega arith) c.if-day-gt-YEAR_DAYS.true) ∙ c.loop-i.invariant.1
-
-pub loop-i-preserved : goal.loop-i-preserved
-loop-i-preserved c =
+    let t = c.loop-day in
     let u = c.args.unworked.now in
-    (omega arith, rw add-one (sym (good_day_at c.loop-i.last u c.loop-i.i (omega arith) (omega arith) (omega arith)) ∙ c.loop-i.invariant.1))
+    elim c.then-day-last.branch [
+      | then-day-last-via-then-day-last w ↦ sym (not_above_at t.last u t.day-index (omega arith) w.if-day-last.true) ∙ t.invariant
+      | then-day-last-via-else-day-last+then-day-gt-YEAR_DAYS w ↦ sym (past_year_at t.last u t.day-index (omega arith) w.if-day-gt-YEAR_DAYS.true) ∙ t.invariant
+    ]
+
+pub loop-day-preserved : goal.loop-day-preserved
+loop-day-preserved c =
+    let t = c.loop-day in
+    rw add-one (sym (good_day_at t.last c.args.unworked.now t.day-index (omega arith) (omega arith) (omega arith)) ∙ t.invariant)
 
 pub returns : goal.returns
-returns c = sym (none_behind c.loop-i.last c.args.unworked.now c.loop-i.i (omega arith)) ∙ c.loop-i.invariant.1
+returns c = sym (none_behind c.loop-day.last c.args.unworked.now c.loop-day.day-index (omega arith)) ∙ c.loop-day.invariant

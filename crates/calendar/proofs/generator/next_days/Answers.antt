@@ -4,20 +4,15 @@ use native.Mathlib.Omega.{arith}
 use Rattle.calendar.proofs.Laws.Generator.{wrong_list, short_table, made}
 use Rattle.calendar.proofs.generator.next_days.Goals as goal
 
+pub returns-then-not-good_list : goal.returns-then-not-good_list
+returns-then-not-good_list c = let m = wrong_list c.args.unworked.now c.args.days.now (sym c.if-not-good_list.ensures) in record { answer = m.0; after = m.1 }
+
 pub returns-then-days-lt-PLACES : goal.returns-then-days-lt-PLACES
 returns-then-days-lt-PLACES c =
-    let m = short_table c.args.unworked.now c.args.days.now (sym c.good_list.ensures ∙ c.if-good_list.true) (omega arith) in
+    let m = short_table c.args.unworked.now c.args.days.now (sym c.if-not-good_list.ensures) (omega arith) in
     record { answer = m.0; after = m.1 }
-
-pub fill-requires : goal.fill-requires
-fill-requires c = record { good = sym c.good_list.ensures ∙ c.if-good_list.true; room = omega arith }
-
-pub returns-then-good_list : goal.returns-then-good_list
-returns-then-good_list c =
-    let m = made c.args.unworked.now c.args.days.now (sym c.good_list.ensures ∙ c.if-good_list.true) (omega arith) in
-    record { answer = m.0; after = c.fill.ensures ∙ m.1 }
 
 pub returns : goal.returns
 returns c =
-    let m = wrong_list c.args.unworked.now c.args.days.now (sym c.good_list.ensures ∙ c.if-good_list.false) in
-    record { answer = m.0; after = m.1 }
+    let m = made c.args.unworked.now c.args.days.now (sym c.if-not-good_list.ensures) (omega arith) in
+    record { answer = m.0; after = c.fill.ensures ∙ m.1 }

@@ -9,6 +9,4 @@ use Rattle.centre.proofs.call.clock_call.Goals as goal
 
 pub returns : goal.returns
 unfolding meaning
-returns c =
-    let kept = c.with_session.ensures in
-    record { outcome = λ (line : List ℕ). together c.answer_number.ensures refl kept.outcome line ∙ by_meaning (Call.clock c.args.time) line (engine_of c.args.c) (c.clock-ticked.ensures.outcome _ line); premise = kept.premise }
+returns c = λ (line : List ℕ). together c.answer_number.ensures refl c.with_session.ensures line ∙ by_meaning (Call.clock c.args.time) line (engine_of c.args.c) (c.clock-ticked.ensures.outcome _ line)

@@ -8,6 +8,4 @@ use Rattle.centre.proofs.call.detail_call.Goals as goal
 
 pub returns : goal.returns
 unfolding meaning
-returns c =
-    let said = c.sent_beside.ensures in
-    record { outcome = said.outcome _ ∙ by_meaning (Call.send c.args.time (Send.detail c.args.operation c.args.part.now)) c.args.line.now (engine_of c.args.c) c.send_detail.ensures.outcome; premise = said.premise }
+returns c = c.sent.ensures _ ∙ by_meaning (Call.send c.args.time (Send.detail c.args.operation c.args.part.now)) c.args.line.now (engine_of c.args.c) c.send_detail.ensures.outcome

@@ -8,6 +8,4 @@ use Rattle.centre.proofs.call.lot_total_call.Goals as goal
 
 pub returns : goal.returns
 unfolding meaning
-returns c =
-    let said = c.sent_beside.ensures in
-    record { outcome = said.outcome _ ∙ by_meaning (Call.send c.args.time Send.lot_total) c.args.line.now (engine_of c.args.c) c.send_lot_total.ensures.outcome; premise = said.premise }
+returns c = c.sent.ensures _ ∙ by_meaning (Call.send c.args.time Send.lot_total) c.args.line.now (engine_of c.args.c) c.send_lot_total.ensures.outcome

@@ -7,6 +7,4 @@ use Rattle.centre.proofs.call.receive_call.Goals as goal
 
 pub returns : goal.returns
 unfolding meaning
-returns c =
-    let kept = c.with_received.ensures in
-    record { outcome = together c.answer_number.ensures refl kept.outcome _ ∙ by_meaning (Call.receive c.args.time c.args.message.now) c.args.line.now (engine_of c.args.c) c.receive-outcome.ensures.outcome; premise = kept.premise }
+returns c = together c.answer_number.ensures refl c.with_received.ensures _ ∙ by_meaning (Call.receive c.args.time c.args.message.now) c.args.line.now (engine_of c.args.c) c.receive-outcome.ensures.outcome

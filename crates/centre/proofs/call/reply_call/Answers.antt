@@ -9,6 +9,4 @@ use Rattle.centre.proofs.call.reply_call.Goals as goal
 
 pub returns : goal.returns
 unfolding meaning
-returns c =
-    let kept = c.with_presented.ensures in
-    record { outcome = λ (line : List ℕ). together c.answer_number.ensures refl kept.outcome line ∙ by_meaning (Call.reply c.args.time c.args.reply.now) line (engine_of c.args.c) (c.take_reply-outcome.ensures.outcome line); premise = kept.premise }
+returns c = λ (line : List ℕ). together c.answer_number.ensures refl c.with_presented.ensures line ∙ by_meaning (Call.reply c.args.time c.args.reply.now) line (engine_of c.args.c) (c.take_reply-outcome.ensures.outcome line)

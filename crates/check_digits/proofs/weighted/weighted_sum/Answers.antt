@@ -9,40 +9,20 @@ use Rattle.check_digits.proofs.Laws.Digits.{tenth_shifted}
 use Rattle.check_digits.proofs.Laws.Weighted.{weighted_step, weighted_end, product_most}
 use Rattle.check_digits.proofs.weighted.weighted_sum.Goals as goal
 
-pub loop-place-init : goal.loop-place-init
-loop-place-init c = (omega arith, omega arith, omega arith, omega arith)
-
-pub weight-requires : goal.weight-requires
-unfolding weights
-weight-requires c = omega arith
-
-pub overflow_mul-sum : goal.overflow_mul-sum
-unfolding weights
-overflow_mul-sum c =
-    let t = c.loop-place in
-    rw c.weight.ensures (omega (arith, product_most t.rest t.place (omega arith)))
-
-pub overflow_add-sum : goal.overflow_add-sum
-unfolding weights
-overflow_add-sum c =
-    let t = c.loop-place in
-    rw c.weight.ensures (omega (arith, product_most t.rest t.place (omega arith)))
-
-pub loop-place-preserved : goal.loop-place-preserved
+pub loop-weight-preserved : goal.loop-weight-preserved
 unfolding weights digit_at
-loop-place-preserved c =
-    let t = c.loop-place in
-    let n = c.args.number in
-    let product = product_most t.rest t.place (omega arith) in (
-      omega arith,
-      rw c.weight.ensures (omega (arith, product)),
-      ap (λ (q : ℕ). q / 10) t.invariant.2 ∙ tenth_shifted t.place n,
-      rw (c.weight.ensures, add-one, t.invariant.2) (omega (arith, weighted_step weights t.place n (omega arith), t.invariant.3)),
+loop-weight-preserved c =
+    let t = c.loop-weight in
+    let place = t.weight-index in
+    let n = c.args.number in (
+      omega (arith, product_most t.rest place (omega arith)),
+      ap (λ (q : ℕ). q / 10) t.invariant.1 ∙ tenth_shifted place n,
+      rw (add-one, t.invariant.1) (omega (arith, weighted_step weights place n (omega arith), t.invariant.2)),
     )
 
 pub returns : goal.returns
 returns c =
-    let t = c.loop-place in
+    let t = c.loop-weight in
     let n = c.args.number in
-    let done : t.place ≡ 10 = omega arith in
-    omega (arith, t.invariant.3, ap (λ (k : ℕ). weighted_from k (drop k weights) n) done ∙ weighted_end n)
+    let done : t.weight-index ≡ 10 = omega arith in
+    omega (arith, t.invariant.2, ap (λ (k : ℕ). weighted_from k (drop k weights) n) done ∙ weighted_end n)

@@ -10,7 +10,7 @@ pub returns-then-is_accepted : goal.returns-then-is_accepted
 returns-then-is_accepted c =
     sym (goes_on (code_number c.args.first) (code_number c.args.rest) (eqb-true (code_number c.args.first) 0 (sym c.is_accepted.ensures ∙ c.if-is_accepted.true)))
 
-pub returns : goal.returns
-returns c =
+pub returns-else-is_accepted : goal.returns-else-is_accepted
+returns-else-is_accepted c =
     let other = eqb-false (code_number c.args.first) 0 (sym c.is_accepted.ensures ∙ c.if-is_accepted.false) in
     sym (ends (code_number c.args.first) (code_number c.args.rest) (omega (arith, other)))

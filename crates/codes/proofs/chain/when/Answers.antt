@@ -6,6 +6,6 @@ pub returns-then-test : goal.returns-then-test
 unfolding ◌when◌
 returns-then-test c = rw c.if-test.true
 
-pub returns : goal.returns
+pub returns-else-test : goal.returns-else-test
 unfolding ◌when◌
-returns c = rw c.if-test.false
+returns-else-test c = rw c.if-test.false

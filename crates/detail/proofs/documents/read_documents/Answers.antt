@@ -1,60 +1,42 @@
-use mathlib.Core.Path.{◌≡◌, ap, sym, ◌∙◌}
-use mathlib.Core.List.{List}
-use Prim.Native.Nat.{ℕ, ◌+◌, ◌-◌, ◌≤◌}
-use native.Mathlib.Omega.{arith}
-use lib.Dec.{lit<}
-use lib.ListN.{length, length-take, length-drop}
-use Rattle.packed.specs.Part.{part}
-use Rattle.packed.specs.Pieces.{pieces}
-use Rattle.packed.proofs.Laws.Pieces.{pieces_at, pieces_end}
+-- `read_documents`: each document is one more of the part, which the library cuts as the definition does.
+use Rattle.std.proofs.Common.{◌≡◌, ℕ, ◌+◌, ◌*◌, ◌/◌, List, length, drop, ap, sym, ◌∙◌, arith, lit<}
+use Rattle.std.proofs.lemmas.List.{drop_more}
+use Rattle.std.proofs.Math.ListN.{drop_of_length-le}
+use Rattle.packed.proofs.Laws.Pieces.{chunks_pieces}
 use Rattle.document.specs.Limits.{document_bytes}
 use Rattle.document.specs.Inner.Found.{found_in, join}
-use Rattle.document.proofs.Laws.Found.{nothing_join, found_end, found_step, within_zeros, within_plus, within_more, within_fits}
+use Rattle.document.proofs.Laws.Found.{nothing_join, found_end, found_step, within_zeros, within_plus, within_fits}
 use Rattle.detail.proofs.documents.read_documents.Goals as goal
 
-pub loop-end-init : goal.loop-end-init
-loop-end-init c = (
-  omega arith,
-  omega arith,
-  omega arith,
+pub loop-d-init : goal.loop-d-init
+loop-d-init c = (
   rw c.nothing-found.ensures within_zeros,
-  rw c.nothing-found.ensures (nothing_join (found_in c.args.operation c.args.receiving c.args.represented.now (pieces document_bytes c.args.part.now))),
+  rw c.nothing-found.ensures (nothing_join (found_in c.args.operation c.args.receiving c.args.represented.now c.as_chunks.result.0.now)),
 )
 
-pub read_document-requires : goal.read_document-requires
-read_document-requires c = simp (length-take, length-drop) (omega arith)
-
 pub join-found-requires : goal.join-found-requires
-join-found-requires c =
-    within_fits (c.loop-end.end - document_bytes) 1 c.loop-end.found.totals c.read_document.result.totals (omega arith) c.loop-end.invariant.3 c.read_document.ensures.bound
+join-found-requires c = within_fits c.loop-d.d-index 1 c.loop-d.found.totals c.read_document.result.totals (omega arith) c.loop-d.invariant.0 c.read_document.ensures.bound
 
-pub loop-end-preserved : goal.loop-end-preserved
-loop-end-preserved c =
-    let end = c.loop-end.end in
-    let at = end - document_bytes in
-    let so = c.loop-end.found in
-    let size : end - at ≡ document_bytes = omega arith in
-    let next : end + document_bytes - document_bytes ≡ at + document_bytes = omega arith in (
-      omega arith,
-      omega arith,
-      omega arith,
-      rw (c.join-found.ensures, next)
-          (within_more (at + 1) (at + document_bytes) _ (omega arith) (within_plus at 1 so.totals c.read_document.result.totals c.loop-end.invariant.3 c.read_document.ensures.bound)),
-      rw (c.join-found.ensures, c.read_document.ensures.found, size, next)
-          (found_step c.args.operation c.args.receiving c.args.represented.now so (part at document_bytes c.args.part.now) _
-          ∙ ap (λ (ds : List (List ℕ)). join so (found_in c.args.operation c.args.receiving c.args.represented.now ds)) (sym (pieces_at document_bytes (lit< tt) at c.args.part.now (omega arith)))
-          ∙ c.loop-end.invariant.4),
+pub loop-d-preserved : goal.loop-d-preserved
+loop-d-preserved c =
+    let so = c.loop-d.found in
+    let i = c.loop-d.d-index in
+    let ds = c.as_chunks.result.0.now in (
+      rw c.join-found.ensures (within_plus i 1 so.totals c.read_document.result.totals c.loop-d.invariant.0 c.read_document.ensures.bound),
+      rw (c.join-found.ensures, c.read_document.ensures.found)
+          (found_step c.args.operation c.args.receiving c.args.represented.now so _ (drop (i + 1) ds)
+          ∙ ap (λ (l : List (List ℕ)). join so (found_in c.args.operation c.args.receiving c.args.represented.now l)) (sym (drop_more ds i _ (omega arith)))
+          ∙ c.loop-d.invariant.1),
     )
 
-pub returns : goal.returns
-returns c =
-    let so = c.loop-end.found in
-    let at = c.loop-end.end - document_bytes in
-    let all : length c.args.part.now ≤ at = omega arith in record {
-      found =
-          sym (found_end c.args.operation c.args.receiving c.args.represented.now so)
-          ∙ ap (λ (ds : List (List ℕ)). join so (found_in c.args.operation c.args.receiving c.args.represented.now ds)) (sym (pieces_end document_bytes (lit< tt) at c.args.part.now all))
-          ∙ c.loop-end.invariant.4;
-      bound =
-          within_more at (length c.args.part.now) so.totals (omega arith) c.loop-end.invariant.3;
-    }
+pub returns-clause-found : goal.returns-clause-found
+returns-clause-found c =
+    let so = c.loop-d.found in
+    let part = c.args.part.now in
+    let n = length part / document_bytes in
+    let whole : length part ≡ n * document_bytes = omega arith in
+    let cut = c.as_chunks.ensures.front ∙ chunks_pieces document_bytes (lit< tt) n part whole in
+    sym (found_end c.args.operation c.args.receiving c.args.represented.now so)
+    ∙ ap (λ (l : List (List ℕ)). join so (found_in c.args.operation c.args.receiving c.args.represented.now l)) (sym (drop_of_length-le c.as_chunks.result.0.now {i = c.loop-d.d-index} (omega arith)))
+    ∙ c.loop-d.invariant.1
+    ∙ ap (found_in c.args.operation c.args.receiving c.args.represented.now) cut

@@ -8,30 +8,25 @@ use Rattle.codes.specs.Code.{code_number}
 use Rattle.document.specs.Limits.{document_bytes}
 use Rattle.document.specs.declared.found.Found.{Found}
 use Rattle.document.specs.Inner.Found.{found_in}
-use Rattle.detail.specs.Inner.Verdict.{judged, if_accepted}
+use Rattle.detail.specs.Inner.Verdict.{judged}
 use Rattle.detail.proofs.Laws.Codes.{sendable_part, unsendable, sendable_judged}
 use Rattle.detail.proofs.reading.read_part.Goals as goal
 
 pub read_documents-found-requires : goal.read_documents-found-requires
 read_documents-found-requires c =
-    let fit = sendable_part c.args.operation c.args.part.now (sym c.part_sendable.ensures ∙ c.if-part_sendable.true) in
+    let fit = sendable_part c.args.operation c.args.part.now (sym c.part_sendable.ensures ∙ c.if-not-part_sendable.false) in
     record { document_bytes_len = fit.whole; part_len_bound = omega arith }
 
-pub returns-then-part_sendable : goal.returns-then-part_sendable
-returns-then-part_sendable c =
-    let may = sym c.part_sendable.ensures ∙ c.if-part_sendable.true in
-    let read = c.read_documents-found.ensures.found in
-    let operation = c.packed_byte.ensures in record {
-      code =
-          c.judge.ensures.code
-          ∙ ap (λ (f : Found). judged f.fields f.amounts true f.something) (read ∙ ap (λ (o : ℕ). found_in o c.args.partner _ (pieces document_bytes c.args.part.now)) operation)
-          ∙ sym (sendable_judged c.args.operation c.args.partner c.args.part.now may);
-      totals =
-          c.judge.ensures.totals ∙ ap (λ (f : Found). if_accepted (code_number c.judge.result.code) f.totals) read;
-    }
+pub returns-then-not-part_sendable-clause-code : goal.returns-then-not-part_sendable-clause-code
+returns-then-not-part_sendable-clause-code c =
+    let may-not = sym c.part_sendable.ensures ∙ c.if-not-part_sendable.true in
+    ap code_number c.refused.ensures.0 ∙ sym (unsendable c.args.operation c.args.partner c.args.part.now may-not)
 
-pub returns : goal.returns
-returns c =
-    let may-not = sym c.part_sendable.ensures ∙ c.if-part_sendable.false in
-    let told = c.refused.ensures in
-    record { code = ap code_number told.0 ∙ sym (unsendable c.args.operation c.args.partner c.args.part.now may-not); totals = rw (told.0, told.1) }
+pub returns-clause-code : goal.returns-clause-code
+returns-clause-code c =
+    let may = sym c.part_sendable.ensures ∙ c.if-not-part_sendable.false in
+    let read = c.read_documents-found.ensures.found in
+    let operation = c.packed_byte.ensures in
+    c.judge.ensures.code
+    ∙ ap (λ (f : Found). judged f.fields f.amounts true f.something) (read ∙ ap (λ (o : ℕ). found_in o c.args.partner _ (pieces document_bytes c.args.part.now)) operation)
+    ∙ sym (sendable_judged c.args.operation c.args.partner c.args.part.now may)

@@ -1,14 +1,23 @@
 -- `judge` is the chain of 01, 03, 06 and 44.
-use mathlib.Core.Path.{◌∙◌}
-use Rattle.codes.specs.Chain.{◌orelse◌}
+use Rattle.codes.specs.Chain.{◌when◌, ◌orelse◌}
 use Rattle.detail.proofs.verdict.judge.Goals as goal
 
-pub returns : goal.returns
-returns c =
-    record {
-      code =
-          c.or_else-code.ensures
-          ∙ λ i. c.when.ensures i orelse (c.or_else-2.ensures ∙ λ i. c.when-2.ensures i orelse (c.or_else.ensures ∙ λ i. c.when-3.ensures i orelse c.when-4.ensures i) i) i;
-      totals =
-          c.if_accepted.ensures;
-    }
+pub returns-then-not-found-clause-code : goal.returns-then-not-found-clause-code
+unfolding ◌when◌ ◌orelse◌
+returns-then-not-found-clause-code c = rw (c.refused.ensures.0, c.if-not-found.true)
+
+pub returns-then-not-found-2-clause-code : goal.returns-then-not-found-2-clause-code
+unfolding ◌when◌ ◌orelse◌
+returns-then-not-found-2-clause-code c = rw (c.refused-then-not-found-2.ensures.0, c.if-not-found.false, c.if-not-found-2.true)
+
+pub returns-then-not-found-3-clause-code : goal.returns-then-not-found-3-clause-code
+unfolding ◌when◌ ◌orelse◌
+returns-then-not-found-3-clause-code c = rw (c.refused-then-not-found-3.ensures.0, c.if-not-found.false, c.if-not-found-2.false, c.if-not-found-3.true)
+
+pub returns-then-not-found-4-clause-code : goal.returns-then-not-found-4-clause-code
+unfolding ◌when◌ ◌orelse◌
+returns-then-not-found-4-clause-code c = rw (c.refused-then-not-found-4.ensures.0, c.if-not-found.false, c.if-not-found-2.false, c.if-not-found-3.false, c.if-not-found-4.true)
+
+pub returns-clause-code : goal.returns-clause-code
+unfolding ◌when◌ ◌orelse◌
+returns-clause-code c = rw (c.if-not-found.false, c.if-not-found-2.false, c.if-not-found-3.false, c.if-not-found-4.false)

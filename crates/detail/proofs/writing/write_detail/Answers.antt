@@ -1,59 +1,50 @@
-use mathlib.Core.Path.{◌≡◌, refl, ap, sym, ◌∙◌}
-use Prim.Native.Nat.{◌+◌, ◌≤◌}
-use native.Mathlib.Nat.{zero-add}
+use mathlib.Core.Path.{◌≡◌, ap, sym, ◌∙◌}
+use mathlib.Core.List.{List, ◌++◌}
+use Prim.Native.Nat.{ℕ, min, ◌+◌, ◌<◌}
 use native.Mathlib.Omega.{arith}
-use lib.ListN.{length, length-take}
+use lib.ListN.{length, length-append}
 use lib.Seq.{sets}
-use Rattle.packed.specs.Part.{part}
+use Rattle.std.specs.Slice.Iter.{chunks_rest, chunks_size}
 use Rattle.packed.proofs.Laws.Writing.{sets_append}
 use Rattle.detail.specs.Limits.{fill_bytes}
 use Rattle.detail.specs.Writing.{written_group, written_detail}
-use Rattle.detail.proofs.Laws.Writing.{rest, rest_step, rest_end, rest_length}
+use Rattle.detail.proofs.Laws.Writing.{none_to_write, group_first}
 use Rattle.detail.proofs.writing.write_detail.Goals as goal
-use Rattle.detail.proofs.writing.write_detail.Goals.{After-piece_at-documents}
 
 -- what is to come is the group at hand and the rest
-abbrev Here : goal.After-piece_at-documents → Type 0
-Here c =
-    let n = length c.piece_at-documents.result.now in
-    (length (rest c.args.operation_byte c.loop-at.at c.args.part.now) ≡ 4 + n + length (rest c.args.operation_byte (c.loop-at.at + fill_bytes) c.args.part.now)) × (n ≤ fill_bytes)
+first : (size operation : ℕ) (old ds new : List ℕ) → size ≡ fill_bytes → old ≡ ds ++ new → length ds ≡ min size (length old) → 0 < length old → length (written_detail operation old) ≡ 4 + length ds + length (written_detail operation new)
+first size operation old ds new e parts long some =
+    ap length (group_first operation size old ds new e parts long some) ∙ length-append (written_group operation ds) (written_detail operation new) ∙ omega arith
 
-here : (c : goal.After-piece_at-documents) → Here c
-here c =
-    rw c.piece_at-documents.ensures (rest_length c.args.operation_byte c.loop-at.at c.args.part.now (omega arith), simp length-take (omega arith))
+pub write_group-requires-clause-documents_in_bounds : goal.write_group-requires-clause-documents_in_bounds
+write_group-requires-clause-documents_in_bounds c =
+    let steps = c.in-Some.ensures.steps in
+    omega (arith, c.loop-documents.invariant, first (chunks_size c.loop-documents.documents-iterator) c.args.operation_byte (chunks_rest c.loop-documents.documents-iterator) c.in-Some.documents.now (chunks_rest c.next.new.self) c.loop-documents.invariant.2 steps.1.0 steps.1.1 steps.1.2)
 
-pub loop-at-init : goal.loop-at-init
-unfolding written_detail
-loop-at-init c = (refl, zero-add _, refl)
-
-pub write_group-requires : goal.write_group-requires
-write_group-requires c = let h = here (goal.at.write_group-requires c).After-piece_at-documents in record { documents_in_bounds = omega arith; documents_len_bound = h.1 }
-
-pub overflow_add-to : goal.overflow_add-to
-overflow_add-to c = let h = here (goal.at.overflow_add-to c).After-piece_at-documents in omega arith
-
-pub overflow_add-to-in-loop-at : goal.overflow_add-to-in-loop-at
-overflow_add-to-in-loop-at c = let h = here (goal.at.overflow_add-to-in-loop-at c).After-piece_at-documents in omega arith
-
-pub loop-at-preserved : goal.loop-at-preserved
-loop-at-preserved c =
-    let h = here (goal.at.loop-at-preserved c).After-piece_at-documents in
-    let to = c.loop-at.to in
-    let at = c.loop-at.at in
-    let group = written_group c.args.operation_byte (part at fill_bytes c.args.part.now) in
-    let size : to + (4 + length (part at fill_bytes c.args.part.now)) ≡ to + length group = omega arith in (
-      c.write_group.auto.out ∙ c.loop-at.invariant.0,
-      omega arith,
-      rw (c.write_group.ensures, c.piece_at-documents.ensures, size)
-          (sets_append group (rest c.args.operation_byte (at + fill_bytes) c.args.part.now) c.loop-at.out to
-          ∙ ap (sets c.loop-at.out to) (sym (rest_step c.args.operation_byte at c.args.part.now (omega arith)))
-          ∙ c.loop-at.invariant.2),
+pub loop-documents-preserved : goal.loop-documents-preserved
+loop-documents-preserved c =
+    let steps = c.in-Some.ensures.steps in
+    let size = c.loop-documents.invariant.2 in
+    let to = c.loop-documents.to in
+    let operation = c.args.operation_byte in
+    let ds = c.in-Some.documents.now in
+    let old = chunks_rest c.loop-documents.documents-iterator in
+    let new = chunks_rest c.next.new.self in
+    let group = written_group operation ds in
+    let count = first (chunks_size c.loop-documents.documents-iterator) operation old ds new size steps.1.0 steps.1.1 steps.1.2 in
+    let place : to + (4 + length ds) ≡ to + length group = omega arith in (
+      omega (arith, steps.0),
+      tt,
+      steps.0 ∙ size,
+      c.write_group.auto.out ∙ c.loop-documents.invariant.3,
+      omega (arith, count),
+      rw (c.write_group.ensures, place)
+          (sets_append group (written_detail operation new) c.loop-documents.out to
+          ∙ ap (sets c.loop-documents.out to) (sym (group_first operation (chunks_size c.loop-documents.documents-iterator) old ds new size steps.1.0 steps.1.1 steps.1.2))
+          ∙ c.loop-documents.invariant.5),
     )
-
-pub shape_of-out : goal.shape_of-out
-shape_of-out c = c.loop-at.invariant.0
 
 pub returns : goal.returns
 returns c =
-    let none = rest_end c.args.operation_byte c.loop-at.at c.args.part.now (omega arith) in
-    record { length = omega (arith, ap length none); bytes = ap (sets c.loop-at.out c.loop-at.to) (sym none) ∙ c.loop-at.invariant.2 }
+    let none = none_to_write c.args.operation_byte (chunks_rest c.loop-documents.documents-iterator) c.in-None.ensures.steps.1.0 in
+    record { length = omega (arith, ap length none); bytes = ap (sets c.loop-documents.out c.loop-documents.to) (sym none) ∙ c.loop-documents.invariant.5 }

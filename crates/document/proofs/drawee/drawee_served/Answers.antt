@@ -13,12 +13,13 @@ unfolding drawee_served drawee member
 returns-then-operation-drawee c =
     let n = c.number2-drawee.result in
     let rest = member n c.args.represented.now in
-    sym (sym (or_assoc (not (eqb c.args.operation presented)) (eqb n c.args.own) rest) ∙ ap (λ (t : Bool). t || rest) c.if-operation-drawee.true)
+    c.if-operation-drawee.true
+    ∙ sym (sym (or_assoc (not (eqb c.args.operation presented)) (eqb n c.args.own) rest) ∙ ap (λ (t : Bool). t || rest) c.if-operation-drawee.true)
     ∙ ap (λ (m : ℕ). not (eqb c.args.operation presented) || (eqb m c.args.own || member m c.args.represented.now)) c.number2-drawee.ensures
 
-pub returns : goal.returns
+pub returns-else-operation-drawee : goal.returns-else-operation-drawee
 unfolding drawee_served drawee member
-returns c =
+returns-else-operation-drawee c =
     let n = c.number2-drawee.result in
     let rest = member n c.args.represented.now in
     c.is_member.ensures

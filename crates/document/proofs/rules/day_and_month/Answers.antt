@@ -1,24 +1,12 @@
--- `day_and_month`: past the table no month has a day; within it the code's table is the definition's.
-use mathlib.Core.Path.{◌≡◌, refl, ap, sym, ◌∙◌}
-use mathlib.Core.Bool.{false, and-false}
-use Prim.Native.Nat.{ℕ, zero, suc, ◌/◌, ◌%◌}
-use native.Mathlib.Omega.{arith}
-use borrow.Author.Tests.{lt-leb}
-use lib.ListN.{get_or-eq_default}
+-- `day_and_month`: the code's table is the definition's, with no day past its end.
+use Rattle.std.proofs.Common.{◌≡◌, ℕ, ◌/◌, ◌%◌, ap, ◌∙◌, get_or, rules}
 use Rattle.codes.specs.Field.{between}
 use Rattle.document.specs.Rules.{month_days}
 use Rattle.document.proofs.rules.day_and_month.Goals as goal
 
-no_day : (day : ℕ) → false ≡ between 1 0 day
-no_day zero = refl
-no_day (suc day) = rw (lt-leb (suc day) 0 (omega arith), and-false)
-
-pub returns-then-month-gt12 : goal.returns-then-month-gt12
-unfolding month_days
-returns-then-month-gt12 c =
-    let v = c.args.v in
-    no_day (v / 100) ∙ ap (λ (most : ℕ). between 1 most (v / 100)) (sym (get_or-eq_default month_days 0 {n = v % 100} (omega arith)))
-
 pub returns : goal.returns
 unfolding month_days
-returns c = refl
+returns c =
+    let days : c.unwrap_or-days.result ≡ get_or month_days (c.args.v % 100) 0 = search rules in
+    let kept : c.contains.result ≡ between 1 c.unwrap_or-days.result (c.args.v / 100) = search rules in
+    kept ∙ ap (λ (most : ℕ). between 1 most (c.args.v / 100)) days

@@ -8,36 +8,21 @@ use Rattle.exchange.proofs.direction.send_lots.Goals as goal
 
 pub loop-number-init : goal.loop-number-init
 unfolding lots_made
-loop-number-init c = (record { message = refl; reply = refl; safe = c.requires; whole = refl }, omega arith)
+loop-number-init c = record { within = c.requires; whole = refl }
 
-pub send_lot-at-requires : goal.send_lot-at-requires
-send_lot-at-requires c = c.loop-number.invariant.0.safe
-
-pub returns-then-same : goal.returns-then-same
-returns-then-same c =
+pub returns-then-eq-clause-outcome : goal.returns-then-eq-clause-outcome
+returns-then-eq-clause-outcome c =
     let below = c.loop-number-test.true in
-    let step = c.send_lot-at.ensures in
-    record { outcome = stays (lot_made c.args.presentations.now c.args.returns.now) (most_lots - c.loop-number.number) (suc most_lots - c.loop-number.number) c.loop-number.number _ _ (omega arith) step.outcome (sym c.same.ensures ∙ c.if-same.true) ∙ c.loop-number.invariant.0.whole; premise = step.premise }
-
-pub overflow_add-number : goal.overflow_add-number
-overflow_add-number c = let below = c.loop-number-test.true in omega arith
-
-pub loop-number-smaller : goal.loop-number-smaller
-loop-number-smaller c = let below = c.loop-number-test.true in omega arith
+    stays (lot_made c.args.trays.presentations.now c.args.trays.returns.now) (most_lots - c.loop-number.number) (suc most_lots - c.loop-number.number) c.loop-number.number _ _ (omega arith) c.send_lot-at.ensures.outcome (sym c.eq.ensures ∙ c.if-eq.true) ∙ c.loop-number.invariant.whole
 
 pub loop-number-preserved : goal.loop-number-preserved
 loop-number-preserved c =
-    let below = c.loop-number-test.true in (
-      record {
-        message = c.send_lot-at.auto.message ∙ c.loop-number.invariant.0.message;
-        reply = c.send_lot-at.auto.reply ∙ c.loop-number.invariant.0.reply;
-        safe = c.send_lot-at.ensures.premise;
-        whole = moves (lot_made c.args.presentations.now c.args.returns.now) (suc most_lots - (c.loop-number.number + 1)) (suc most_lots - c.loop-number.number) c.loop-number.number _ _ (omega arith) c.send_lot-at.ensures.outcome _ (omega arith) (sym c.same.ensures ∙ c.if-same.false) ∙ c.loop-number.invariant.0.whole;
-      },
-      omega arith,
-    )
+    let below = c.loop-number-test.true in
+    record {
+      within = c.send_lot-at.ensures.within;
+      whole = moves (lot_made c.args.trays.presentations.now c.args.trays.returns.now) (suc most_lots - (c.loop-number.number + 1)) (suc most_lots - c.loop-number.number) c.loop-number.number _ _ (omega arith) c.send_lot-at.ensures.outcome _ (omega arith) (sym c.eq.ensures ∙ c.if-eq.false) ∙ c.loop-number.invariant.whole;
+    }
 
-pub returns : goal.returns
-returns c =
-    let above = c.loop-number-test.false in
-    record { outcome = over (lot_made c.args.presentations.now c.args.returns.now) (suc most_lots - c.loop-number.number) c.loop-number.number _ (omega arith) ∙ c.loop-number.invariant.0.whole; premise = c.loop-number.invariant.0.safe }
+pub returns-clause-outcome : goal.returns-clause-outcome
+returns-clause-outcome c =
+    over (lot_made c.args.trays.presentations.now c.args.trays.returns.now) (suc most_lots - c.loop-number.number) c.loop-number.number _ (omega arith) ∙ c.loop-number.invariant.whole

@@ -8,4 +8,4 @@ use Rattle.exchange.proofs.evening.closed.Goals as goal
 
 pub returns : goal.returns
 unfolding closed_side closed_end
-returns c = c.side_of.ensures ∙ ap side_of (c.report.ensures ∙ ap (λ (t : Performed). report t.engine.session) (c.clock_call-turn.ensures.outcome []))
+returns c = c.side_of.ensures ∙ ap side_of (c.report.ensures ∙ ap (λ (t : Performed). report t.engine.session) (c.clock_call-turn.ensures []))

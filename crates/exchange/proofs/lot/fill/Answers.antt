@@ -8,29 +8,21 @@ use Rattle.exchange.proofs.lot.fill.Goals as goal
 
 pub loop-parts-init : goal.loop-parts-init
 unfolding filled
-loop-parts-init c = (record { message = refl; reply = refl; safe = c.requires; whole = refl }, omega arith)
+loop-parts-init c = record { within = c.requires; whole = refl }
 
-pub send_next-at-requires : goal.send_next-at-requires
-send_next-at-requires c = c.loop-parts.invariant.0.safe
-
-pub returns-then-same : goal.returns-then-same
-returns-then-same c =
+pub returns-then-eq-clause-outcome : goal.returns-then-eq-clause-outcome
+returns-then-eq-clause-outcome c =
     let below = c.loop-parts-test.true in
-    let step = c.send_next-at.ensures in
-    record { outcome = stays (next_part c.args.presentations.now c.args.returns.now) (lot_parts - suc c.loop-parts.parts) (lot_parts - c.loop-parts.parts) c.loop-parts.parts _ _ (omega arith) step.outcome (sym c.same.ensures ∙ c.if-same.true) ∙ c.loop-parts.invariant.0.whole; premise = step.premise }
+    stays (next_part c.args.trays.presentations.now c.args.trays.returns.now) (lot_parts - suc c.loop-parts.parts) (lot_parts - c.loop-parts.parts) c.loop-parts.parts _ _ (omega arith) c.send_next-at.ensures.outcome (sym c.eq.ensures ∙ c.if-eq.true) ∙ c.loop-parts.invariant.whole
 
 pub loop-parts-preserved : goal.loop-parts-preserved
 loop-parts-preserved c =
-    let below = c.loop-parts-test.true in (
-      record {
-        message = c.send_next-at.auto.message ∙ c.loop-parts.invariant.0.message;
-        reply = c.send_next-at.auto.reply ∙ c.loop-parts.invariant.0.reply;
-        safe = c.send_next-at.ensures.premise;
-        whole = moves (next_part c.args.presentations.now c.args.returns.now) (lot_parts - (c.loop-parts.parts + 1)) (lot_parts - c.loop-parts.parts) c.loop-parts.parts _ _ (omega arith) c.send_next-at.ensures.outcome _ (omega arith) (sym c.same.ensures ∙ c.if-same.false) ∙ c.loop-parts.invariant.0.whole;
-      },
-      omega arith,
-    )
+    let below = c.loop-parts-test.true in
+    record {
+      within = c.send_next-at.ensures.within;
+      whole = moves (next_part c.args.trays.presentations.now c.args.trays.returns.now) (lot_parts - (c.loop-parts.parts + 1)) (lot_parts - c.loop-parts.parts) c.loop-parts.parts _ _ (omega arith) c.send_next-at.ensures.outcome _ (omega arith) (sym c.eq.ensures ∙ c.if-eq.false) ∙ c.loop-parts.invariant.whole;
+    }
 
-pub returns : goal.returns
-returns c =
-    record { outcome = over (next_part c.args.presentations.now c.args.returns.now) (lot_parts - c.loop-parts.parts) c.loop-parts.parts _ (omega arith) ∙ c.loop-parts.invariant.0.whole; premise = c.loop-parts.invariant.0.safe }
+pub returns-clause-outcome : goal.returns-clause-outcome
+returns-clause-outcome c =
+    over (next_part c.args.trays.presentations.now c.args.trays.returns.now) (lot_parts - c.loop-parts.parts) c.loop-parts.parts _ (omega arith) ∙ c.loop-parts.invariant.whole

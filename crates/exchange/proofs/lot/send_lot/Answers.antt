@@ -1,14 +1,13 @@
 -- `send_lot`: by the test, over the part that the trays give.
-use mathlib.Core.Path.{◌∙◌}
+use mathlib.Core.Path.{sym, ◌∙◌}
 use Rattle.exchange.specs.Course.{standing_of}
 use Rattle.exchange.proofs.Laws.Course.{lot_none, lot_some}
 use Rattle.exchange.proofs.lot.send_lot.Goals as goal
 
-pub returns-then-part-eq0 : goal.returns-then-part-eq0
-returns-then-part-eq0 c =
-    record { outcome = lot_none c.args.presentations.now c.args.returns.now _ c.args.number (standing_of c.args.p c.args.message.now c.args.reply.now) c.next-part.ensures c.if-part-eq0.true; premise = c.requires }
+pub returns-then-is_empty-clause-outcome : goal.returns-then-is_empty-clause-outcome
+returns-then-is_empty-clause-outcome c =
+    lot_none c.args.trays.presentations.now c.args.trays.returns.now _ c.args.number (standing_of c.args.p c.args.lines.now.message c.args.lines.now.reply) c.next.ensures (sym c.is_empty.ensures ∙ c.if-is_empty.true)
 
-pub returns : goal.returns
-returns c =
-    let made = c.whole_lot.ensures in
-    record { outcome = made.outcome ∙ lot_some c.args.presentations.now c.args.returns.now _ c.args.number (standing_of c.args.p c.args.message.now c.args.reply.now) c.next-part.ensures c.if-part-eq0.false; premise = made.premise }
+pub returns-clause-outcome : goal.returns-clause-outcome
+returns-clause-outcome c =
+    c.whole_lot.ensures.outcome ∙ lot_some c.args.trays.presentations.now c.args.trays.returns.now _ c.args.number (standing_of c.args.p c.args.lines.now.message c.args.lines.now.reply) c.next.ensures (sym c.is_empty.ensures ∙ c.if-is_empty.false)

@@ -5,15 +5,14 @@ use Rattle.exchange.proofs.Laws.Cursors.{moved_within}
 use Rattle.exchange.proofs.Laws.Course.{no_room, room}
 use Rattle.exchange.proofs.lot.send_next.Goals as goal
 
-pub returns-then-documents-passes_lot : goal.returns-then-documents-passes_lot
-returns-then-documents-passes_lot c =
-    record { outcome = no_room c.args.presentations.now c.args.returns.now _ (standing_of c.args.p c.args.message.now c.args.reply.now) c.next-part.ensures _ _ c.documents_in-gathered.ensures c.passes_lot.ensures c.if-documents-passes_lot.true; premise = c.requires }
+pub returns-then-documents-passes_lot-clause-outcome : goal.returns-then-documents-passes_lot-clause-outcome
+returns-then-documents-passes_lot-clause-outcome c =
+    no_room c.args.trays.presentations.now c.args.trays.returns.now _ (standing_of c.args.p c.args.lines.now.message c.args.lines.now.reply) c.next-part.ensures _ _ c.documents_in-gathered.ensures c.passes_lot.ensures c.if-documents-passes_lot.true
 
-pub send_part-requires : goal.send_part-requires
-send_part-requires c =
-    record { safe = c.requires; cursors_value = moved_within c.args.presentations.now c.args.returns.now c.args.p.cursors c.requires.good _ c.next-part.ensures }
+pub send_part-requires-clause-moved : goal.send_part-requires-clause-moved
+send_part-requires-clause-moved c =
+    moved_within c.args.trays.presentations.now c.args.trays.returns.now c.args.p.cursors c.requires _ c.next-part.ensures
 
-pub returns : goal.returns
-returns c =
-    let sent = c.send_part.ensures in
-    record { outcome = sent.outcome ∙ room c.args.presentations.now c.args.returns.now _ (standing_of c.args.p c.args.message.now c.args.reply.now) c.next-part.ensures _ _ c.documents_in-gathered.ensures c.passes_lot.ensures c.if-documents-passes_lot.false; premise = sent.premise }
+pub returns-clause-outcome : goal.returns-clause-outcome
+returns-clause-outcome c =
+    c.send_part.ensures.outcome ∙ room c.args.trays.presentations.now c.args.trays.returns.now _ (standing_of c.args.p c.args.lines.now.message c.args.lines.now.reply) c.next-part.ensures _ _ c.documents_in-gathered.ensures c.passes_lot.ensures c.if-documents-passes_lot.false

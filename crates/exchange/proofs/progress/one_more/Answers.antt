@@ -5,4 +5,4 @@ use Rattle.exchange.proofs.progress.one_more.Goals as goal
 
 pub returns : goal.returns
 unfolding round_made
-returns c = let said = c.round.ensures in record { outcome = ap ends_after said.outcome; premise = said.premise }
+returns c = ap ends_after c.round.ensures

@@ -11,15 +11,15 @@ use Rattle.exchange.proofs.rounds.answered.Goals as goal
 
 pub slice_bounds-reply_call-end : goal.slice_bounds-reply_call-end
 slice_bounds-reply_call-end c =
-    omega (arith, written_within (Call.receive c.args.time c.args.message.now) c.args.reply.now (engine_of c.args.receiver) _ c.receive_call-heard.ensures.outcome, c.receive_call-heard.auto.line)
+    omega (arith, written_within (Call.receive c.args.time c.args.message.now) c.args.reply.now (engine_of c.args.receiver) _ c.receive_call-heard.ensures, c.receive_call-heard.auto.line)
 
 pub slice_bounds-reply_call-end-then-heard-eq0 : goal.slice_bounds-reply_call-end-then-heard-eq0
 slice_bounds-reply_call-end-then-heard-eq0 c = simp length-take (omega (arith, slice_bounds-reply_call-end c))
 
 pub returns-then-heard-eq0 : goal.returns-then-heard-eq0
 returns-then-heard-eq0 c =
-    record { outcome = replied c.args.time c.args.message.now c.args.reply.now (engine_of c.args.presenter) (engine_of c.args.receiver) _ c.receive_call-heard.ensures.outcome _ c.if-heard-eq0.true (c.reply_call-told.ensures.outcome []); unsent = refl; premise = record { presenter = c.reply_call-told.ensures.premise; receiver = c.receive_call-heard.ensures.premise } }
+    record { outcome = replied c.args.time c.args.message.now c.args.reply.now (engine_of c.args.presenter) (engine_of c.args.receiver) _ c.receive_call-heard.ensures _ c.if-heard-eq0.true (c.reply_call-told.ensures []); unsent = refl }
 
 pub returns : goal.returns
 returns c =
-    record { outcome = unreplied c.args.time c.args.message.now c.args.reply.now (engine_of c.args.presenter) (engine_of c.args.receiver) _ c.receive_call-heard.ensures.outcome c.if-heard-eq0.false; unsent = refl; premise = record { presenter = c.requires.presenter_ready; receiver = c.receive_call-heard.ensures.premise } }
+    record { outcome = unreplied c.args.time c.args.message.now c.args.reply.now (engine_of c.args.presenter) (engine_of c.args.receiver) _ c.receive_call-heard.ensures c.if-heard-eq0.false; unsent = refl }

@@ -8,15 +8,15 @@ use Rattle.exchange.proofs.rounds.round.Goals as goal
 
 pub slice_bounds-answered-end : goal.slice_bounds-answered-end
 slice_bounds-answered-end c =
-    omega (arith, written_within (call_of c.args.order c.args.part.now) c.args.message.now (engine_of c.args.presenter) _ c.perform-turn.ensures.outcome, c.perform-turn.auto.line)
+    omega (arith, written_within (call_of c.args.order c.args.part.now) c.args.message.now (engine_of c.args.presenter) _ c.perform-turn.ensures, c.perform-turn.auto.line)
 
 pub slice_bounds-answered-end-then-turn-eq0 : goal.slice_bounds-answered-end-then-turn-eq0
 slice_bounds-answered-end-then-turn-eq0 c = simp length-take (omega (arith, slice_bounds-answered-end c))
 
 pub returns-then-turn-eq0 : goal.returns-then-turn-eq0
 returns-then-turn-eq0 c =
-    record { outcome = heard (call_of c.args.order c.args.part.now) c.args.time c.args.message.now c.args.reply.now (engine_of c.args.presenter) (engine_of c.args.receiver) _ c.perform-turn.ensures.outcome _ _ c.if-turn-eq0.true c.answered.ensures.unsent c.answered.ensures.outcome; premise = c.answered.ensures.premise }
+    heard (call_of c.args.order c.args.part.now) c.args.time c.args.message.now c.args.reply.now (engine_of c.args.presenter) (engine_of c.args.receiver) _ c.perform-turn.ensures _ _ c.if-turn-eq0.true c.answered.ensures.unsent c.answered.ensures.outcome
 
 pub returns : goal.returns
 returns c =
-    record { outcome = unheard (call_of c.args.order c.args.part.now) c.args.time c.args.message.now c.args.reply.now (engine_of c.args.presenter) (engine_of c.args.receiver) _ c.perform-turn.ensures.outcome c.if-turn-eq0.false; premise = record { presenter = c.perform-turn.ensures.premise; receiver = c.requires.receiver_ready } }
+    unheard (call_of c.args.order c.args.part.now) c.args.time c.args.message.now c.args.reply.now (engine_of c.args.presenter) (engine_of c.args.receiver) _ c.perform-turn.ensures c.if-turn-eq0.false

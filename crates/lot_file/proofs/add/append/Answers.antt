@@ -9,4 +9,4 @@ use Rattle.lot_file.proofs.add.append.Goals as goal
 pub returns : goal.returns
 unfolding appended
 returns c =
-    c.copy.ensures ∙ ap (λ (l : List ℕ). sets l c.args.end c.args.tray.now) c.put_row.ensures
+    c.copy.ensures ∙ ap (λ (l : List ℕ). sets l c.args.contents.end c.args.tray.now) c.put_row.ensures

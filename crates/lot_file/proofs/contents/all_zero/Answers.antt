@@ -1,25 +1,19 @@
-use mathlib.Core.Path.{refl, ap, sym, ◌∙◌}
-use mathlib.Core.Bool.{◌&&◌}
-use mathlib.Core.List.{List}
+-- `all_zero`: `all` is the test at every byte.
+use mathlib.Core.Path.{refl, ◌∙◌}
+use mathlib.Core.Bool.{Bool, ◌&&◌}
 use Prim.Native.Nat.{ℕ}
-use native.Mathlib.Omega.{arith}
+use lib.Dec.{eqb}
+use Rattle.std.proofs.Common.{rules, tests}
+use Rattle.std.specs.List.{list_all}
+use Rattle.std.proofs.lemmas.Iterator.{YieldsList-from_slice}
+use Rattle.std.proofs.lemmas.Iterator.Search.{all_from_yields_List}
+use Rattle.std.proofs.lemmas.List.Recursion.{same_from_clauses}
 use Rattle.packed.specs.Every.{every}
-use Rattle.packed.proofs.Laws.Part.{part_none, part_step}
-use Rattle.packed.proofs.Laws.Every.{every_none, every_step}
-use Rattle.lot_file.proofs.contents.all_zero.Invariants.{is_zero}
 use Rattle.lot_file.proofs.contents.all_zero.Goals as goal
 
-pub loop-i-init : goal.loop-i-init
-loop-i-init c = (omega arith, refl)
-
-pub loop-i-preserved : goal.loop-i-preserved
-loop-i-preserved c = (
-  omega arith,
-  every_step is_zero c.loop-i.zero _ _ ∙ ap (λ (bs : List ℕ). c.loop-i.zero && every is_zero bs) (sym (part_step c.loop-i.i c.args.to c.args.file.now (omega arith) (omega arith))) ∙ c.loop-i.invariant.1,
-)
-
 pub returns : goal.returns
+unfolding every
 returns c =
-    sym (every_none is_zero c.loop-i.zero)
-    ∙ ap (λ (bs : List ℕ). c.loop-i.zero && every is_zero bs) (sym (part_none c.loop-i.i c.args.to c.args.file.now (omega arith)))
-    ∙ c.loop-i.invariant.1
+    let zero = λ (b : ℕ). eqb b 0 in
+    all_from_yields_List zero _ _ _ c.all.ensures.ran (YieldsList-from_slice c.args.bytes.now cc) (λ x b q k. search (rules, tests))
+    ∙ same_from_clauses (list_all zero) (every zero) (λ (b : ℕ) (t : Bool). zero b && t) refl (λ _ _. refl) (λ _ _. refl) c.args.bytes.now

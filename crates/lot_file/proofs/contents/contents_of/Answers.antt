@@ -1,42 +1,42 @@
--- `contents_of` joins what the pass has found, the end of the last body and the unused rows.
+-- `contents_of`: the pass, and what lies behind the used rows.
 use mathlib.Core.Path.{ap, sym, ◌∙◌}
-use mathlib.Core.Bool.{Bool, ◌&&◌, false≢true}
-use Prim.Native.Nat.{ℕ, ◌-◌, ◌≤◌}
-use native.Mathlib.Omega.{arith}
-use lib.Dec.{eqb, leb}
+use mathlib.Core.Bool.{◌&&◌}
+use Prim.Native.Nat.{ℕ, ◌-◌}
+use lib.Dec.{eqb}
 use lib.ListN.{length}
+use borrow.Author.Tests.{le-leb, lt-leb}
+use Rattle.std.specs.Prelude.{is_some}
 use Rattle.packed.specs.Part.{part}
 use Rattle.packed.specs.Every.{every}
-use Rattle.lot_file.specs.declared.contents.Contents.{Contents}
 use Rattle.lot_file.specs.Layout.{table_bytes}
-use Rattle.lot_file.specs.Inner.Contents.{walked_of}
-use Rattle.lot_file.proofs.Laws.Contents.{walked_few, short_slice, verdict}
+use Rattle.lot_file.proofs.Laws.Contents.{short_slice, none_told, some_told}
 use Rattle.lot_file.proofs.contents.contents_of.Goals as goal
+use Rattle.lot_file.proofs.contents.contents_of.Goals.{then-file-contents-via-then-file-contents, then-file-contents-via-else-file-contents+then-not-all_zero}
 
-pub returns-then-file-table : goal.returns-then-file-table
-returns-then-file-table c =
-    record { verdict = sym (short_slice c.args.rows c.args.most c.args.file.now c.if-file-table.true); told = λ e. absurd (false≢true e) }
+pub returns-then-file-table-clause-verdict : goal.returns-then-file-table-clause-verdict
+returns-then-file-table-clause-verdict c = sym (short_slice c.args.rows c.args.most c.args.file.now c.if-file-table.true)
 
-pub overflow_mul-w : goal.overflow_mul-w
-overflow_mul-w c =
-    let few = walked_few c.args.rows c.args.most c.args.file.now c.walked-w.result c.walked-w.ensures (omega arith) in
-    omega arith
+pub returns-in_err-contents-clause-verdict : goal.returns-in_err-contents-clause-verdict
+returns-in_err-contents-clause-verdict c =
+    ap is_some c.from_residual.ensures
+    ∙ sym (none_told c.args.rows c.args.most c.args.file.now c.if-file-table.false c.first_rows.result.now c.first_rows.ensures.rows (sym c.walked.ensures.pass ∙ c.in_err-contents.was))
 
-pub all_zero-zero-requires : goal.all_zero-zero-requires
-all_zero-zero-requires c =
-    let few = walked_few c.args.rows c.args.most c.args.file.now c.walked-w.result c.walked-w.ensures (omega arith) in
-    record { from_le_to = omega arith; to_in_bounds = omega arith }
+pub returns-then-file-contents-clause-verdict : goal.returns-then-file-contents-clause-verdict
+returns-then-file-contents-clause-verdict c =
+    let s = c.args.file.now in
+    let x = c.in_ok-contents.contents in
+    let told = some_told c.args.rows c.args.most s c.if-file-table.false c.first_rows.result.now c.first_rows.ensures.rows x (sym c.walked.ensures.pass ∙ c.in_ok-contents.was) in
+    elim c.then-file-contents.branch [
+      | then-file-contents-via-then-file-contents w ↦ (λ i. sym (lt-leb x.end (length s) w.if-file-contents.true) i && every (λ (b : ℕ). eqb b 0) (part (table_bytes x.used) (table_bytes c.args.rows - table_bytes x.used) s)) ∙ told.1
+      | then-file-contents-via-else-file-contents+then-not-all_zero w ↦ (λ i. sym (le-leb x.end (length s) w.if-file-contents.false) i && (sym w.if-not-all_zero.true ∙ w.all_zero.ensures) i) ∙ told.1
+    ]
 
 pub returns : goal.returns
-unfolding walked_of
 returns c =
     let s = c.args.file.now in
-    let told = c.walked-w.ensures in
-    let table : table_bytes c.args.rows ≤ length s = omega arith in record {
-      verdict =
-          ap (λ (t : Bool). c.walked-w.result.good && (leb c.walked-w.result.end (length s) && t)) c.all_zero-zero.ensures
-          ∙ ap (λ (x : Contents). x.good && (leb x.end (length s) && every (λ (b : ℕ). eqb b 0) (part (table_bytes x.used) (table_bytes c.args.rows - table_bytes x.used) s))) told
-          ∙ verdict c.args.rows c.args.most s table;
-      told =
-          λ e. record { used = ap (λ (x : Contents). x.used) told; end = ap (λ (x : Contents). x.end) told };
+    let x = c.in_ok-contents.contents in
+    let told = some_told c.args.rows c.args.most s c.if-file-table.false c.first_rows.result.now c.first_rows.ensures.rows x (sym c.walked.ensures.pass ∙ c.in_ok-contents.was) in
+    record {
+      verdict = (λ i. sym (le-leb x.end (length s) c.if-file-contents.false) i && (sym c.if-not-all_zero.false ∙ c.all_zero.ensures) i) ∙ told.1;
+      told = told.0;
     }

@@ -1,10 +1,6 @@
--- `walked` goes from row to row. The invariant is `Sofar`; the measure is what is left.
-use Prim.Native.Nat.{◌-◌}
+-- `walked` goes from row to row. The invariant is `Sofar`.
 use Rattle.lot_file.proofs.Laws.Contents.{Sofar}
 use Rattle.lot_file.proofs.contents.walked.Given as goal
 
 abbrev pub invariant-loop-used : goal.invariant-loop-used
-invariant-loop-used l = Sofar l.rows l.most l.file l.good l.used l.end l.largest
-
-abbrev pub decreases-loop-used : goal.decreases-loop-used
-decreases-loop-used l = l.rows - l.used
+invariant-loop-used l = Sofar l.most l.rows l.used l.end l.largest

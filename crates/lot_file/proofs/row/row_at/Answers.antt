@@ -1,15 +1,15 @@
--- `row_at`: the three numbers, each at its place.
-use mathlib.Core.Path.{sym, ◌∙◌}
-use Rattle.lot_file.proofs.Laws.Rows.{row_fields}
+-- `row_at`: the chunk at a place.
+use mathlib.Core.Path.{ap, ◌∙◌}
+use mathlib.Core.List.{List, []}
+use Prim.Native.Nat.{ℕ, ◌/◌}
+use native.Mathlib.Omega.{arith}
+use lib.ListN.{get_or, length}
+use Rattle.lot_file.specs.Good.{row_in}
+use Rattle.lot_file.proofs.Laws.Rows.{chunk_at}
 use Rattle.lot_file.proofs.row.row_at.Goals as goal
 
-pub returns : goal.returns
-returns c =
-    let number = c.read2.ensures.value in
-    let start = c.read4.ensures in
-    let documents = c.read4-2.ensures in
-    record {
-      row = (λ i. record { number = number i; start = start.value i; documents = documents.value i }) ∙ sym (row_fields c.args.at c.args.file.now);
-      start = start.bound;
-      documents = documents.bound;
-    }
+pub returns-clause-row : goal.returns-clause-row
+returns-clause-row c =
+    let s = c.args.file.now in
+    let p = c.args.place in
+    c.row_in.ensures.row ∙ ap (λ (l : List (List ℕ)). row_in (get_or l p [])) c.as_chunks.ensures.front ∙ ap row_in (chunk_at p (length s / 10) s [] (omega arith))

@@ -1,51 +1,28 @@
--- `take_out` goes down the chain that `find` goes down, and closes the place that it finds.
-use mathlib.Core.Path.{refl, sym, ◌∙◌}
+-- `take_out` closes the place of the lot.
+use mathlib.Core.Path.{sym, ◌∙◌}
 use native.Mathlib.Omega.{arith}
 use lib.Dec.{lit≤}
+use Rattle.std.proofs.lemmas.Result.{err_from_is_err_and}
 use Rattle.session.specs.Limits.{most_lots, most_lot_documents}
+use Rattle.lot_file.specs.Answers.{refusal_number}
 use Rattle.lot_file.proofs.Laws.Binary.{Bytes}
-use Rattle.lot_file.proofs.Laws.Answers.{asked, unasked, refused_25, nothing_taken, answer_46, answer_0, closable, closed_taken}
+use Rattle.lot_file.proofs.Laws.Answers.{refusal_told, nothing_taken, closable, closed_taken}
 use Rattle.lot_file.proofs.take_out.take_out.Goals as goal
 
-pub place_of-place-requires : goal.place_of-place-requires
-place_of-place-requires c =
-    let s = c.args.file.now in
-    let n = c.args.number in
-    let a = asked most_lots most_lot_documents s c.contents_of-c.result n c.order_number.result c.contents_of-c.ensures c.order_number.ensures c.if-c-order_number.true in
-    a.table
+pub returns-in_err-lot : goal.returns-in_err-lot
+returns-in_err-lot c =
+    let r = c.in_err-lot.field-0.0 in
+    let p = err_from_is_err_and c.from_residual.result c.from_residual.ensures.1 in
+    let code = c.in_err-lot.ensures.answer in
+    record { answer = rw (p.1, p.2) code; after = nothing_taken most_lots most_lot_documents c.args.file.now c.args.number (refusal_number r) (refusal_told r) (sym code) }
 
 pub close-requires : goal.close-requires
 close-requires c =
-    let s = c.args.file.now in
-    let n = c.args.number in
-    let a = asked most_lots most_lot_documents s c.contents_of-c.result n c.order_number.result c.contents_of-c.ensures c.order_number.ensures c.if-c-order_number.true in
-    closable most_lots most_lot_documents s c.contents_of-c.result n c.place_of-place.result a c.place_of-place.ensures c.if-place-c.true (lit≤ tt)
-
-pub returns-then-place-c : goal.returns-then-place-c
-returns-then-place-c c =
-    let s = c.args.file.now in
-    let n = c.args.number in
-    let a = asked most_lots most_lot_documents s c.contents_of-c.result n c.order_number.result c.contents_of-c.ensures c.order_number.ensures c.if-c-order_number.true in
-    let taken = c.if-place-c.true in
-    let bytes : Bytes s = λ i. grind arith in record {
-      answer =
-          sym (answer_0 most_lots most_lot_documents s c.contents_of-c.result n c.place_of-place.result a c.place_of-place.ensures taken);
-      after =
-          c.close.ensures ∙ closed_taken most_lots most_lot_documents s c.contents_of-c.result n c.place_of-place.result a c.place_of-place.ensures taken bytes;
-    }
-
-pub returns-then-c-order_number : goal.returns-then-c-order_number
-returns-then-c-order_number c =
-    let s = c.args.file.now in
-    let n = c.args.number in
-    let a = asked most_lots most_lot_documents s c.contents_of-c.result n c.order_number.result c.contents_of-c.ensures c.order_number.ensures c.if-c-order_number.true in
-    let absent = answer_46 most_lots most_lot_documents s c.contents_of-c.result n c.place_of-place.result a c.place_of-place.ensures (omega (arith, c.if-place-c.false)) in
-    record { answer = sym absent; after = nothing_taken most_lots most_lot_documents s n 46 refl absent }
+    let told = c.in_ok-lot.ensures in
+    closable most_lots most_lot_documents c.args.file.now c.args.number (sym told.answer) c.in_ok-lot.lot told.lot (lit≤ tt)
 
 pub returns : goal.returns
 returns c =
-    let s = c.args.file.now in
-    let n = c.args.number in
-    let e = unasked most_lots most_lot_documents s c.contents_of-c.result n c.order_number.result c.contents_of-c.ensures c.order_number.ensures c.if-c-order_number.false in
-    let wrong = refused_25 most_lots most_lot_documents s n e in
-    record { answer = sym wrong; after = nothing_taken most_lots most_lot_documents s n 25 refl wrong }
+    let told = c.in_ok-lot.ensures in
+    let bytes : Bytes c.args.file.now = λ i. grind arith in
+    record { answer = told.answer; after = c.close.ensures ∙ closed_taken most_lots most_lot_documents c.args.file.now c.args.number (sym told.answer) c.in_ok-lot.lot told.lot bytes }

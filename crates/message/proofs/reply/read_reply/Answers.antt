@@ -1,30 +1,45 @@
--- `read_reply`: length, mark, code, and at last the operation.
-use mathlib.Core.Path.{sym, ◌∙◌}
-use borrow.Author.Tests.{eq-eqb, ne_eqb}
-use lib.ListN.{length}
-use Rattle.packed.specs.Part.{byte_at}
-use Rattle.codes.specs.Body.{mark}
-use Rattle.message.specs.Limits.{reply_bytes}
-use Rattle.message.specs.Reply.{reply_good}
-use Rattle.message.proofs.Laws.Reply.{refused, code_unknown, code_known}
+-- `read_reply`: length, mark, operation and code.
+use Rattle.std.proofs.Common.{◌≡◌, Option, None, Result, Err, arith, ap, sym, ◌∙◌}
+use Rattle.std.specs.Option.{is_some, ok_or}
+use Rattle.std.proofs.lemmas.Result.{err_from_is_err_and}
+use Rattle.std.proofs.lemmas.Option.{MatchOption-at_some}
+use Rattle.codes.specs.declared.refusal.Refusal.{Refusal}
+use Rattle.message.specs.declared.reply.ReplyOperation.{ReplyOperation}
+use Rattle.message.specs.Reply.{reply_said}
+use Rattle.message.proofs.Laws.Reply.{other_length, unmarked, operation_unknown, code_unknown, known_read}
 use Rattle.message.proofs.reply.read_reply.Goals as goal
 
-pub returns-in-Known : goal.returns-in-Known
-returns-in-Known c =
-    let body = c.args.body.now in
-    c.answered.ensures ∙ code_known body c.if-body-eq-REPLY_BYTES.true c.if-body-eq-MARK.true c.in-Known.code (sym c.read_code.ensures ∙ c.in-Known.is)
+-- the error that stands for a missing value
+missing : {T E : Type 0} (d e : E) (o : Option T) → o ≡ None → ◌≡◌ {A = Result T E} (Err d) (ok_or o e) → d ≡ e
+missing {T = T} {E = E} d e o none h = let given : ◌≡◌ {A = Result T E} (Err d) (Err e) = h ∙ ap (λ (x : Option T). ok_or x e) none in cc
 
-pub returns-in-Unknown : goal.returns-in-Unknown
-returns-in-Unknown c =
-    let body = c.args.body.now in
-    refused body (code_unknown body c.if-body-eq-REPLY_BYTES.true c.if-body-eq-MARK.true (sym c.read_code.ensures ∙ c.in-Unknown.is))
+pub returns-in_default : goal.returns-in_default
+returns-in_default c = other_length c.args.body.now (omega arith)
 
-pub returns-else-body-eq-MARK : goal.returns-else-body-eq-MARK
-unfolding reply_good
-returns-else-body-eq-MARK c =
-    let body = c.args.body.now in
-    refused body (rw (eq-eqb (length body) reply_bytes c.if-body-eq-REPLY_BYTES.true, ne_eqb (byte_at 2 body) mark c.if-body-eq-MARK.false))
+pub returns-in_default-2 : goal.returns-in_default-2
+returns-in_default-2 c = unmarked c.args.body.now (omega arith)
 
-pub returns-else-body-eq-REPLY_BYTES : goal.returns-else-body-eq-REPLY_BYTES
-unfolding reply_good
-returns-else-body-eq-REPLY_BYTES c = let body = c.args.body.now in refused body (rw (ne_eqb (length body) reply_bytes c.if-body-eq-REPLY_BYTES.false))
+pub returns-in_default-3 : goal.returns-in_default-3
+returns-in_default-3 c = other_length c.args.body.now (omega arith)
+
+pub returns-in_err-operation : goal.returns-in_err-operation
+returns-in_err-operation c =
+    let none = c.in_err-operation.ensures.ok_part in
+    let p = err_from_is_err_and c.from_residual.result c.from_residual.ensures.1 in
+    let unknown = missing c.in_err-operation.field-0.0 Refusal.UnknownReply c.read_operation.result none c.in_err-operation.ensures.value in
+    ap reply_said (p.1 ∙ ap Err (p.2 ∙ unknown)) ∙ operation_unknown c.args.body.now (sym c.read_operation.ensures.known ∙ ap (λ (o : Option ReplyOperation). is_some o) none)
+
+pub returns-in_err-code : goal.returns-in_err-code
+returns-in_err-code c =
+    let none = c.in_err-code.ensures.ok_part in
+    let p = err_from_is_err_and c.from_residual-in_err-code.result c.from_residual-in_err-code.ensures.1 in
+    let unknown = missing c.in_err-code.field-0.0 Refusal.UnknownReply c.read_code.result none c.in_err-code.ensures.value in
+    ap reply_said (p.1 ∙ ap Err (p.2 ∙ unknown)) ∙ code_unknown c.args.body.now (sym c.read_code.ensures ∙ none)
+
+pub returns : goal.returns
+returns c =
+    let o = c.in_ok-operation.operation in
+    let k = c.in_ok-code.code in
+    known_read c.args.body.now (record { operation = o; code = k }) (omega arith) (omega arith)
+    (MatchOption-at_some _ _ o c.in_ok-operation.ensures.ok_part c.read_operation.ensures.carried)
+    (sym c.read_code.ensures ∙ c.in_ok-code.ensures.ok_part)

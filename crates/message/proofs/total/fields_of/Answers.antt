@@ -11,7 +11,8 @@ use Rattle.message.proofs.total.fields_of.Goals as goal
 pub returns : goal.returns
 unfolding total_fields
 returns c =
+    let w = c.args.w in
     let at : ℕ → ℕ → ℕ = λ (width place : ℕ). number (part place width c.args.body.now) in
-    let nominal = c.number.ensures.value ∙ ap (at c.args.nominal) (sym (nominal_at c.args.documents c.args.nominal c.args.commission)) in
-    let commission = c.number-2.ensures.value ∙ ap (at c.args.commission) (sym (commission_at c.args.documents c.args.nominal c.args.commission)) in
+    let nominal = c.number.ensures.value ∙ ap (at w.nominal) (sym (nominal_at w)) in
+    let commission = c.number-2.ensures.value ∙ ap (at w.commission) (sym (commission_at w)) in
     λ i. record { number = c.number2.ensures i; stated = totals (c.documents_of.ensures i) (nominal i) (commission i) }

@@ -4,7 +4,7 @@ use Prim.Native.Nat.{ℕ, ◌+◌, ◌≤◌}
 use native.Mathlib.Numerals.{add-one}
 use native.Mathlib.Omega.{arith}
 use lib.ListN.{length, take, get_or, set, length-set}
-use lib.Seq.{take_all}
+use lib.Seq.{take_all, sets}
 use Rattle.packed.proofs.Laws.Writing.{part_sets}
 use Rattle.decimal.specs.Decimal.{decimal}
 use Rattle.decimal.proofs.Laws.Text.{Put, put_behind}
@@ -12,34 +12,41 @@ use Rattle.next_days.specs.Text.{line_feed, table_text}
 use Rattle.next_days.proofs.Lines.{one_line}
 use Rattle.next_days.proofs.text.write_table.Goals as goal
 
-pub loop-i-init : goal.loop-i-init
+pub loop-entry-init : goal.loop-entry-init
 unfolding table_text
-loop-i-init c = (omega arith, refl, record { written = refl; place = refl }, omega arith)
+loop-entry-init c = (refl, record { written = refl; place = refl }, omega arith)
+
+pub put_decimal-end-requires : goal.put_decimal-end-requires
+put_decimal-end-requires c = omega (arith, c.loop-entry.invariant.2, c.loop-entry.invariant.0, c.requires)
 
 pub bounds-text-end : goal.bounds-text-end
 bounds-text-end c =
-    omega (arith, c.put_decimal-end.ensures.short, c.put_decimal-end.auto.line, c.loop-i.invariant.3, c.loop-i.invariant.1, c.requires)
+    omega (arith, c.put_decimal-end.ensures.short, c.put_decimal-end.auto.line, c.loop-entry.invariant.2, c.loop-entry.invariant.0, c.requires)
 
-pub loop-i-preserved : goal.loop-i-preserved
-loop-i-preserved c =
+pub loop-entry-preserved : goal.loop-entry-preserved
+loop-entry-preserved c =
     let table = c.args.table.now in
-    let i = c.loop-i.i in
-    let number = put_behind c.loop-i.invariant.2 (decimal (get_or table i 0)) c.put_decimal-end.ensures.written c.put_decimal-end.ensures.next in
-    let line = put_behind number (line_feed ∷ []) {after = set c.put_decimal-end.new.line c.put_decimal-end.result line_feed} refl refl in (
-      omega arith,
-      length-set c.put_decimal-end.new.line c.put_decimal-end.result line_feed ∙ c.put_decimal-end.auto.line ∙ c.loop-i.invariant.1,
-      rw add-one (subst (λ (text : List ℕ). Put c.args.text.now text (set c.put_decimal-end.new.line c.put_decimal-end.result line_feed) (c.put_decimal-end.result + 1)) (one_line table i (omega arith)) line),
-      omega (arith, c.put_decimal-end.ensures.short, c.loop-i.invariant.3),
+    let t = c.loop-entry in
+    let i = t.entry-index in
+    let after = set c.put_decimal-end.new.line c.put_decimal-end.result line_feed in
+    let written = c.put_decimal-end.ensures.written ∙ ap (λ (n : ℕ). sets t.text t.at (decimal n)) c.from.ensures in
+    let next = c.put_decimal-end.ensures.next ∙ ap (λ (n : ℕ). t.at + length (decimal n)) c.from.ensures in
+    let number = put_behind t.invariant.1 (decimal (get_or table i 0)) written next in
+    let line = put_behind number (line_feed ∷ []) {after = after} refl refl in (
+      length-set c.put_decimal-end.new.line c.put_decimal-end.result line_feed ∙ c.put_decimal-end.auto.line ∙ t.invariant.0,
+      rw add-one (subst (λ (text : List ℕ). Put c.args.text.now text after (c.put_decimal-end.result + 1)) (one_line table i (omega arith)) line),
+      omega (arith, c.put_decimal-end.ensures.short, t.invariant.2),
     )
 
 pub returns : goal.returns
 returns c =
     let table = c.args.table.now in
-    let all = take_all c.loop-i.i table (omega arith) in
-    let put = c.loop-i.invariant.2 in
-    let fits : c.loop-i.at ≤ length c.args.text.now = omega (arith, c.loop-i.invariant.3, c.requires) in
-    let text : take c.loop-i.at c.loop-i.text ≡ table_text table =
-    ap (take c.loop-i.at) put.written
-    ∙ part_sets (table_text (take c.loop-i.i table)) c.args.text.now 0 c.loop-i.at (sym put.place) (omega arith)
+    let t = c.loop-entry in
+    let all = take_all t.entry-index table (omega arith) in
+    let put = t.invariant.1 in
+    let fits : t.at ≤ length c.args.text.now = omega (arith, t.invariant.2, c.requires) in
+    let text : take t.at t.text ≡ table_text table =
+    ap (take t.at) put.written
+    ∙ part_sets (table_text (take t.entry-index table)) c.args.text.now 0 t.at (sym put.place) (omega arith)
     ∙ ap table_text all in
-    record { counts = (omega (arith, c.loop-i.invariant.1), put.place ∙ ap length (ap table_text all ∙ sym text)); written = text }
+    record { counts = (omega (arith, t.invariant.0), put.place ∙ ap length (ap table_text all ∙ sym text)); written = text }

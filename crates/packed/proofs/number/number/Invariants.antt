@@ -1,12 +1,8 @@
--- `number` reads the run from its start. The invariant: the value so far is that of the bytes passed. The measure is what is left.
-use mathlib.Core.Path.{◌≡◌}
-use Prim.Native.Nat.{◌-◌, ◌≤◌}
+-- `number` reads the run from its start. The invariant: the value so far is that of the bytes passed.
+use Rattle.std.proofs.Common.{◌≡◌}
 use Rattle.packed.specs.Part.{part}
 use Rattle.packed.specs.Number.{number}
 use Rattle.packed.proofs.number.number.Given as goal
 
-abbrev pub invariant-loop-i : goal.invariant-loop-i
-invariant-loop-i l = (l.at ≤ l.i) × (l.i ≤ l.end) × (l.value ≡ number (part l.at (l.i - l.at) l.s))
-
-abbrev pub decreases-loop-i : goal.decreases-loop-i
-decreases-loop-i l = l.end - l.i
+abbrev pub invariant-loop-b : goal.invariant-loop-b
+invariant-loop-b l = l.value ≡ number (part l.at l.b-index l.s)

@@ -1,6 +1,6 @@
 -- `unrefused`: the code, then the room.
-use mathlib.Core.Path.{refl, ap, sym, ◌∙◌}
-use mathlib.Core.Bool.{Bool, cond}
+use mathlib.Core.Path.{ap, sym, ◌∙◌}
+use mathlib.Core.Bool.{Bool}
 use native.Mathlib.Omega.{arith}
 use borrow.Author.Tests.{lt-ltb, le-ltb, eqb-true, eqb-false}
 use Rattle.codes.specs.Chain.{◌when◌}
@@ -9,19 +9,22 @@ use Rattle.codes.proofs.Laws.Chain.{ends, goes_on}
 use Rattle.session.specs.Outcome.{no_room}
 use Rattle.presenting.proofs.answer.unrefused.Goals as goal
 
-pub returns-then-room-bytes : goal.returns-then-room-bytes
-unfolding ◌when◌
-returns-then-room-bytes c =
-    let none = eqb-true (code_number c.args.code) 0 (sym c.is_accepted.ensures ∙ c.if-is_accepted.true) in
-    record { number = sym (goes_on (code_number c.args.code) (23 when no_room c.args.bytes c.args.room) none ∙ ap (λ (b : Bool). 23 when b) (lt-ltb c.args.room c.args.bytes c.if-room-bytes.true)); written = refl }
+pub returns-then-not-is_accepted-clause-number : goal.returns-then-not-is_accepted-clause-number
+returns-then-not-is_accepted-clause-number c =
+    let code = code_number c.args.code in
+    let stopped = eqb-false code 0 (sym c.if-not-is_accepted.ensures) in
+    sym (ends code (23 when no_room c.args.bytes c.args.room) (omega (arith, stopped)))
 
-pub returns-then-is_accepted : goal.returns-then-is_accepted
+pub returns-then-room-bytes-clause-number : goal.returns-then-room-bytes-clause-number
 unfolding ◌when◌
-returns-then-is_accepted c =
-    let none = eqb-true (code_number c.args.code) 0 (sym c.is_accepted.ensures ∙ c.if-is_accepted.true) in
-    record { number = sym (goes_on (code_number c.args.code) (23 when no_room c.args.bytes c.args.room) none ∙ ap (λ (b : Bool). 23 when b) (le-ltb c.args.room c.args.bytes (omega (arith, c.if-room-bytes.false)))); written = refl }
+returns-then-room-bytes-clause-number c =
+    let code = code_number c.args.code in
+    let none = eqb-true code 0 (sym c.if-not-is_accepted.ensures) in
+    sym (goes_on code (23 when no_room c.args.bytes c.args.room) none ∙ ap (λ (b : Bool). 23 when b) (lt-ltb c.args.room c.args.bytes c.if-room-bytes.true))
 
-pub returns : goal.returns
-returns c =
-    let stopped = sym c.is_accepted.ensures ∙ c.if-is_accepted.false in
-    record { number = sym (ends (code_number c.args.code) (23 when no_room c.args.bytes c.args.room) (omega (arith, eqb-false (code_number c.args.code) 0 stopped))); written = sym (ap (λ (b : Bool). cond b c.args.bytes 0) stopped) }
+pub returns-clause-number : goal.returns-clause-number
+unfolding ◌when◌
+returns-clause-number c =
+    let code = code_number c.args.code in
+    let none = eqb-true code 0 (sym c.if-not-is_accepted.ensures) in
+    sym (goes_on code (23 when no_room c.args.bytes c.args.room) none ∙ ap (λ (b : Bool). 23 when b) (le-ltb c.args.room c.args.bytes (omega (arith, c.if-room-bytes.false))))

@@ -1,4 +1,4 @@
--- `send_detail`: as `send_detail`, with the count of accepted lots and what they gathered.
+-- `send_detail`: as `send_header`, with the documents of a part.
 use mathlib.Core.Path.{◌≡◌, ap, sym, ◌∙◌}
 use mathlib.Core.Bool.{true}
 use mathlib.Core.List.{List}
@@ -22,7 +22,7 @@ use Rattle.presenting.specs.Inner.Begun.{unstopped}
 use Rattle.presenting.proofs.Laws.Send.{Sending, body_in, Beginning, unposted, tail, rest_room, posted_so, kept_said}
 use borrow.Author.Rules.{rules}
 use Rattle.presenting.proofs.sending.send_detail.Goals as goal
-use Rattle.presenting.proofs.sending.send_detail.Goals.{After-is_unstopped, Then-is_unstopped}
+use Rattle.presenting.proofs.sending.send_detail.Goals.{After-is_unstopped, Else-not-is_unstopped}
 
 -- what the line buffer holds once the send has begun
 abbrev first : goal.After-is_unstopped → List ℕ
@@ -48,29 +48,29 @@ known k =
       awaits = λ e. ap Effect.Detail (k.detail_stop-stop.ensures.adds (k.detail_stop-stop.ensures.code ∙ e));
     }
 
-some : (t : goal.Then-is_unstopped) → unstopped t.begin-begun.result.answer ≡ true
-some t = sym t.is_unstopped.ensures ∙ t.if-is_unstopped.true
+some : (t : goal.Else-not-is_unstopped) → unstopped t.begin-begun.result.answer ≡ true
+some t = sym t.is_unstopped.ensures ∙ t.if-not-is_unstopped.false
 
 pub overflow_add-bytes : goal.overflow_add-bytes
 overflow_add-bytes c = let h = c.written_bytes-bytes.ensures.bound in search rules
 
 pub slice_bounds-write_detail-count : goal.slice_bounds-write_detail-count
-slice_bounds-write_detail-count c = tail (sending (goal.at.slice_bounds-write_detail-count c).After-is_unstopped) _ _ (known (goal.at.slice_bounds-write_detail-count c).After-is_unstopped) (some c)
+slice_bounds-write_detail-count c = tail (sending (goal.at.slice_bounds-write_detail-count c).After-is_unstopped) _ _ (known (goal.at.slice_bounds-write_detail-count c).After-is_unstopped) (some (goal.at.slice_bounds-write_detail-count c).Else-not-is_unstopped)
 
 pub slice_bounds-write_detail-start : goal.slice_bounds-write_detail-start
 slice_bounds-write_detail-start c = let h = slice_bounds-write_detail-count c in search rules
 
 pub write_detail-requires : goal.write_detail-requires
 write_detail-requires c =
-    omega (arith, rest_room (sending (goal.at.write_detail-requires c).After-is_unstopped) _ _ (known (goal.at.write_detail-requires c).After-is_unstopped) (some (goal.at.write_detail-requires c).Then-is_unstopped), ap (λ (o : ℕ). length (written_detail o c.args.part.now)) c.packed_byte.ensures)
-
-pub returns-then-is_unstopped : goal.returns-then-is_unstopped
-returns-then-is_unstopped c =
-    let all = let body = c.write_detail.ensures.bytes ∙ ap (λ (o : ℕ). sets (mid_of envelope_bytes (length (first (goal.at.returns-then-is_unstopped c).After-is_unstopped) - envelope_bytes) (first (goal.at.returns-then-is_unstopped c).After-is_unstopped)) 0 (written_detail o c.args.part.now)) c.packed_byte.ensures in
-    kept_said (sending (goal.at.returns-then-is_unstopped c).After-is_unstopped) c.begin-begun.result _ c.requires.sound c.requires.carried (posted_so (sending (goal.at.returns-then-is_unstopped c).After-is_unstopped) _ _ (known (goal.at.returns-then-is_unstopped c).After-is_unstopped) (some (goal.at.returns-then-is_unstopped c).Then-is_unstopped) c.write_detail.new.out body) in
-    record { outcome = all.0; premise = all.1 }
+    omega (arith, rest_room (sending (goal.at.write_detail-requires c).After-is_unstopped) _ _ (known (goal.at.write_detail-requires c).After-is_unstopped) (some (goal.at.write_detail-requires c).Else-not-is_unstopped), ap (λ (o : ℕ). length (written_detail o c.args.part.now)) c.packed_byte.ensures)
 
 pub returns : goal.returns
 returns c =
-    let all = kept_said (sending (goal.at.returns c).After-is_unstopped) c.begin-begun.result _ c.requires.sound c.requires.carried (unposted (sending (goal.at.returns c).After-is_unstopped) _ _ (known (goal.at.returns c).After-is_unstopped) (sym c.is_unstopped.ensures ∙ c.if-is_unstopped.false)) in
+    let all = let body = c.write_detail.ensures.bytes ∙ ap (λ (o : ℕ). sets (mid_of envelope_bytes (length (first (goal.at.returns c).After-is_unstopped) - envelope_bytes) (first (goal.at.returns c).After-is_unstopped)) 0 (written_detail o c.args.part.now)) c.packed_byte.ensures in
+    kept_said (sending (goal.at.returns c).After-is_unstopped) c.begin-begun.result _ c.requires.sound c.requires.carried (posted_so (sending (goal.at.returns c).After-is_unstopped) _ _ (known (goal.at.returns c).After-is_unstopped) (some (goal.at.returns c).Else-not-is_unstopped) c.write_detail.new.out body) in
+    record { outcome = all.0; premise = all.1 }
+
+pub returns-then-not-is_unstopped : goal.returns-then-not-is_unstopped
+returns-then-not-is_unstopped c =
+    let all = kept_said (sending (goal.at.returns-then-not-is_unstopped c).After-is_unstopped) c.begin-begun.result _ c.requires.sound c.requires.carried (unposted (sending (goal.at.returns-then-not-is_unstopped c).After-is_unstopped) _ _ (known (goal.at.returns-then-not-is_unstopped c).After-is_unstopped) (sym c.is_unstopped.ensures ∙ c.if-not-is_unstopped.true)) in
     record { outcome = all.0; premise = all.1 }

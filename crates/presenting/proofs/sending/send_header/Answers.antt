@@ -22,7 +22,7 @@ use Rattle.presenting.specs.Inner.Begun.{unstopped}
 use Rattle.presenting.proofs.Laws.Send.{Sending, Beginning, fixed_size, unposted, tail, rest_room, posted_so, kept_unlent}
 use borrow.Author.Rules.{rules}
 use Rattle.presenting.proofs.sending.send_header.Goals as goal
-use Rattle.presenting.proofs.sending.send_header.Goals.{After-is_unstopped, Then-is_unstopped}
+use Rattle.presenting.proofs.sending.send_header.Goals.{After-is_unstopped, Else-not-is_unstopped}
 
 abbrev content : goal.After-is_unstopped → Body
 content k = header_body k.args.moment k.args.centre k.args.number
@@ -46,29 +46,29 @@ known k u =
       awaits = λ e. refl;
     }
 
-some : (t : goal.Then-is_unstopped) → unstopped t.begin-begun.result.answer ≡ true
-some t = sym t.is_unstopped.ensures ∙ t.if-is_unstopped.true
+some : (t : goal.Else-not-is_unstopped) → unstopped t.begin-begun.result.answer ≡ true
+some t = sym t.is_unstopped.ensures ∙ t.if-not-is_unstopped.false
 
 pub slice_bounds-write_header-count : goal.slice_bounds-write_header-count
-slice_bounds-write_header-count c = tail (sending (goal.at.slice_bounds-write_header-count c).After-is_unstopped empty) _ _ (known (goal.at.slice_bounds-write_header-count c).After-is_unstopped empty) (some c)
+slice_bounds-write_header-count c = tail (sending (goal.at.slice_bounds-write_header-count c).After-is_unstopped empty) _ _ (known (goal.at.slice_bounds-write_header-count c).After-is_unstopped empty) (some (goal.at.slice_bounds-write_header-count c).Else-not-is_unstopped)
 
 pub slice_bounds-write_header-start : goal.slice_bounds-write_header-start
 slice_bounds-write_header-start c = let h = slice_bounds-write_header-count c in search rules
 
 pub write_header-requires : goal.write_header-requires
 write_header-requires c =
-    omega (arith, rest_room (sending (goal.at.write_header-requires c).After-is_unstopped empty) _ _ (known (goal.at.write_header-requires c).After-is_unstopped empty) (some (goal.at.write_header-requires c).Then-is_unstopped), body_length (presenting_route c.args.session.parties) (content (goal.at.write_header-requires c).After-is_unstopped))
-
-pub returns-then-is_unstopped : goal.returns-then-is_unstopped
-unfolding body_bytes
-returns-then-is_unstopped c =
-    let all = let body = c.write_header.ensures ∙ ap (λ (r : Route). sets (mid_of envelope_bytes (length (first (goal.at.returns-then-is_unstopped c).After-is_unstopped) - envelope_bytes) (first (goal.at.returns-then-is_unstopped c).After-is_unstopped)) 0 (body_bytes r (content (goal.at.returns-then-is_unstopped c).After-is_unstopped))) c.presenting_route.ensures in
-    kept_unlent (sending (goal.at.returns-then-is_unstopped c).After-is_unstopped) c.begin-begun.result _ (header_sound c.args.time c.args.moment c.args.centre c.args.number c.args.session.presenting) (λ (c : Running). tt) c.requires
-    (λ (u : Running). posted_so (sending (goal.at.returns-then-is_unstopped c).After-is_unstopped u) _ _ (known (goal.at.returns-then-is_unstopped c).After-is_unstopped u) (some (goal.at.returns-then-is_unstopped c).Then-is_unstopped) c.write_header.new.out body) in
-    record { outcome = all.0; premise = all.1 }
+    omega (arith, rest_room (sending (goal.at.write_header-requires c).After-is_unstopped empty) _ _ (known (goal.at.write_header-requires c).After-is_unstopped empty) (some (goal.at.write_header-requires c).Else-not-is_unstopped), body_length (presenting_route c.args.session.parties) (content (goal.at.write_header-requires c).After-is_unstopped))
 
 pub returns : goal.returns
+unfolding body_bytes
 returns c =
-    let all = kept_unlent (sending (goal.at.returns c).After-is_unstopped) c.begin-begun.result _ (header_sound c.args.time c.args.moment c.args.centre c.args.number c.args.session.presenting) (λ (t : Running). tt) c.requires
-    (λ (u : Running). unposted (sending (goal.at.returns c).After-is_unstopped u) _ _ (known (goal.at.returns c).After-is_unstopped u) (sym c.is_unstopped.ensures ∙ c.if-is_unstopped.false)) in
+    let all = let body = c.write_header.ensures ∙ ap (λ (r : Route). sets (mid_of envelope_bytes (length (first (goal.at.returns c).After-is_unstopped) - envelope_bytes) (first (goal.at.returns c).After-is_unstopped)) 0 (body_bytes r (content (goal.at.returns c).After-is_unstopped))) c.presenting_route-route.ensures in
+    kept_unlent (sending (goal.at.returns c).After-is_unstopped) c.begin-begun.result _ (header_sound c.args.time c.args.moment c.args.centre c.args.number c.args.session.presenting) (λ (c : Running). tt) c.requires
+    (λ (u : Running). posted_so (sending (goal.at.returns c).After-is_unstopped u) _ _ (known (goal.at.returns c).After-is_unstopped u) (some (goal.at.returns c).Else-not-is_unstopped) c.write_header.new.out body) in
+    record { outcome = all.0; premise = all.1 }
+
+pub returns-then-not-is_unstopped : goal.returns-then-not-is_unstopped
+returns-then-not-is_unstopped c =
+    let all = kept_unlent (sending (goal.at.returns-then-not-is_unstopped c).After-is_unstopped) c.begin-begun.result _ (header_sound c.args.time c.args.moment c.args.centre c.args.number c.args.session.presenting) (λ (t : Running). tt) c.requires
+    (λ (u : Running). unposted (sending (goal.at.returns-then-not-is_unstopped c).After-is_unstopped u) _ _ (known (goal.at.returns-then-not-is_unstopped c).After-is_unstopped u) (sym c.is_unstopped.ensures ∙ c.if-not-is_unstopped.true)) in
     record { outcome = all.0; premise = all.1 }

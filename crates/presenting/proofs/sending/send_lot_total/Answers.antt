@@ -1,4 +1,4 @@
--- `send_lot_total`: as `send_lot_total`, with the count of accepted lots and what they gathered.
+-- `send_lot_total`: as `send_header`, with the open lot and what it gathered.
 use mathlib.Core.Path.{◌≡◌, sym, ◌∙◌}
 use mathlib.Core.Bool.{true}
 use mathlib.Core.List.{List}
@@ -18,7 +18,7 @@ use Rattle.presenting.specs.Inner.Begun.{unstopped}
 use Rattle.presenting.proofs.Laws.Send.{Sending, Beginning, fixed_size, unposted, tail, rest_room, posted_so, kept_said}
 use borrow.Author.Rules.{rules}
 use Rattle.presenting.proofs.sending.send_lot_total.Goals as goal
-use Rattle.presenting.proofs.sending.send_lot_total.Goals.{After-is_unstopped, Then-is_unstopped}
+use Rattle.presenting.proofs.sending.send_lot_total.Goals.{After-is_unstopped, Else-not-is_unstopped}
 
 abbrev content : goal.After-is_unstopped → Body
 content k = lot_total_body k.args.session.presenting.counters k.args.running
@@ -43,28 +43,28 @@ known k =
       awaits = λ e. λ i. Effect.LotTotal (record { number = k.open_number-number.ensures i; gathered = k.args.running });
     }
 
-some : (t : goal.Then-is_unstopped) → unstopped t.begin-begun.result.answer ≡ true
-some t = sym t.is_unstopped.ensures ∙ t.if-is_unstopped.true
+some : (t : goal.Else-not-is_unstopped) → unstopped t.begin-begun.result.answer ≡ true
+some t = sym t.is_unstopped.ensures ∙ t.if-not-is_unstopped.false
 
 pub slice_bounds-write_lot_total-count : goal.slice_bounds-write_lot_total-count
-slice_bounds-write_lot_total-count c = tail (sending (goal.at.slice_bounds-write_lot_total-count c).After-is_unstopped) _ _ (known (goal.at.slice_bounds-write_lot_total-count c).After-is_unstopped) (some (goal.at.slice_bounds-write_lot_total-count c).Then-is_unstopped)
+slice_bounds-write_lot_total-count c = tail (sending (goal.at.slice_bounds-write_lot_total-count c).After-is_unstopped) _ _ (known (goal.at.slice_bounds-write_lot_total-count c).After-is_unstopped) (some (goal.at.slice_bounds-write_lot_total-count c).Else-not-is_unstopped)
 
 pub slice_bounds-write_lot_total-start : goal.slice_bounds-write_lot_total-start
 slice_bounds-write_lot_total-start c = let h = slice_bounds-write_lot_total-count c in search rules
 
 pub write_lot_total-requires : goal.write_lot_total-requires
 write_lot_total-requires c =
-    omega (arith, rest_room (sending (goal.at.write_lot_total-requires c).After-is_unstopped) _ _ (known (goal.at.write_lot_total-requires c).After-is_unstopped) (some (goal.at.write_lot_total-requires c).Then-is_unstopped), body_length (presenting_route c.args.session.parties) (content (goal.at.write_lot_total-requires c).After-is_unstopped))
-
-pub returns-then-is_unstopped : goal.returns-then-is_unstopped
-unfolding body_bytes
-returns-then-is_unstopped c =
-    let all = let number = c.open_number-number.ensures in
-    let body = c.write_lot_total.ensures ∙ λ i. sets (mid_of envelope_bytes (length (first (goal.at.returns-then-is_unstopped c).After-is_unstopped) - envelope_bytes) (first (goal.at.returns-then-is_unstopped c).After-is_unstopped)) 0 (body_bytes (presenting_route c.args.session.parties) (Body.lot_ending (record { number = number i; stated = c.stated.ensures i }))) in
-    kept_said (sending (goal.at.returns-then-is_unstopped c).After-is_unstopped) c.begin-begun.result _ c.requires.sound c.requires.carried (posted_so (sending (goal.at.returns-then-is_unstopped c).After-is_unstopped) _ _ (known (goal.at.returns-then-is_unstopped c).After-is_unstopped) (some (goal.at.returns-then-is_unstopped c).Then-is_unstopped) c.write_lot_total.new.out body) in
-    record { outcome = all.0; premise = all.1 }
+    omega (arith, rest_room (sending (goal.at.write_lot_total-requires c).After-is_unstopped) _ _ (known (goal.at.write_lot_total-requires c).After-is_unstopped) (some (goal.at.write_lot_total-requires c).Else-not-is_unstopped), body_length (presenting_route c.args.session.parties) (content (goal.at.write_lot_total-requires c).After-is_unstopped))
 
 pub returns : goal.returns
+unfolding body_bytes
 returns c =
-    let all = kept_said (sending (goal.at.returns c).After-is_unstopped) c.begin-begun.result _ c.requires.sound c.requires.carried (unposted (sending (goal.at.returns c).After-is_unstopped) _ _ (known (goal.at.returns c).After-is_unstopped) (sym c.is_unstopped.ensures ∙ c.if-is_unstopped.false)) in
+    let all = let number = c.open_number-number.ensures in
+    let body = c.write_lot_total.ensures ∙ λ i. sets (mid_of envelope_bytes (length (first (goal.at.returns c).After-is_unstopped) - envelope_bytes) (first (goal.at.returns c).After-is_unstopped)) 0 (body_bytes (presenting_route c.args.session.parties) (Body.lot_ending (record { number = number i; stated = c.stated.ensures i }))) in
+    kept_said (sending (goal.at.returns c).After-is_unstopped) c.begin-begun.result _ c.requires.sound c.requires.carried (posted_so (sending (goal.at.returns c).After-is_unstopped) _ _ (known (goal.at.returns c).After-is_unstopped) (some (goal.at.returns c).Else-not-is_unstopped) c.write_lot_total.new.out body) in
+    record { outcome = all.0; premise = all.1 }
+
+pub returns-then-not-is_unstopped : goal.returns-then-not-is_unstopped
+returns-then-not-is_unstopped c =
+    let all = kept_said (sending (goal.at.returns-then-not-is_unstopped c).After-is_unstopped) c.begin-begun.result _ c.requires.sound c.requires.carried (unposted (sending (goal.at.returns-then-not-is_unstopped c).After-is_unstopped) _ _ (known (goal.at.returns-then-not-is_unstopped c).After-is_unstopped) (sym c.is_unstopped.ensures ∙ c.if-not-is_unstopped.true)) in
     record { outcome = all.0; premise = all.1 }

@@ -1,4 +1,4 @@
--- `send_session_total`: as `send_session_total`, with the count of accepted lots and what they gathered.
+-- `send_session_total`: as `send_header`, with the count of accepted lots and what they gathered.
 use mathlib.Core.Path.{◌≡◌, refl, ap, sym, ◌∙◌}
 use mathlib.Core.Bool.{true}
 use mathlib.Core.List.{List}
@@ -21,7 +21,7 @@ use Rattle.presenting.specs.Inner.Begun.{unstopped}
 use Rattle.presenting.proofs.Laws.Send.{Sending, Beginning, fixed_size, unposted, tail, rest_room, posted_so, kept_unlent}
 use borrow.Author.Rules.{rules}
 use Rattle.presenting.proofs.sending.send_session_total.Goals as goal
-use Rattle.presenting.proofs.sending.send_session_total.Goals.{After-is_unstopped, Then-is_unstopped}
+use Rattle.presenting.proofs.sending.send_session_total.Goals.{After-is_unstopped, Else-not-is_unstopped}
 
 abbrev content : goal.After-is_unstopped → Body
 content k = session_total_body k.args.session.presenting.counters
@@ -46,33 +46,33 @@ known k u =
       awaits = λ e. refl;
     }
 
-some : (t : goal.Then-is_unstopped) → unstopped t.begin-begun.result.answer ≡ true
-some t = sym t.is_unstopped.ensures ∙ t.if-is_unstopped.true
+some : (t : goal.Else-not-is_unstopped) → unstopped t.begin-begun.result.answer ≡ true
+some t = sym t.is_unstopped.ensures ∙ t.if-not-is_unstopped.false
 
 pub overflow_cast-total : goal.overflow_cast-total
 overflow_cast-total c = omega (arith, c.requires.presenting.lots)
 
 pub slice_bounds-write_session_total-count : goal.slice_bounds-write_session_total-count
-slice_bounds-write_session_total-count c = tail (sending (goal.at.slice_bounds-write_session_total-count c).After-is_unstopped empty) _ _ (known (goal.at.slice_bounds-write_session_total-count c).After-is_unstopped empty) (some (goal.at.slice_bounds-write_session_total-count c).Then-is_unstopped)
+slice_bounds-write_session_total-count c = tail (sending (goal.at.slice_bounds-write_session_total-count c).After-is_unstopped empty) _ _ (known (goal.at.slice_bounds-write_session_total-count c).After-is_unstopped empty) (some (goal.at.slice_bounds-write_session_total-count c).Else-not-is_unstopped)
 
 pub slice_bounds-write_session_total-start : goal.slice_bounds-write_session_total-start
 slice_bounds-write_session_total-start c = let h = slice_bounds-write_session_total-count c in search rules
 
 pub write_session_total-requires : goal.write_session_total-requires
 write_session_total-requires c =
-    omega (arith, rest_room (sending (goal.at.write_session_total-requires c).After-is_unstopped empty) _ _ (known (goal.at.write_session_total-requires c).After-is_unstopped empty) (some (goal.at.write_session_total-requires c).Then-is_unstopped), body_length (presenting_route c.args.session.parties) (content (goal.at.write_session_total-requires c).After-is_unstopped))
-
-pub returns-then-is_unstopped : goal.returns-then-is_unstopped
-unfolding body_bytes
-returns-then-is_unstopped c =
-    let all = let counters = c.args.session.presenting.counters in
-    let body = c.write_session_total.ensures ∙ ap (λ (x : Totals). sets (mid_of envelope_bytes (length (first (goal.at.returns-then-is_unstopped c).After-is_unstopped) - envelope_bytes) (first (goal.at.returns-then-is_unstopped c).After-is_unstopped)) 0 (body_bytes (presenting_route c.args.session.parties) (Body.session_ending (record { number = counters.lots; stated = x })))) c.stated.ensures in
-    kept_unlent (sending (goal.at.returns-then-is_unstopped c).After-is_unstopped) c.begin-begun.result _ (λ e. tt) (λ (c : Running). tt) c.requires
-    (λ (u : Running). posted_so (sending (goal.at.returns-then-is_unstopped c).After-is_unstopped u) _ _ (known (goal.at.returns-then-is_unstopped c).After-is_unstopped u) (some (goal.at.returns-then-is_unstopped c).Then-is_unstopped) c.write_session_total.new.out body) in
-    record { outcome = all.0; premise = all.1 }
+    omega (arith, rest_room (sending (goal.at.write_session_total-requires c).After-is_unstopped empty) _ _ (known (goal.at.write_session_total-requires c).After-is_unstopped empty) (some (goal.at.write_session_total-requires c).Else-not-is_unstopped), body_length (presenting_route c.args.session.parties) (content (goal.at.write_session_total-requires c).After-is_unstopped))
 
 pub returns : goal.returns
+unfolding body_bytes
 returns c =
-    let all = kept_unlent (sending (goal.at.returns c).After-is_unstopped) c.begin-begun.result _ (λ e. tt) (λ (t : Running). tt) c.requires
-    (λ (u : Running). unposted (sending (goal.at.returns c).After-is_unstopped u) _ _ (known (goal.at.returns c).After-is_unstopped u) (sym c.is_unstopped.ensures ∙ c.if-is_unstopped.false)) in
+    let all = let counters = c.args.session.presenting.counters in
+    let body = c.write_session_total.ensures ∙ ap (λ (x : Totals). sets (mid_of envelope_bytes (length (first (goal.at.returns c).After-is_unstopped) - envelope_bytes) (first (goal.at.returns c).After-is_unstopped)) 0 (body_bytes (presenting_route c.args.session.parties) (Body.session_ending (record { number = counters.lots; stated = x })))) c.stated.ensures in
+    kept_unlent (sending (goal.at.returns c).After-is_unstopped) c.begin-begun.result _ (λ e. tt) (λ (c : Running). tt) c.requires
+    (λ (u : Running). posted_so (sending (goal.at.returns c).After-is_unstopped u) _ _ (known (goal.at.returns c).After-is_unstopped u) (some (goal.at.returns c).Else-not-is_unstopped) c.write_session_total.new.out body) in
+    record { outcome = all.0; premise = all.1 }
+
+pub returns-then-not-is_unstopped : goal.returns-then-not-is_unstopped
+returns-then-not-is_unstopped c =
+    let all = kept_unlent (sending (goal.at.returns-then-not-is_unstopped c).After-is_unstopped) c.begin-begun.result _ (λ e. tt) (λ (t : Running). tt) c.requires
+    (λ (u : Running). unposted (sending (goal.at.returns-then-not-is_unstopped c).After-is_unstopped u) _ _ (known (goal.at.returns-then-not-is_unstopped c).After-is_unstopped u) (sym c.is_unstopped.ensures ∙ c.if-not-is_unstopped.true)) in
     record { outcome = all.0; premise = all.1 }

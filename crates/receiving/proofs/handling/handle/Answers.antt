@@ -19,33 +19,33 @@ use Rattle.receiving.proofs.handling.handle.Goals as goal
 use Rattle.receiving.proofs.handling.handle.Goals.{After-is_accepted-accepted}
 
 -- what was found is what the body earns
-found_so : (k : goal.After-is_accepted-accepted) → Earns (content_of k.args.body.now) k.args.time k.args.body.now k.args.p k.args.running k.args.r k.earned-found.result
-found_so k = subst (λ (x : Content). Earns x k.args.time k.args.body.now k.args.p k.args.running k.args.r k.earned-found.result) k.content_of-content.ensures k.earned-found.ensures
+found_so : (k : goal.After-is_accepted-accepted) → Earns (content_of k.args.body.now) k.args.time k.args.body.now k.args.hearer.parties k.args.hearer.running k.args.hearer.receiving k.earned-found.result
+found_so k = subst (λ (x : Content). Earns x k.args.time k.args.body.now k.args.hearer.parties k.args.hearer.running k.args.hearer.receiving k.earned-found.result) k.content_of-content.ensures k.earned-found.ensures
 
 -- and may be counted
-may : (k : goal.After-is_accepted-accepted) → Countable k.earned-found.result.effect k.is_accepted-accepted.result k.args.r.counters k.args.running
+may : (k : goal.After-is_accepted-accepted) → Countable k.earned-found.result.effect k.is_accepted-accepted.result (course k.args.hearer.receiving.counters k.args.hearer.running)
 may k =
     let found = k.earned-found.result in
     let e = found_so k in
-    subst (λ (x : Bool). Countable found.effect x k.args.r.counters k.args.running) (sym k.is_accepted-accepted.ensures) (countable k.args.time k.args.body.now k.args.p k.args.running k.args.r (code_number found.code) found.effect k.requires e.code e.effect)
+    subst (λ (x : Bool). Countable found.effect x (course k.args.hearer.receiving.counters k.args.hearer.running)) (sym k.is_accepted-accepted.ensures) (countable k.args.time k.args.body.now k.args.hearer.parties k.args.hearer.running k.args.hearer.receiving (code_number found.code) found.effect k.args.hearer.lent e.code e.effect)
 
 pub advance-after-requires : goal.advance-after-requires
 advance-after-requires c = may (goal.at.advance-after-requires c).After-is_accepted-accepted
 
 pub kept-requires : goal.kept-requires
 kept-requires c =
-    free_place c.earned-found.result.effect c.is_accepted-accepted.result c.args.r.counters c.args.running (may (goal.at.kept-requires c).After-is_accepted-accepted)
+    free_place c.earned-found.result.effect c.is_accepted-accepted.result (course c.args.hearer.receiving.counters c.args.hearer.running) (may (goal.at.kept-requires c).After-is_accepted-accepted)
 
 pub returns : goal.returns
 unfolding receiving_after
 returns c =
     let body = c.args.body.now in
-    let r = c.args.r in
+    let r = c.args.hearer.receiving in
     let found = c.earned-found.result in
     let e = found_so (goal.at.returns c).After-is_accepted-accepted in
-    let code = received_code (content_of body) c.args.time body c.args.p c.args.running r in
-    let meant = received_effect (content_of body) body c.args.running in
-    let here = course r.counters c.args.running in
+    let code = received_code (content_of body) c.args.time body c.args.hearer.parties c.args.hearer.running r in
+    let meant = received_effect (content_of body) body c.args.hearer.running in
+    let here = course r.counters c.args.hearer.running in
     let accepted = c.is_accepted-accepted.ensures in
     let same = alike (eqb (code_number found.code) 0) found.effect meant e.effect in
     let told = ap (λ (n : ℕ). eqb n 0) e.code in

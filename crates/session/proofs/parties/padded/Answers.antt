@@ -1,23 +1,16 @@
-use mathlib.Core.Path.{refl, ap, sym, ◌∙◌}
-use native.Mathlib.Numerals.{add-one}
-use native.Mathlib.Omega.{arith}
-use lib.ListN.{length-set, drop_of_length-le}
-use lib.Seq.{sets, drop-cons}
+-- `padded`: the entities stand at the front, and the places behind them keep their 0.
+use Rattle.std.proofs.Common.{◌≡◌, ℕ, ◌+◌, ◌≤◌, List, ◌++◌, replicate, length, drop, ap, sym, ◌∙◌, arith, zero-add}
+use Rattle.std.proofs.lemmas.List.{length-replicate}
+use Rattle.std.proofs.lemmas.List.Edits.{sets-eq}
+use Rattle.document.specs.Limits.{most_represented}
 use Rattle.session.specs.Parties.{padded}
 use Rattle.session.proofs.parties.padded.Goals as goal
 
-pub loop-i-init : goal.loop-i-init
+in_front : (r : List ℕ) → length r ≤ most_represented → r ++ drop (length r) (replicate most_represented 0) ≡ padded r
 unfolding padded
-loop-i-init c = (omega arith, refl, refl)
-
-pub loop-i-preserved : goal.loop-i-preserved
-loop-i-preserved c =
-    let i = c.loop-i.i in (
-      omega arith,
-      simp length-set c.loop-i.invariant.1,
-      rw add-one (ap (sets c.loop-i.places i) (sym (drop-cons c.args.represented.now i 0 (omega arith))) ∙ c.loop-i.invariant.2),
-    )
+in_front r h =
+    let places : List ℕ = replicate most_represented 0 in
+    sym (sets-eq r places 0 (omega (arith, length-replicate {A = ℕ} most_represented 0)) ∙ ap (λ (n : ℕ). r ++ drop n places) (zero-add (length r)))
 
 pub returns : goal.returns
-returns c =
-    ap (sets c.loop-i.places c.loop-i.i) (sym (drop_of_length-le c.args.represented.now {i = c.loop-i.i} (omega arith))) ∙ c.loop-i.invariant.2
+returns c = rw c.copy_from_slice.ensures.after (in_front c.args.represented.now c.requires)

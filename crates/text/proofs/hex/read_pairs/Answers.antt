@@ -1,54 +1,46 @@
-use mathlib.Core.Path.{ap, sym, refl, ◌∙◌}
-use Prim.Native.Nat.{◌+◌, ◌*◌, ◌≤◌, ◌<◌, ℕ}
-use lib.ListN.{length, length-set, drop_of_length-le}
-use lib.Seq.{sets}
-use native.Mathlib.Omega.{arith}
+-- `read_pairs`: the bytes do not fit, a byte is no digit, or all are read.
+use Rattle.std.proofs.Common.{ℕ, ◌+◌, ◌*◌, ◌<◌, ◌≤◌, Option, List, length, ap, sym, refl, ◌∙◌, arith}
+use lib.ListN.{length-set, drop_of_length-le}
+use Rattle.std.proofs.lemmas.List.Edits.{sets}
 use Rattle.text.specs.Digit.{is_hexadecimal}
 use Rattle.text.specs.Hex.{hex_bytes}
-use mathlib.Core.List.{List}
-use Rattle.text.specs.declared.hex.Bytes.{Bytes}
 use Rattle.text.specs.Got.{got_of}
 use Rattle.text.proofs.Laws.Run.{every_end}
-use Rattle.text.proofs.Laws.Hex.{pair_not, pair_is, digits_on, bytes_on, pairs_over, pairs_not, pairs_all}
-use borrow.Author.Rules.{rules}
+use Rattle.text.proofs.Laws.Hex.{high_not, low_not, digits_on, bytes_on, pairs_over, pairs_not, pairs_all}
 use Rattle.text.proofs.hex.read_pairs.Goals as goal
 
-pub returns-then-bytes-count : goal.returns-then-bytes-count
-returns-then-bytes-count c =
-    record { read = ap (λ (r : Bytes). got_of r c.args.bytes.now) c.no_bytes.ensures.value ∙ pairs_over _ c.args.word.now c.if-bytes-count.true; bound = search rules }
+pub returns-then-bytes-count-clause-read : goal.returns-then-bytes-count-clause-read
+returns-then-bytes-count-clause-read c = pairs_over _ c.args.word.now c.if-bytes-count.true
 
-pub returns-then-high-low : goal.returns-then-high-low
-returns-then-high-low c =
-    let h : c.loop-i.i * 2 + 1 < length c.args.word.now = omega arith in
-    let none = pair_not c.args.word.now c.loop-i.i _ _ h c.digit-high.ensures.value c.digit-low.ensures.value c.if-high-low.true in
-    record { read = ap (λ (r : Bytes). got_of r c.loop-i.bytes) c.no_bytes-then-high-low.ensures.value ∙ pairs_not _ c.args.word.now (sym c.loop-i.invariant.2 ∙ none); bound = search rules }
+pub returns-in_err-high-clause-read : goal.returns-in_err-high-clause-read
+returns-in_err-high-clause-read c =
+    let w = c.args.word.now in
+    let no = high_not w c.loop-i.i 16 _ (omega arith) c.in_err-high.ensures.value refl (omega arith) in
+    ap (λ (r : Option ℕ). got_of r c.loop-i.bytes) c.from_residual.ensures ∙ pairs_not _ w (sym c.loop-i.invariant.1 ∙ no)
 
-pub overflow_mul-bytes : goal.overflow_mul-bytes
-overflow_mul-bytes c =
-    let h : c.loop-i.i * 2 + 1 < length c.args.word.now = omega arith in
-    omega (arith, pair_is c.args.word.now c.loop-i.i _ _ h c.digit-high.ensures.value c.digit-low.ensures.value c.if-high-low.false)
-
-pub overflow_add-bytes : goal.overflow_add-bytes
-overflow_add-bytes c =
-    let h : c.loop-i.i * 2 + 1 < length c.args.word.now = omega arith in
-    omega (arith, pair_is c.args.word.now c.loop-i.i _ _ h c.digit-high.ensures.value c.digit-low.ensures.value c.if-high-low.false)
+pub returns-in_err-low-clause-read : goal.returns-in_err-low-clause-read
+returns-in_err-low-clause-read c =
+    let w = c.args.word.now in
+    let no = low_not w c.loop-i.i _ 16 (omega arith) c.in_ok-high.ensures.value c.in_err-low.ensures.value (omega arith) in
+    ap (λ (r : Option ℕ). got_of r c.loop-i.bytes) c.from_residual-in_err-low.ensures ∙ pairs_not _ w (sym c.loop-i.invariant.1 ∙ no)
 
 pub loop-i-preserved : goal.loop-i-preserved
 loop-i-preserved c =
-    let h : c.loop-i.i * 2 + 1 < length c.args.word.now = omega arith in
-    let high = c.digit-high.ensures.value in
-    let low = c.digit-low.ensures.value in (
-      omega arith,
-      simp length-set c.loop-i.invariant.1,
-      digits_on c.args.word.now c.loop-i.i _ _ h high low c.if-high-low.false ∙ c.loop-i.invariant.2,
-      bytes_on c.loop-i.bytes c.args.word.now c.loop-i.i _ h (λ k. high k * 16 + low k) ∙ c.loop-i.invariant.3,
+    let w = c.args.word.now in
+    let i = c.loop-i.i in
+    let h : i * 2 + 1 < length w = omega arith in
+    let high = c.in_ok-high.ensures in
+    let low = c.in_ok-low.ensures in (
+      simp length-set c.loop-i.invariant.0,
+      digits_on w i _ _ h high.value low.value high.bound low.bound ∙ c.loop-i.invariant.1,
+      bytes_on c.loop-i.bytes w i _ h (λ t. high.value t * 16 + low.value t) ∙ c.loop-i.invariant.2,
     )
 
-pub returns : goal.returns
+pub returns-clause-read : goal.returns-clause-read
 unfolding hex_bytes
-returns c =
+returns-clause-read c =
     let w = c.args.word.now in
     let over : length w ≤ c.loop-i.i * 2 = omega arith in
-    let digits = sym c.loop-i.invariant.2 ∙ every_end is_hexadecimal w (c.loop-i.i * 2) over in
-    let bytes = ap (λ (l : List ℕ). sets c.loop-i.bytes c.loop-i.i (hex_bytes l)) (sym (drop_of_length-le w {i = c.loop-i.i * 2} over)) ∙ c.loop-i.invariant.3 in
-    record { read = pairs_all _ w c.args.bytes.now c.loop-i.bytes refl (omega arith) digits bytes; bound = search rules }
+    let digits = sym c.loop-i.invariant.1 ∙ every_end is_hexadecimal w (c.loop-i.i * 2) over in
+    let bytes = ap (λ (l : List ℕ). sets c.loop-i.bytes c.loop-i.i (hex_bytes l)) (sym (drop_of_length-le w {i = c.loop-i.i * 2} over)) ∙ c.loop-i.invariant.2 in
+    pairs_all _ w c.args.bytes.now c.loop-i.bytes refl (omega arith) digits bytes

@@ -1,62 +1,63 @@
--- `read_bytes`: by where the bytes stand.
-use mathlib.Core.Path.{ap, sym, ◌∙◌}
-use mathlib.Core.List.{List, []}
-use Prim.Native.Nat.{ℕ}
-use lib.ListN.{length, drop}
-use native.Mathlib.Omega.{arith}
-use Rattle.text.specs.declared.hex.Bytes.{Bytes}
+-- `read_bytes`: none, where the kind has none; else by the next word.
+use Rattle.std.proofs.Common.{[], Option, Some, length, take, drop, subst, ap, sym, ◌∙◌, arith}
 use Rattle.text.specs.declared.kind.Source.{Source}
-use Rattle.text.specs.Word.{words}
-use Rattle.text.specs.Got.{Got, got_of, fitting}
-use Rattle.text.specs.Hex.{hex_word}
+use Rattle.text.specs.declared.line.Data.{Data}
+use Rattle.text.specs.Got.{fitting}
 use Rattle.text.specs.Memory.{recalled}
-use Rattle.text.specs.Line.{hex_or_written, bytes_from, words_of}
+use Rattle.text.specs.Word.{words}
+use Rattle.text.specs.Line.{bytes_from, words_of}
+use Rattle.text.specs.Inner.Line.{DataRead}
 use Rattle.text.proofs.Laws.Got.{fitting_fits}
-use Rattle.text.proofs.Laws.Line.{first_word, words_behind, no_hex, no_word}
+use Rattle.text.proofs.Laws.Line.{no_bytes, hex_in, written_in, words_behind}
+use Rattle.text.proofs.line.read_bytes.Goals.{in-Hex+in_ok-count-in-Hex, in-HexOrWritten+in_ok-count-in-HexOrWritten}
 use Rattle.text.proofs.line.read_bytes.Goals as goal
 
-pub returns-in-None : goal.returns-in-None
+pub returns-in_default : goal.returns-in_default
 unfolding bytes_from
-returns-in-None c =
-    let most = length c.args.bytes.now in
-    let ws = words (drop c.args.at c.args.line.now) in
-    let known = sym c.in-None.is in
-    record {
-      got = ap (λ (r : Bytes). got_of r c.args.bytes.now) c.no_bytes.ensures.value ∙ sym (fitting_fits most [] (omega arith)) ∙ ap (λ (from : Source). fitting most (bytes_from (recalled c.args.memory c.args.wire.now) from ws)) known;
-      rest = λ e. ap (λ (from : Source). drop (words_of from) ws) known;
-      bytes = omega (arith, c.no_bytes.ensures.none);
-      at = c.requires;
-    }
-
-pub returns-in-Hex : goal.returns-in-Hex
-unfolding bytes_from
-returns-in-Hex c =
-    let most = length c.args.bytes.now in
-    let ws = words (drop c.args.at c.args.line.now) in
-    let next = c.next_word-word in
-    let said = c.read_hex.ensures in
-    let known = sym c.in-Hex.is in
-    let got = said.read ∙ ap (λ (w : List ℕ). fitting most (hex_word w)) (first_word c.args.at c.args.line.now next.result next.ensures) in
-    record {
-      got = got ∙ ap (λ (from : Source). fitting most (bytes_from (recalled c.args.memory c.args.wire.now) from ws)) known;
-      rest = λ e. words_behind c.args.at c.args.line.now next.result next.ensures (λ (w : List ℕ). (fitting most (hex_word w)).good) (no_hex most) (sym (ap (λ (g : Got). g.good) got) ∙ e) ∙ ap (λ (from : Source). drop (words_of from) ws) known;
-      bytes = said.bound;
-      at = next.ensures.end;
-    }
-
-pub returns-in-HexOrWritten : goal.returns-in-HexOrWritten
-unfolding bytes_from
-returns-in-HexOrWritten c =
+returns-in_default c =
     let most = length c.args.bytes.now in
     let held = recalled c.args.memory c.args.wire.now in
-    let ws = words (drop c.args.at c.args.line.now) in
-    let next = c.next_word-word in
-    let said = c.read_word.ensures in
-    let known = sym c.in-HexOrWritten.is in
-    let got = said.read ∙ ap (λ (w : List ℕ). fitting most (hex_or_written held w)) (first_word c.args.at c.args.line.now next.result next.ensures) in
-    record {
-      got = got ∙ ap (λ (from : Source). fitting most (bytes_from held from ws)) known;
-      rest = λ e. words_behind c.args.at c.args.line.now next.result next.ensures (λ (w : List ℕ). (fitting most (hex_or_written held w)).good) (no_word held most) (sym (ap (λ (g : Got). g.good) got) ∙ e) ∙ ap (λ (from : Source). drop (words_of from) ws) known;
-      bytes = said.bound;
-      at = next.ensures.end;
+    let ws = words c.args.line.now in record {
+      got = ap (λ (s : Option Source). fitting most (bytes_from held s ws)) c.in_default.is ∙ fitting_fits most [] (omega arith);
+      rest = sym (ap (λ (s : Option Source). drop (words_of s) ws) c.in_default.is);
+      bytes = omega arith;
     }
+
+pub returns-in_err-word : goal.returns-in_err-word
+unfolding fitting
+returns-in_err-word c =
+    let most = length c.args.bytes.now in
+    let held = recalled c.args.memory c.args.wire.now in
+    let none = (λ t. fitting most (bytes_from held (c.in-Some.is t) (c.in_err-word.ensures t))) ∙ ap (fitting most) (no_bytes held c.in-Some.source) in
+    subst (λ (r : Option Data). DataRead held most c.args.source (words c.args.line.now) c.args.bytes.now r) (sym c.from_residual.ensures) none
+
+pub returns-in_err-count-in-Hex : goal.returns-in_err-count-in-Hex
+returns-in_err-count-in-Hex c =
+    let most = length c.args.bytes.now in
+    let held = recalled c.args.memory c.args.wire.now in
+    let bytes = hex_in held (words c.args.line.now) _ _ c.args.source c.in_ok-word.ensures (c.in-Some.is ∙ ap (λ (s : Source). Some s) c.in-Hex.is) in
+    subst (λ (r : Option Data). DataRead held most c.args.source (words c.args.line.now) c.read_hex.new.bytes r) (sym c.from_residual-in_err-count-in-Hex.ensures) (ap (fitting most) bytes ∙ sym c.in_err-count-in-Hex.ensures.read)
+
+pub returns-in_err-count-in-HexOrWritten : goal.returns-in_err-count-in-HexOrWritten
+returns-in_err-count-in-HexOrWritten c =
+    let most = length c.args.bytes.now in
+    let held = recalled c.args.memory c.args.wire.now in
+    let bytes = written_in held (words c.args.line.now) _ _ c.args.source c.in_ok-word.ensures (c.in-Some.is ∙ ap (λ (s : Source). Some s) c.in-HexOrWritten.is) in
+    subst (λ (r : Option Data). DataRead held most c.args.source (words c.args.line.now) c.read_word.new.bytes r) (sym c.from_residual-in_err-count-in-HexOrWritten.ensures) (ap (fitting most) bytes ∙ sym c.in_err-count-in-HexOrWritten.ensures.read)
+
+pub returns : goal.returns
+returns c =
+    let most = length c.args.bytes.now in
+    let held = recalled c.args.memory c.args.wire.now in
+    let ws = words c.args.line.now in
+    let rest = words_behind held ws _ _ c.args.source c.in_ok-word.ensures c.in-Some.source c.in-Some.is in
+    elim c.match-source-2.branch [
+      | in-Hex+in_ok-count-in-Hex w ↦
+          let said = w.in_ok-count-in-Hex.ensures in
+          let bytes = hex_in held ws _ _ c.args.source c.in_ok-word.ensures (c.in-Some.is ∙ ap (λ (s : Source). Some s) w.in-Hex.is) in
+          record { got = ap (fitting most) bytes ∙ sym said.read ∙ sym (λ t. Some (take (w.count-is t) (w.bytes-is t))); rest = rest; bytes = omega (arith, said.bound, w.count-is) }
+      | in-HexOrWritten+in_ok-count-in-HexOrWritten w ↦
+          let said = w.in_ok-count-in-HexOrWritten.ensures in
+          let bytes = written_in held ws _ _ c.args.source c.in_ok-word.ensures (c.in-Some.is ∙ ap (λ (s : Source). Some s) w.in-HexOrWritten.is) in
+          record { got = ap (fitting most) bytes ∙ sym said.read ∙ sym (λ t. Some (take (w.count-is t) (w.bytes-is t))); rest = rest; bytes = omega (arith, said.bound, w.count-is) }
+    ]

@@ -1,29 +1,43 @@
 -- `read_call`: a call is what its end and its parts say, where they are whole.
-use mathlib.Core.Path.{ap, ◌∙◌}
-use mathlib.Core.Bool.{◌&&◌}
-use lib.Dec.{leb}
-use native.Mathlib.Omega.{arith}
-use lib.ListN.{length}
-use borrow.Author.Tests.{leb-true}
-use Rattle.packed.proofs.Laws.Told.{both}
+use Rattle.std.proofs.Common.{Option, length, subst, ap, sym, arith}
 use Rattle.text.specs.declared.kind.Shape.{Shape}
+use Rattle.text.specs.declared.line.Line.{Line}
 use Rattle.text.specs.Memory.{recalled}
-use Rattle.text.proofs.Laws.Line.{call_good, call_bad}
+use Rattle.text.specs.Word.{words}
+use Rattle.text.specs.Inner.Line.{CallRead}
+use Rattle.text.proofs.Laws.Line.{no_end, no_parts, no_room, call_said}
 use Rattle.text.proofs.line.read_call.Goals as goal
 
-pub returns-then-end-parts : goal.returns-then-end-parts
-returns-then-end-parts c =
-    let end = c.read_end-end in
-    let parts = c.read_parts-parts in
-    let said = parts.ensures in record {
-      said =
-          call_good (recalled c.args.memory c.args.wire.now) (length c.args.bytes.now) c.args.kind c.shape_of-shape.result c.args.line.now _ _ end.result parts.result _ c.shape_of-shape.ensures.shape end.ensures said c.room_in-room.ensures c.if-end-parts.true;
-      bounds =
-          record { size = said.size; asked = omega (arith, said.asked, ap (λ (s : Shape). s.asked) c.shape_of-shape.ensures.shape); count = said.count; bytes = said.bytes; room = leb-true _ 10412 (both (end.result.good && parts.result.good) (leb c.room_in-room.result 10412) c.if-end-parts.true).1 };
-    }
+pub returns-in_err-near : goal.returns-in_err-near
+returns-in_err-near c =
+    let held = recalled c.args.memory c.args.wire.now in
+    let most = length c.args.bytes.now in
+    let ws = words c.args.line.now in
+    subst (λ (r : Option Line). CallRead held most c.args.kind ws c.args.bytes.now r) (sym c.from_residual.ensures) (no_end held most c.args.kind ws c.in_err-near.ensures)
+
+pub returns-in_err-parts : goal.returns-in_err-parts
+returns-in_err-parts c =
+    let held = recalled c.args.memory c.args.wire.now in
+    let most = length c.args.bytes.now in
+    let s = c.shape_of-shape.result in
+    let ws = words c.args.line.now in
+    subst (λ (r : Option Line). CallRead held most c.args.kind ws c.read_parts.new.bytes r) (sym c.from_residual-in_err-parts.ensures) (no_parts held most c.args.kind ws s c.shape_of-shape.ensures.shape c.in_ok-near.field-0 c.in_ok-near.ensures c.in_err-parts.ensures)
+
+pub returns-then-room : goal.returns-then-room
+returns-then-room c =
+    let held = recalled c.args.memory c.args.wire.now in
+    let most = length c.args.bytes.now in
+    let s = c.shape_of-shape.result in
+    let ws = words c.args.line.now in
+    no_room held most c.args.kind ws s c.shape_of-shape.ensures.shape c.in_ok-near.field-0 c.in_ok-near.ensures _ c.in_ok-parts.parts c.in_ok-parts.ensures _ c.room_in-room.ensures c.if-room.true
 
 pub returns : goal.returns
 returns c =
-    let end = c.read_end-end in
-    let parts = c.read_parts-parts in
-    record { said = c.no_call.ensures.said _ ∙ call_bad (recalled c.args.memory c.args.wire.now) (length c.args.bytes.now) c.args.kind c.shape_of-shape.result c.args.line.now _ _ end.result parts.result _ c.shape_of-shape.ensures.shape end.ensures parts.ensures c.room_in-room.ensures c.if-end-parts.false; bounds = c.no_call.ensures.bounds _ }
+    let held = recalled c.args.memory c.args.wire.now in
+    let most = length c.args.bytes.now in
+    let s = c.shape_of-shape.result in
+    let ws = words c.args.line.now in
+    let parts = c.in_ok-parts.ensures in record {
+      said = call_said held most c.args.kind ws s c.shape_of-shape.ensures.shape c.in_ok-near.field-0 c.in_ok-near.ensures _ c.in_ok-parts.parts parts _ c.room_in-room.ensures c.if-room.false;
+      bounds = record { size = parts.size; asked = omega (arith, parts.asked, ap (λ (x : Shape). x.asked) c.shape_of-shape.ensures.shape); count = parts.count; bytes = parts.bytes; room = c.if-room.false };
+    }

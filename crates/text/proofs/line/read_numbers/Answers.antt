@@ -1,66 +1,47 @@
-use mathlib.Core.Path.{refl, sym, ◌∙◌}
-use mathlib.Core.Bool.{false≢true}
-use Prim.Native.Nat.{◌-◌}
-use lib.ListN.{drop, length-set}
-use native.Mathlib.Omega.{arith}
-use borrow.Author.Tests.{not-true, not-false}
-use Rattle.packed.specs.Part.{part}
+-- `read_numbers`: no word is left, a word is no number, or all that are asked for are read.
+use Rattle.std.proofs.Common.{◌-◌, Option, refl, sym, subst, arith}
+use lib.ListN.{length-set}
+use Rattle.text.specs.declared.line.Numbers.{Numbers}
 use Rattle.text.specs.Word.{words}
 use Rattle.text.specs.Number.{is_number, decimal}
-use Rattle.text.proofs.Laws.Number.{told_good, told_value}
-use Rattle.text.proofs.Laws.Line.{words_on, words_none, rest_start, rest_not, rest_on, over_good, over_count, over_rest, over_stored, left_none, asked_none}
+use Rattle.text.specs.Inner.Line.{NumbersRead}
+use Rattle.text.proofs.Laws.Number.{told_none, told_some}
+use Rattle.text.proofs.Laws.Line.{rest_start, rest_not, rest_on, over_good, over_count, over_rest, over_stored, left_none, asked_none}
 use Rattle.text.proofs.line.read_numbers.Goals as goal
 
-pub loop-i-init : goal.loop-i-init
-loop-i-init c = (c.requires.at_in_bounds, omega arith, refl, rest_start _ _ _ _)
+pub loop-count-init : goal.loop-count-init
+loop-count-init c = (refl, rest_start _ _ _ _)
 
-pub returns-then-from-to : goal.returns-then-from-to
-returns-then-from-to c =
-    let next = c.next_word-word in
-    let none = left_none (c.args.most - c.loop-i.i) _ (words_none c.loop-i.place c.args.line.now next.result next.ensures c.if-from-to.true) in
+pub returns-in_default : goal.returns-in_default
+returns-in_default c =
+    let none = left_none (c.args.most - c.loop-count.count) _ c.in_default.ensures in
     record {
-      good = over_good _ _ _ _ _ _ _ c.loop-i.invariant.3 none.0 none.1;
-      count = λ e. over_count _ _ _ _ _ _ _ c.loop-i.invariant.3 none.0 none.1;
-      rest = λ e. over_rest _ _ _ _ _ _ _ c.loop-i.invariant.3 none.0 none.1;
-      numbers = λ e. over_stored _ _ _ _ _ _ _ c.loop-i.invariant.3 none.0 none.1;
-      size = c.loop-i.invariant.2;
-      within = c.loop-i.invariant.1;
-      at = c.loop-i.invariant.0;
+      good = sym (over_good _ _ _ _ _ _ _ c.loop-count.invariant.1 none.0 none.1);
+      count = over_count _ _ _ _ _ _ _ c.loop-count.invariant.1 none.0 none.1;
+      rest = over_rest _ _ _ _ _ _ _ c.loop-count.invariant.1 none.0 none.1;
+      numbers = over_stored _ _ _ _ _ _ _ c.loop-count.invariant.1 none.0 none.1;
+      size = c.loop-count.invariant.0;
     }
 
-pub returns-then-not-read : goal.returns-then-not-read
-returns-then-not-read c =
-    let next = c.next_word-word in
-    let on = words_on c.loop-i.place c.args.line.now next.result next.ensures c.if-from-to.false in
-    let w = part next.result.from (next.result.to - next.result.from) c.args.line.now in
-    let bad = sym (told_good (is_number w) (decimal w) _ c.read_number-read.ensures) ∙ not-true _ c.if-not-read.true in
-    record {
-      good = rest_not _ _ _ _ _ _ _ c.loop-i.invariant.3 _ _ on (omega arith) bad;
-      count = λ e. absurd (false≢true e);
-      rest = λ e. absurd (false≢true e);
-      numbers = λ e. absurd (false≢true e);
-      size = c.loop-i.invariant.2;
-      within = c.loop-i.invariant.1;
-      at = c.loop-i.invariant.0;
-    }
+pub returns-in_err-numbers : goal.returns-in_err-numbers
+returns-in_err-numbers c =
+    let w = c.in-Some.next.word.now in
+    let no = told_none (is_number w) (decimal w) c.in_err-numbers.ensures in
+    subst (λ (r : Option Numbers). NumbersRead (words c.args.line.now) c.args.most c.args.first c.args.numbers.now c.loop-count.numbers r) (sym c.from_residual.ensures) (sym (rest_not _ _ _ _ _ _ _ c.loop-count.invariant.1 _ _ c.in-Some.ensures (omega arith) no))
 
-pub loop-i-preserved : goal.loop-i-preserved
-loop-i-preserved c =
-    let next = c.next_word-word in
-    let on = words_on c.loop-i.place c.args.line.now next.result next.ensures c.if-from-to.false in
-    let w = part next.result.from (next.result.to - next.result.from) c.args.line.now in
-    let good = sym (told_good (is_number w) (decimal w) _ c.read_number-read.ensures) ∙ not-false _ c.if-not-read.false in
-    (next.ensures.end, omega arith, simp length-set c.loop-i.invariant.2, rest_on _ _ _ _ _ _ _ c.loop-i.invariant.3 _ _ on (omega arith) _ good (told_value (is_number w) (decimal w) _ c.read_number-read.ensures good))
+pub loop-count-preserved : goal.loop-count-preserved
+loop-count-preserved c =
+    let w = c.in-Some.next.word.now in
+    let told = told_some (is_number w) (decimal w) c.in_ok-numbers.field-0 c.in_ok-numbers.ensures in
+    (simp length-set c.loop-count.invariant.0, rest_on _ _ _ _ _ _ _ c.loop-count.invariant.1 _ _ c.in-Some.ensures (omega arith) _ told.0 told.1)
 
 pub returns : goal.returns
 returns c =
-    let none = asked_none (c.args.most - c.loop-i.i) (words (drop c.loop-i.place c.args.line.now)) (omega arith) in
+    let none = asked_none (c.args.most - c.loop-count.count) (words c.loop-count.rest.now) (omega arith) in
     record {
-      good = over_good _ _ _ _ _ _ _ c.loop-i.invariant.3 none.0 none.1;
-      count = λ e. over_count _ _ _ _ _ _ _ c.loop-i.invariant.3 none.0 none.1;
-      rest = λ e. over_rest _ _ _ _ _ _ _ c.loop-i.invariant.3 none.0 none.1;
-      numbers = λ e. over_stored _ _ _ _ _ _ _ c.loop-i.invariant.3 none.0 none.1;
-      size = c.loop-i.invariant.2;
-      within = c.loop-i.invariant.1;
-      at = c.loop-i.invariant.0;
+      good = sym (over_good _ _ _ _ _ _ _ c.loop-count.invariant.1 none.0 none.1);
+      count = omega (arith, over_count _ _ _ _ _ _ _ c.loop-count.invariant.1 none.0 none.1);
+      rest = over_rest _ _ _ _ _ _ _ c.loop-count.invariant.1 none.0 none.1;
+      numbers = over_stored _ _ _ _ _ _ _ c.loop-count.invariant.1 none.0 none.1;
+      size = c.loop-count.invariant.0;
     }

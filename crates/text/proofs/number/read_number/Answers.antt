@@ -1,6 +1,5 @@
 -- `read_number`: by the count of digits.
-use mathlib.Core.Path.{ap, sym, ◌∙◌}
-use mathlib.Core.Bool.{Bool}
+use Rattle.std.proofs.Common.{Bool, ap, sym, ◌∙◌}
 use Rattle.text.specs.Number.{decimal, number_if}
 use Rattle.text.proofs.Laws.Number.{sized, unsized}
 use Rattle.text.proofs.number.read_number.Goals as goal
@@ -13,4 +12,4 @@ returns-then-is_sized c =
 pub returns : goal.returns
 returns c =
     let w = c.args.word.now in
-    c.wrong.ensures ∙ sym (ap (λ (b : Bool). number_if b (decimal w)) (unsized w (sym c.is_sized.ensures ∙ c.if-is_sized.false)))
+    sym (ap (λ (b : Bool). number_if b (decimal w)) (unsized w (sym c.is_sized.ensures ∙ c.if-is_sized.false)))

@@ -1,24 +1,21 @@
 -- `copy_between`: what stands between two places, if they are places of the memory and it fits.
-use mathlib.Core.Path.{refl, ap, ◌∙◌}
-use native.Mathlib.Omega.{arith}
-use Rattle.text.specs.declared.hex.Bytes.{Bytes}
-use Rattle.text.specs.Got.{got_of}
+use Rattle.std.proofs.Common.{ℕ, ◌-◌, Some, take, length, refl, ap, ◌∙◌, inl, inr, arith}
+use Rattle.packed.proofs.Laws.Part.{part_length}
 use Rattle.text.proofs.Laws.Memory.{copy_outside, copy_turned, copy_over, copy_all}
-use borrow.Author.Rules.{rules}
 use Rattle.text.proofs.wire.copy_between.Goals as goal
 
-pub returns-then-to : goal.returns-then-to
-returns-then-to c =
-    record { read = ap (λ (r : Bytes). got_of r c.args.bytes.now) c.no_bytes.ensures.value ∙ copy_outside _ c.args.wire.now c.args.from c.args.to c.if-to.true; bound = search rules }
+pub returns-then-to-clause-read : goal.returns-then-to-clause-read
+returns-then-to-clause-read c =
+    let most = length c.args.bytes.now in
+    elim c.then-to.either [ inl h ↦ copy_outside most c.args.wire.now c.args.from c.args.to h | inr h ↦ copy_turned most c.args.wire.now c.args.from c.args.to h.0 h.1 ]
 
-pub returns-then-to-from : goal.returns-then-to-from
-returns-then-to-from c =
-    record { read = ap (λ (r : Bytes). got_of r c.args.bytes.now) c.no_bytes-then-to-from.ensures.value ∙ copy_turned _ c.args.wire.now c.args.from c.args.to (omega arith) c.if-to-from.true; bound = search rules }
+pub returns-then-bytes-kept-clause-read : goal.returns-then-bytes-kept-clause-read
+returns-then-bytes-kept-clause-read c =
+    let size = part_length c.args.from (c.args.to - c.args.from) c.args.wire.now (omega arith) in
+    copy_over _ c.args.wire.now c.args.from c.args.to c.if-to.false c.if-to-from.false c.requires (omega (arith, size))
 
-pub returns-then-bytes-e : goal.returns-then-bytes-e
-returns-then-bytes-e c =
-    record { read = ap (λ (r : Bytes). got_of r c.args.bytes.now) c.no_bytes-then-bytes-e.ensures.value ∙ copy_over _ c.args.wire.now c.args.from c.args.to (omega arith) (omega arith) c.requires c.if-bytes-e.true; bound = search rules }
-
-pub returns : goal.returns
-returns c =
-    record { read = copy_all _ c.args.wire.now c.args.from c.args.to (omega arith) (omega arith) c.requires c.args.bytes.now _ refl (omega arith) c.copy.ensures; bound = omega arith }
+pub returns-clause-read : goal.returns-clause-read
+returns-clause-read c =
+    let size = part_length c.args.from (c.args.to - c.args.from) c.args.wire.now (omega arith) in
+    ap (λ (n : ℕ). Some (take n c.copy.new.d)) size
+    ∙ copy_all _ c.args.wire.now c.args.from c.args.to c.if-to.false c.if-to-from.false c.requires c.args.bytes.now _ refl (omega (arith, size)) c.copy.ensures

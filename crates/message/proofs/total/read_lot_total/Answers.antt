@@ -1,8 +1,0 @@
--- `read_lot_total`: the printed table is that of these widths.
-use Rattle.message.specs.Inner.Widths.{total_fields}
-use Rattle.message.specs.Total.{lot_total_fields}
-use Rattle.message.proofs.total.read_lot_total.Goals as goal
-
-pub returns : goal.returns
-unfolding total_fields lot_total_fields
-returns c = c.read_total.ensures

@@ -1,5 +1,0 @@
--- `unsent` is written as the definition is.
-use Rattle.session.proofs.session.unsent.Goals as goal
-
-pub returns : goal.returns
-returns c = cc

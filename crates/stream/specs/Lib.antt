@@ -1,2 +1,0 @@
--- What stays true between two pieces of a script.
-pub mod Stream
