@@ -16,7 +16,7 @@ pub enum TableRefusal {
     WrongList = 40,
 }
 
-// The number of an answer.
+// The number of an answer. A function and no `From`, which can't be written for the library's Result.
 pub fn table_number(answer: Result<(), TableRefusal>) -> u8
     ensures { result ≡ table_number answer }
 {

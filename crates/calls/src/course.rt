@@ -66,7 +66,7 @@ fn after_lot_total(lot: Lot, accepted: bool, before: Course) -> Course
     reopened(None, counters)
 }
 
-// What a message leaves of counters and running totals, with the code that was replied.
+// What a message leaves of counters and running totals, with the code that was replied: arm for arm as in the definition.
 pub fn advance(effect: Effect, accepted: bool, before: Course) -> Course
     requires { Countable effect accepted before }
     ensures { result ≡ advance effect accepted before }

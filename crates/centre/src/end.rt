@@ -52,7 +52,8 @@ impl Centre {
         }
     }
 
-    // The centre after a call that is lent those of the presented lot.
+    // The centre after a call that is lent those of the presented lot. The direction stands in the clauses of this method and of
+    // the next; one method for both would need it as an argument, and a branch.
     pub fn with_presented(self, session: Session, running: Running) -> Self
         requires { KeptBeside Direction.presenting self.session session running }
         ensures { engine_of result ≡ record { session = session; presenting = running; receiving = self.receiving } }

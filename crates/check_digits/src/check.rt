@@ -19,7 +19,7 @@ const TOO_LONG_ACCOUNT: u64 = 10_000_000_000;
 #[derive(Clone, Copy, PartialEq, Eq, Debug)]
 pub struct KeyedRefusal;
 
-// The paper's number of an answer.
+// The paper's number of an answer. A function and no `From`, which can't be written for the library's Result.
 pub fn keyed_number(answer: Result<(), KeyedRefusal>) -> u8
     ensures { result ≡ keyed_number answer }
 {

@@ -6,7 +6,7 @@ use crate::refusal::{Refusal, refusal_number};
 
 pub type Answer = Result<(), Refusal>;
 
-// The paper's number, 0 where the call is done.
+// The paper's number, 0 where the call is done. A function and no `From`, which can't be written for the library's Result.
 pub fn answer_number(a: Answer) -> u8
     ensures { result ≡ answer_number a }
 {

@@ -18,7 +18,7 @@ const FILL_BYTES: usize = FULL_COUNT * DOCUMENT_BYTES;
 pub const LONGEST_PART: usize = MOST_DETAIL_DOCUMENTS * DOCUMENT_BYTES;
 
 // How long a body written from a part is: the part, and a head for each group that it begins. A part that is too long for
-// any detail is never written, and 0 stands for its length.
+// any detail is never written, and 0 stands for its length: no Option, since `bound` is promised of every part.
 pub fn written_bytes(part: &[u8]) -> usize
     ensures length { length part.now ≤ longest_part → (operation : ℕ) → result ≡ length (written_detail operation part.now) }
     ensures bound { result ≤ longest_body }

@@ -26,6 +26,7 @@ pub struct ScriptPlayed {
     pub stop: u8,
 }
 
+// Two stops have one number, so that `as` does not give it.
 fn stop_number(stop: Stop) -> u8 {
     match stop {
         Stop::Done | Stop::Unfinished => 0,

@@ -61,7 +61,8 @@ fn all_zero(bytes: &[u8]) -> bool
     bytes.iter().all(|b| *b == 0)
 }
 
-// The contents of a slice with so many rows and lots of at most so many documents. Nothing where the slice is not good.
+// The contents of a slice with so many rows and lots of at most so many documents. Nothing where the slice is not good. The two
+// limits are two parameters of the definition (`good` of specs/Good) and go on to different tests.
 pub fn contents_of(file: &[u8], rows: usize, most: usize) -> Option<Contents>
     requires { rows ≤ most_rows }
     ensures verdict { is_some result ≡ good rows most file.now }

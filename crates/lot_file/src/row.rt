@@ -74,6 +74,7 @@ pub fn put_row(file: &mut [u8], place: usize, row: Row)
     copy(file, place * ROW_BYTES, &bytes_of(row));
 }
 
+// Asked of a caller's number too, which may have 32 bits; a header's, in `message`, has 16.
 pub fn order_number(n: usize) -> bool
     ensures { result ≡ order_number n }
 {

@@ -46,7 +46,7 @@ pub struct SendOutcome {
     pub session: Session,
 }
 
-// The paper's number, 0 for a message that is written.
+// The paper's number, 0 for a message that is written. What stops a send carries its number inside, so `as` does not give it.
 pub fn send_number(answer: SendAnswer) -> u8
     ensures { result ≡ send_number answer }
 {
@@ -64,7 +64,7 @@ pub fn send_written(answer: SendAnswer) -> usize
     answer.unwrap_or(0)
 }
 
-// Whether nothing stopped a send.
+// Whether nothing stopped a send. It asks the number and not `is_ok`: the type has a stop with code 00 too, whose number is 0.
 pub fn is_unstopped(o: SendOutcome) -> bool
     ensures { result ≡ unstopped o.answer }
 {

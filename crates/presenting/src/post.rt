@@ -17,7 +17,7 @@ use session::effect::Effect;
 use session::parties::Parties;
 use session::session::{Presenting, Session};
 
-// The route of what the centre presents.
+// The route of what the centre presents. That of what it receives is a definition of its own (session/specs/Parties).
 pub fn presenting_route(p: Parties) -> Route
     ensures { result ≡ presenting_route p }
 {

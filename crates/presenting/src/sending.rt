@@ -95,7 +95,7 @@ pub fn send_detail(
     begun
 }
 
-// The number of an open lot; 0 where there is none, and then no total is written.
+// The number of an open lot; 0 where there is none, as in the definition, and then no total is written.
 fn open_number(lot: Option<u16>) -> u16
     ensures { result ≡ open_number lot }
 {

@@ -30,7 +30,7 @@ pub struct Found {
     pub effect: Effect,
 }
 
-// The route of what the centre receives.
+// The route of what the centre receives. That of what it presents is a definition of its own (session/specs/Parties).
 pub fn receiving_route(p: Parties) -> Route
     ensures { result ≡ receiving_route p }
 {
@@ -146,7 +146,7 @@ fn of_session_total(time: u32, body: &[u8], hearer: Hearer) -> Found
     }
 }
 
-// A body, by what it is.
+// A body, by what it is: a match and no table of functions, since each content has its own clause.
 #[tactic(auto, unfolding(session::specs::Receiving::received_code, session::specs::Receiving::received_effect))]
 pub fn earned(content: Content, time: u32, body: &[u8], hearer: Hearer) -> Found
     ensures { Earns content time body.now hearer.parties hearer.running hearer.receiving result }

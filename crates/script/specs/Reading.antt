@@ -6,8 +6,8 @@ use Rattle.text.specs.declared.kind.Kind.TheVariants.{Start, Header, Detail, Lot
 use Rattle.text.specs.Line.{Said}
 use Rattle.centre.specs.declared.call.Order.{Order}
 use Rattle.centre.specs.Turn.{call_of}
-use Rattle.script.specs.declared.reading.Asked.{Asked}
-use Rattle.script.specs.declared.reading.Reading.{Reading}
+use Rattle.script.specs.declared.asked.Asked.{Asked}
+use Rattle.script.specs.declared.asked.Reading.{Reading}
 
 -- a number as an argument: where it is too large, the largest that the argument's type has
 abbrev pub u32 : ℕ → ℕ

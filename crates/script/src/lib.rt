@@ -5,6 +5,7 @@
 #![tactic(auto)]
 
 mod answer;
+mod asked;
 pub mod play;
 pub mod player;
 mod reading;

@@ -9,9 +9,10 @@ ghost use Rattle.script.specs.Play.{filled, played, held_after, held_by, Remembe
 ghost use Rattle.script.specs.Inner.Play.{Behind};
 
 use crate::answer::{answer_bytes, put_answer, write_answer};
+use crate::asked::Reading;
 use crate::player::{Player, act};
-use crate::reading::{Reading, reading_of};
-use crate::wording::{blank, least};
+use crate::reading::reading_of;
+use crate::wording::{Head, least};
 use centre::end::Centre;
 use text::line::{LONGEST_LINE, MOST_ROOM, read_line};
 use text::wire::{Memory, next_number, remember};
@@ -61,19 +62,19 @@ fn after_writing(memory: Memory, written: &[u8], wire: &mut [u8]) -> Memory
     remember(memory, written, wire)
 }
 
-// The number of what was written, 0 if nothing was.
-fn written_number(memory: Memory, written: usize) -> u64 {
+// The number of what was written, if something was.
+fn written_number(memory: Memory, written: usize) -> Option<u64> {
     if written == 0 {
-        return 0;
+        return None;
     }
-    next_number(memory)
+    Some(next_number(memory))
 }
 
-// What was done at a seat: how many words answer it, and how many bytes behind them.
+// What was done at a seat: the words that answer it, and how many bytes stand behind them.
 #[derive(Clone, Copy)]
 pub struct Answered {
     pub seat: Option<Centre>,
-    pub words: usize,
+    pub head: Head,
     pub written: usize,
 }
 
@@ -84,18 +85,14 @@ fn answer_at(
     memory: Memory,
     bytes: &[u8],
     line: &mut [u8],
-    head: &mut [u8],
 ) -> Answered
-    requires more_in_bounds { reading.more ≤ length reading.entities }
-    requires in_bounds { 400 ≤ length head.old }
     ensures outcome { seat_of result.seat ≡ done (named_by reading.asked reading bytes.now) line.old (seat_of seat) }
-    ensures sizes { (result.words ≤ 400) × (result.written ≤ length line.old) × (take result.written line.new ≡ wrote (named_by reading.asked reading bytes.now) line.old (seat_of seat)) }
+    ensures sizes { (result.written ≤ length line.old) × (take result.written line.new ≡ wrote (named_by reading.asked reading bytes.now) line.old (seat_of seat)) }
 {
     let step = act(seat, reading, bytes, line);
     let written = least(step.written, line.len());
     let number = written_number(memory, written);
-    let words = put_answer(
-        head,
+    let head = put_answer(
         reading.kind,
         reading.near,
         seat.is_some(),
@@ -105,21 +102,20 @@ fn answer_at(
     );
     Answered {
         seat: step.seat,
-        words,
+        head,
         written,
     }
 }
 
-// Writes an answer of so many words and bytes, if it fits, and says how many bytes were written.
-fn emit(output: &mut [u8], head: &[u8], line: &[u8], words: usize, written: usize) -> Option<usize>
-    requires words_bound { (words ≤ 400) × (words ≤ length head.now) }
-    requires written_le_most_room { (written ≤ most_room) × (written ≤ length line.now) }
+// Writes an answer of these words and bytes, if it fits, and says how many bytes were written.
+fn emit(output: &mut [u8], head: &Head, shown: &[u8]) -> Option<usize>
+    requires { length shown.now ≤ most_room }
     ensures { MatchOption result ((length output.old < longest_answer) × (output.new ≡ output.old)) (λ n. (n ≤ length output.old) × (drop n output.new ≡ drop n output.old)) }
 {
-    if output.len() < answer_bytes(words, written) {
+    if output.len() < answer_bytes(head.at, shown.len()) {
         return None;
     }
-    Some(write_answer(output, &head[..words], &line[..written]))
+    Some(write_answer(output, &head.bytes[..head.at], shown))
 }
 
 // What was read, and its answer; nothing is done where the answer does not fit.
@@ -131,18 +127,17 @@ fn play_reading(
     output: &mut [u8],
     wire: &mut [u8],
 ) -> Option<LinePlayed>
-    requires more_in_bounds { reading.more ≤ length reading.entities }
-    requires line_len_bound { length line.old ≤ most_room }
+    requires { length line.old ≤ most_room }
     ensures done { Done (played_at reading.near (named_by reading.asked reading bytes.now) line.old (ends_of player)) output.old output.new result }
     ensures memory { Remembers player (held_after player.memory (wrote (named_by reading.asked reading bytes.now) line.old (seat_at reading.near (ends_of player))) (length wire.old)) wire.old wire.new result }
 {
     let near = reading.near;
     let memory = player.memory;
     let before = seat_at(player, near);
-    let mut head = blank();
-    let answer = answer_at(before, reading, memory, bytes, line, &mut head);
-    let written = emit(output, &head, line, answer.words, answer.written)?;
-    let kept = after_writing(memory, &line[..answer.written], wire);
+    let answer = answer_at(before, reading, memory, bytes, line);
+    let shown = &line[..answer.written];
+    let written = emit(output, &answer.head, shown)?;
+    let kept = after_writing(memory, shown, wire);
     Some(LinePlayed {
         player: with_seat(player, near, answer.seat, kept),
         written,
@@ -266,6 +261,7 @@ pub fn play(player: Player, text: &[u8], last: bool, output: &mut [u8], wire: &m
     let mut current = player;
     let mut at: usize = 0;
     let mut count: usize = 0;
+    // No `for`: the place jumps by a line that was cut, and a reader is told it (`Played.read`).
     while at < text.len() {
         let Some(cut) = cut_line(&text[at..], last, current.skipping) else {
             return Played {

@@ -5,7 +5,7 @@ ghost use Rattle.text.specs.Held.{Holds};
 ghost use Rattle.script.specs.Reading.{named_by};
 ghost use Rattle.script.specs.Player.{seat_of, called, begun_at, done, wrote_at, wrote};
 
-use crate::reading::{Asked, Reading};
+use crate::asked::{Asked, Reading};
 use centre::call::{Order, perform};
 use centre::end::Centre;
 use codes::answer::answer_number;
@@ -22,7 +22,7 @@ pub struct Player {
     pub skipping: bool,
 }
 
-// What a call at an end gives.
+// What a call at an end gives. Its number is the paper's, of a refusal or of a code that stopped a send, as in a `Turn`.
 #[derive(Clone, Copy)]
 pub struct Step {
     pub number: u8,
@@ -90,9 +90,8 @@ fn start_at(seat: Option<Centre>, date: u32, own: u16, partner: u16, represented
     }
 }
 
-// What a line that was read does at its end.
+// What a line that was read does at its end. A match chooses: what is asked is read from a text.
 pub fn act(seat: Option<Centre>, reading: Reading, bytes: &[u8], line: &mut [u8]) -> Step
-    requires { reading.more ≤ length reading.entities }
     ensures outcome { seat_of result.seat ≡ done (named_by reading.asked reading bytes.now) line.old (seat_of seat) }
     ensures written { take result.written line.new ≡ wrote (named_by reading.asked reading bytes.now) line.old (seat_of seat) }
 {

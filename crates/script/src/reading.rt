@@ -4,34 +4,11 @@ ghost use Rattle.text.specs.Kind.{shape_of};
 ghost use Rattle.text.specs.Line.{said_of};
 ghost use Rattle.script.specs.Reading.{u16, asked_by, meant, meant_by};
 
+use crate::asked::{Asked, MOST_ENTITIES, Reading};
 use centre::call::Order;
 use text::kind::Kind;
 use text::line::{Line, MOST_NUMBERS};
 use text::number::{to_u8, to_u16, to_u32};
-
-// The most represented entities of a line; a start refuses more than eight.
-const MOST_ENTITIES: usize = 16;
-
-// What a line asks of its end: a start, whose represented entities stand beside it; or a call, whose bytes do.
-#[derive(Clone, Copy)]
-pub enum Asked {
-    Start(u32, u16, u16),
-    Call(Order),
-}
-
-// A line that asks something of the near end, A, or of the far one, B; or nothing, as a report and a line that is no call do. Of
-// the entities the first `more` are meant, and of the
-// buffer beside it the first `bytes`; `room` is the length of the line buffer.
-#[derive(Clone, Copy)]
-pub struct Reading {
-    pub kind: Kind,
-    pub near: bool,
-    pub asked: Option<Asked>,
-    pub entities: [u16; MOST_ENTITIES],
-    pub more: usize,
-    pub bytes: usize,
-    pub room: usize,
-}
 
 // The numbers from the fourth on, as entities.
 fn entities_of(numbers: [u64; MOST_NUMBERS]) -> [u16; MOST_ENTITIES]
@@ -76,7 +53,6 @@ pub fn reading_of(line: Line) -> Reading
     requires kind_bound { (shape_of line.kind).asked ≤ line.count }
     requires count_bound { line.count ≤ 19 }
     ensures meaning { (buffer : List ℕ) → meant_by result buffer ≡ meant (said_of line buffer) }
-    ensures entities { result.more ≤ length result.entities }
     ensures sizes { (result.bytes ≡ line.bytes) × (result.room ≡ line.room) }
 {
     let kind = line.kind;

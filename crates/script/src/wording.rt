@@ -1,5 +1,4 @@
-// The words of an answer, put one behind another at the start of a small buffer. Each function is told where the next one
-// goes and answers where the one after it does.
+// The words of an answer, put one behind another into a small buffer.
 ghost use Rattle.std.specs.Prelude.{◌≡◌, ◌+◌, ◌≤◌, min, length};
 
 use amounts::difference::magnitude;
@@ -7,13 +6,14 @@ use decimal::{put_decimal, put_number};
 use packed::writing::copy;
 
 // An answer without the bytes that it shows: the longest is a report with twelve numbers.
-pub const HEAD_BYTES: usize = 400;
+const HEAD_BYTES: usize = 400;
 
-// Room for it.
-pub fn blank() -> [u8; HEAD_BYTES]
-    ensures { 400 ≡ length result }
-{
-    [0; HEAD_BYTES]
+// The words so far: the first `at` bytes.
+#[derive(Clone, Copy)]
+pub struct Head {
+    pub bytes: [u8; HEAD_BYTES],
+    pub at: usize,
+    ghost within: { at ≤ 400 },
 }
 
 // The smaller of two.
@@ -23,34 +23,62 @@ pub fn least(a: usize, b: usize) -> usize
     a.min(b)
 }
 
-pub fn put_text(head: &mut [u8], at: usize, text: &[u8]) -> usize
-    requires { at + length text.now ≤ length head.old }
-    ensures { result ≡ at + length text.now }
-{
-    copy(head, at, text);
-    at + text.len()
-}
-
-// A signed number behind a space.
-pub fn put_signed(head: &mut [u8], at: usize, value: i64) -> usize
-    requires { at + 22 ≤ length head.old }
-    ensures { result ≤ at + 22 }
-{
-    if value < 0 {
-        let sign = put_text(head, at, b" -");
-        return put_decimal(head, sign, magnitude(value));
+impl Head {
+    // No words.
+    pub fn new() -> Head
+        ensures { result.at ≡ 0 }
+    {
+        Head {
+            bytes: [0; HEAD_BYTES],
+            at: 0,
+        }
     }
-    put_number(head, at, magnitude(value))
-}
 
-// A number of two digits.
-pub fn put_code(head: &mut [u8], at: usize, number: u8) -> usize
-    requires { at + 21 ≤ length head.old }
-    ensures { result ≤ at + 21 }
-{
-    if number < 10 {
-        let next = put_text(head, at, b"0");
-        return put_decimal(head, next, number as u64);
+    pub fn put_text(&mut self, text: &[u8])
+        requires { self.old.at + length text.now ≤ 400 }
+        ensures { self.new.at ≡ self.old.at + length text.now }
+    {
+        copy(&mut self.bytes, self.at, text);
+        self.at += text.len();
     }
-    put_decimal(head, at, number as u64)
+
+    // A number.
+    pub fn put_decimal(&mut self, value: u64)
+        requires { self.old.at + 20 ≤ 400 }
+        ensures { self.new.at ≤ self.old.at + 20 }
+    {
+        self.at = put_decimal(&mut self.bytes, self.at, value);
+    }
+
+    // A number behind a space.
+    pub fn put_number(&mut self, value: u64)
+        requires { self.old.at + 21 ≤ 400 }
+        ensures { self.new.at ≤ self.old.at + 21 }
+    {
+        self.at = put_number(&mut self.bytes, self.at, value);
+    }
+
+    // A signed number behind a space.
+    pub fn put_signed(&mut self, value: i64)
+        requires { self.old.at + 22 ≤ 400 }
+        ensures { self.new.at ≤ self.old.at + 22 }
+    {
+        if value < 0 {
+            self.put_text(b" -");
+            self.put_decimal(magnitude(value));
+        } else {
+            self.put_number(magnitude(value));
+        }
+    }
+
+    // A number of two digits.
+    pub fn put_code(&mut self, number: u8)
+        requires { self.old.at + 21 ≤ 400 }
+        ensures { self.new.at ≤ self.old.at + 21 }
+    {
+        if number < 10 {
+            self.put_text(b"0");
+        }
+        self.put_decimal(number as u64);
+    }
 }

@@ -10,7 +10,7 @@ pub struct Tally {
     pub gathered: Running,
 }
 
-// What awaits a reply, if it is a total.
+// What awaits a reply, if it is a total. Three cases and no Option of two: each has its number and its word where it is shown.
 #[derive(Clone, Copy)]
 pub enum Awaited {
     Neither,

@@ -42,7 +42,9 @@ pub struct Receiving {
     pub lots: Lots,
 }
 
-// All that a centre keeps of an evening, but for the running totals of its open lots, which are lent with each call.
+// All that a centre keeps of an evening, but for the running totals of its open lots, which are lent with each call. What a call asks of
+// it, `Sound`, and of it with running totals, `Carried`, are predicates and no ghost fields: the second speaks of two values, and
+// every call gives both again (specs/Premise). `Centre`, above the calls, has them as its invariant.
 #[derive(Clone, Copy)]
 pub struct Session {
     pub parties: Parties,

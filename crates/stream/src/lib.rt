@@ -3,7 +3,7 @@
 // that fails ends it.
 #![tactic(auto)]
 
-ghost use Rattle.std.specs.Prelude.{◌≡◌, ◌+◌, ◌≤◌, length, take, IfOk, OnErr};
+ghost use Rattle.std.specs.Prelude.{◌≡◌, ◌≤◌, length, take, OnErr};
 
 use script::play::{Stop, play};
 use script::player::{Player, fresh};
@@ -14,119 +14,83 @@ use text::wire::WIRE_BYTES;
 // How much of a script waits at most, and how much is answered at once.
 const ROOM: usize = 65_536;
 
-// Between two pieces: the player, how many bytes wait in the input, whether no more will come, and whether all is done.
-#[derive(Clone, Copy)]
+// Between two pieces: the player, the bytes that its memory keeps, the input, how many bytes wait in it, room for answers, whether
+// no more will come, and whether all is done.
+#[derive(Drop)]
 pub struct Stream {
     pub player: Player,
+    pub wire: [u8; WIRE_BYTES],
+    pub input: [u8; ROOM],
     pub filled: usize,
+    pub output: [u8; ROOM],
     pub last: bool,
     pub over: bool,
+    ghost in_bounds: { filled ≤ length input },
 }
 
-// Reads once behind what waits, and says how many bytes came.
-fn read_more(script: &mut impl Read, input: &mut [u8], filled: usize) -> io::Result<usize>
-    requires { filled ≤ length input.old }
-    ensures came { IfOk result (λ came. filled + came ≤ length input.old) }
-    ensures waiting { take filled input.new ≡ take filled input.old }
-{
-    script.read(&mut input[filled..])
-}
-
-// Plays what waits, answers it, and keeps the rest.
-fn answer(
-    rt: &impl Print,
-    s: Stream,
-    input: &mut [u8],
-    output: &mut [u8],
-    wire: &mut [u8],
-) -> io::Result<Stream>
-    requires { s.filled ≤ length input.old }
-    ensures next { IfOk result (λ next. next.filled ≤ length input.old) }
-    ensures err { OnErr result (input.new ≡ input.old) }
-{
-    let played = play(s.player, &input[..s.filled], s.last, output, wire);
-    rt.write_all(&output[..played.written])?;
-    input.copy_within(played.read..s.filled, 0);
-    Ok(Stream {
-        player: played.player,
-        filled: s.filled - played.read,
-        last: s.last,
-        over: s.last & !matches!(played.stop, Stop::Full),
-    })
-}
-
-// With what has come, as long as there is room; nothing comes at the end of the input.
-fn listen(script: &mut impl Read, s: Stream, input: &mut [u8]) -> io::Result<Stream>
-    requires { s.filled ≤ length input.old }
-    ensures next { IfOk result (λ next. next.filled ≤ length input.old) }
-    ensures waiting { take s.filled input.new ≡ take s.filled input.old }
-{
-    if s.filled == input.len() {
-        return Ok(s);
-    }
-    let came = read_more(script, input, s.filled)?;
-    Ok(Stream {
-        filled: s.filled + came,
-        last: s.last | (came == 0),
-        over: false,
-        ..s
-    })
-}
-
-fn begun() -> Stream
-    ensures { result.filled ≡ 0 }
-{
-    Stream {
-        player: fresh(),
-        filled: 0,
-        last: false,
-        over: false,
-    }
-}
-
-// One piece: what comes is heard and answered.
-fn turn(
-    rt: &impl Print,
-    script: &mut impl Read,
-    s: Stream,
-    input: &mut [u8],
-    output: &mut [u8],
-    wire: &mut [u8],
-) -> io::Result<Stream>
-    requires { s.filled ≤ length input.old }
-    ensures next { IfOk result (λ next. next.filled ≤ length input.old) }
-    ensures err { OnErr result (take s.filled input.new ≡ take s.filled input.old) }
-{
-    let heard = listen(script, s, input)?;
-    answer(rt, heard, input, output, wire)
-}
-
-// A loop has to end, and nothing says that a script does: there are so many turns that no run uses them up.
-fn run(
-    rt: &impl Print,
-    script: &mut impl Read,
-    input: &mut [u8],
-    output: &mut [u8],
-    wire: &mut [u8],
-) -> io::Result<()> {
-    let mut stream = begun();
-    for _ in 0..u64::MAX {
-        stream = turn(rt, script, stream, input, output, wire)?;
-        if stream.over {
-            return Ok(());
+impl Stream {
+    // Reads once behind what waits, as long as there is room; nothing comes at the end of the script.
+    fn listen(&mut self, script: &mut impl Read) -> io::Result<()>
+        ensures waiting { take self.old.filled self.new.input ≡ take self.old.filled self.old.input }
+    {
+        if self.filled < ROOM {
+            let came = script.read(&mut self.input[self.filled..])?;
+            self.filled += came;
+            self.last |= came == 0;
         }
+        Ok(())
     }
-    Ok(())
-}
 
-fn memory() -> [u8; WIRE_BYTES] {
-    [0; WIRE_BYTES]
+    // Plays what waits, answers it, and keeps the rest.
+    fn answer(&mut self, rt: &impl Print) -> io::Result<()>
+        ensures err { OnErr result (self.new.input ≡ self.old.input) }
+    {
+        let waiting = &self.input[..self.filled];
+        let played = play(
+            self.player,
+            waiting,
+            self.last,
+            &mut self.output,
+            &mut self.wire,
+        );
+        rt.write_all(&self.output[..played.written])?;
+        self.input.copy_within(played.read..self.filled, 0);
+        self.filled -= played.read;
+        self.player = played.player;
+        self.over = self.last & !matches!(played.stop, Stop::Full);
+        Ok(())
+    }
+
+    // One piece: what comes is heard and answered.
+    fn turn(&mut self, rt: &impl Print, script: &mut impl Read) -> io::Result<()>
+        ensures err { OnErr result (take self.old.filled self.new.input ≡ take self.old.filled self.old.input) }
+    {
+        self.listen(script)?;
+        self.answer(rt)
+    }
+
+    // A loop has to end, and nothing says that a script does: there are so many turns that no run uses them up.
+    fn run(&mut self, rt: &impl Print, script: &mut impl Read) -> io::Result<()> {
+        for _ in 0..u64::MAX {
+            self.turn(rt, script)?;
+            if self.over {
+                return Ok(());
+            }
+        }
+        Ok(())
+    }
 }
 
 // Plays a whole script.
 pub fn play_from(rt: &impl Print, script: &mut impl Read) -> io::Result<()> {
-    let mut input = [0u8; ROOM];
-    let mut output = [0u8; ROOM];
-    let mut wire = memory();
-    run(rt, script, &mut input, &mut output, &mut wire)
+    let mut stream = Stream {
+        player: fresh(),
+        wire: [0; WIRE_BYTES],
+        input: [0; ROOM],
+        filled: 0,
+        output: [0; ROOM],
+        last: false,
+        over: false,
+    };
+    stream.run(rt, script)
 }

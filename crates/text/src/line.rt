@@ -24,7 +24,8 @@ pub const MOST_ROOM: usize = 10_412;
 pub const MOST_NUMBERS: usize = 19;
 
 // A line that was read. It says something to the near end, A, or to the far one, B. Of the numbers the first `count` are
-// meant, and of the buffer beside it the first `bytes`; `room` is the length of the line buffer.
+// meant, and of the buffer beside it the first `bytes`; `room` is the length of the line buffer. An array with a count, since
+// there is no heap: memory is fixed.
 #[derive(Clone, Copy)]
 pub struct Line {
     pub kind: Kind,
@@ -79,21 +80,28 @@ fn read_numbers<'a>(
     Some(Numbers { count: most, rest })
 }
 
+// What was written before: the memory, and the bytes that it keeps.
+#[derive(Clone, Copy)]
+struct Kept<'a> {
+    memory: Memory,
+    wire: &'a [u8],
+}
+
 // What was written under the number of a word.
-fn read_written(word: &[u8], memory: Memory, wire: &[u8], bytes: &mut [u8]) -> Option<usize>
-    ensures read { got_of result bytes.new ≡ fitting (length bytes.old) (written_under (recalled memory wire.now) word.now) }
+fn read_written(word: &[u8], kept: Kept, bytes: &mut [u8]) -> Option<usize>
+    ensures read { got_of result bytes.new ≡ fitting (length bytes.old) (written_under (recalled kept.entry.memory kept.entry.wire.now) word.now) }
     ensures bound { IfSome result (λ n. n ≤ length bytes.old) }
 {
-    recall(memory, read_number(word)?, wire, bytes)
+    recall(kept.memory, read_number(word)?, kept.wire, bytes)
 }
 
 // A word as bytes: digits, or `@` and the number of what was written.
-fn read_word(word: &[u8], memory: Memory, wire: &[u8], bytes: &mut [u8]) -> Option<usize>
-    ensures read { got_of result bytes.new ≡ fitting (length bytes.old) (hex_or_written (recalled memory wire.now) word.now) }
+fn read_word(word: &[u8], kept: Kept, bytes: &mut [u8]) -> Option<usize>
+    ensures read { got_of result bytes.new ≡ fitting (length bytes.old) (hex_or_written (recalled kept.entry.memory kept.entry.wire.now) word.now) }
     ensures bound { IfSome result (λ n. n ≤ length bytes.old) }
 {
     match word {
-        [b'@', number @ ..] => read_written(number, memory, wire, bytes),
+        [b'@', number @ ..] => read_written(number, kept, bytes),
         _ => read_hex(word, bytes),
     }
 }
@@ -109,11 +117,10 @@ pub struct Data<'a> {
 fn read_bytes<'a>(
     source: Option<Source>,
     line: &'a [u8],
-    memory: Memory,
-    wire: &[u8],
+    kept: Kept,
     bytes: &mut [u8],
 ) -> Option<Data<'a>>
-    ensures { DataRead (recalled memory wire.now) (length bytes.old) source (words line.now) bytes.new result }
+    ensures { DataRead (recalled kept.entry.memory kept.entry.wire.now) (length bytes.old) source (words line.now) bytes.new result }
 {
     let Some(source) = source else {
         return Some(Data {
@@ -124,12 +131,12 @@ fn read_bytes<'a>(
     let Split { word, rest } = next_word(line)?;
     let count = match source {
         Source::Hex => read_hex(word, bytes)?,
-        Source::HexOrWritten => read_word(word, memory, wire, bytes)?,
+        Source::HexOrWritten => read_word(word, kept, bytes)?,
     };
     Some(Data { count, rest })
 }
 
-// What stands behind the end: all its numbers, and how many bytes it has.
+// What stands behind the end: all its numbers, an array with a count as in `Line`, and how many bytes it has.
 #[derive(Clone, Copy)]
 pub struct Parts {
     pub numbers: [u64; MOST_NUMBERS],
@@ -138,22 +145,16 @@ pub struct Parts {
 }
 
 // All that stands behind the end, if it is as the shape says.
-fn read_parts(
-    shape: Shape,
-    line: &[u8],
-    memory: Memory,
-    wire: &[u8],
-    bytes: &mut [u8],
-) -> Option<Parts>
+fn read_parts(shape: Shape, line: &[u8], kept: Kept, bytes: &mut [u8]) -> Option<Parts>
     requires { Sized shape }
-    ensures { PartsRead (recalled memory wire.now) (length bytes.old) shape (words line.now) bytes.new result }
+    ensures { PartsRead (recalled kept.entry.memory kept.entry.wire.now) (length bytes.old) shape (words line.now) bytes.new result }
 {
     let mut numbers = [0; MOST_NUMBERS];
     let asked = read_numbers(line, shape.asked, &mut numbers, 0)?;
     if asked.count < shape.asked {
         return None;
     }
-    let data = read_bytes(shape.source, asked.rest, memory, wire, bytes)?;
+    let data = read_bytes(shape.source, asked.rest, kept, bytes)?;
     let more = read_numbers(data.rest, shape.more, &mut numbers, shape.asked)?;
     if next_word(more.rest).is_some() {
         return None;
@@ -197,12 +198,12 @@ fn room_in(shape: Shape, numbers: [u64; MOST_NUMBERS], count: usize) -> u64
 }
 
 // A line of this kind, from behind its first word on, if it is one.
-fn read_call(kind: Kind, line: &[u8], memory: Memory, wire: &[u8], bytes: &mut [u8]) -> Option<Line>
-    ensures { CallRead (recalled memory wire.now) (length bytes.old) kind (words line.now) bytes.new result }
+fn read_call(kind: Kind, line: &[u8], kept: Kept, bytes: &mut [u8]) -> Option<Line>
+    ensures { CallRead (recalled kept.entry.memory kept.entry.wire.now) (length bytes.old) kind (words line.now) bytes.new result }
 {
     let End { near, rest } = read_end(line)?;
     let shape = shape_of(kind);
-    let parts = read_parts(shape, rest, memory, wire, bytes)?;
+    let parts = read_parts(shape, rest, kept, bytes)?;
     let numbers = parts.numbers;
     let room = room_in(shape, numbers, parts.count);
     if (MOST_ROOM as u64) < room {
@@ -236,7 +237,7 @@ pub fn read_line(line: &[u8], memory: Memory, wire: &[u8], bytes: &mut [u8]) -> 
     if is_bad(kind) {
         return no_call(Kind::Bad);
     }
-    match read_call(kind, rest, memory, wire, bytes) {
+    match read_call(kind, rest, Kept { memory, wire }, bytes) {
         Some(call) => call,
         None => no_call(Kind::Bad),
     }

@@ -37,7 +37,8 @@ pub fn read_number(word: &[u8]) -> Option<u64>
     None
 }
 
-// The number, or the largest of the argument's type where it is larger.
+// The number, or the largest of the argument's type where it is larger. Three functions of a line each: a generic one would need
+// a trait with the largest value of each type and a law of it, and is no plainer.
 pub fn to_u32(value: u64) -> u32
     ensures { result ≡ min value (2 ^ 32 - 1) }
 {

@@ -108,33 +108,6 @@ pub fn remember(m: Memory, written: &[u8], wire: &mut [u8]) -> Memory
     forgotten(m)
 }
 
-// The number of an entry.
-#[tactic(auto, unfolding(crate::specs::Memory::entry_number))]
-fn entry_number(wire: &[u8], i: usize) -> u64
-    requires in_bounds { 2097152 ≤ length wire.now }
-    requires i_bound { i < 65536 }
-    ensures { result ≡ entry_number wire.now i }
-{
-    number(wire, CONTENTS + i * ENTRY_BYTES, NUMBER_BYTES)
-}
-
-// Where what the first `i` entries stand for ends; that is where the next begins.
-fn end_of(wire: &[u8], i: usize) -> u64
-    requires in_bounds { 2097152 ≤ length wire.now }
-    requires i_bound { i ≤ 65536 }
-    ensures { result ≡ end_of wire.now i }
-{
-    if i == 0 {
-        return 0;
-    }
-    let last = i - 1;
-    number(
-        wire,
-        CONTENTS + last * ENTRY_BYTES + NUMBER_BYTES,
-        NUMBER_BYTES,
-    )
-}
-
 // Where to look for a number: entries stand in the order of their numbers, so that none stands behind the place that its
 // number has.
 fn last_place(kept: usize, wanted: u64) -> usize
@@ -147,36 +120,69 @@ fn last_place(kept: usize, wanted: u64) -> usize
     wanted.min(kept as u64) as usize
 }
 
-// The entry of a number, if one has it.
-fn find(m: Memory, wanted: u64, wire: &[u8]) -> Option<usize>
-    requires { 2097152 ≤ length wire.now }
-    ensures place { unwrap_or result 65536 ≡ place_below wire.now wanted (last_place m.kept wanted) }
-    ensures bound { IfSome result (λ i. i < 65536) }
-{
-    for i in (0..last_place(m.kept, wanted)).rev() {
-        let found = entry_number(wire, i);
-        if found <= wanted {
-            return (found == wanted).then_some(i);
-        }
-    }
-    None
+// Lent bytes that are enough for all that is remembered.
+#[derive(Clone, Copy)]
+struct Wire<'a> {
+    bytes: &'a [u8],
+    ghost whole: { 2097152 ≤ length bytes.now },
 }
 
-// A copy of what stands between two places of the memory.
-fn copy_between(wire: &[u8], from: u64, to: u64, bytes: &mut [u8]) -> Option<usize>
-    requires { 2097152 ≤ length wire.now }
-    ensures read { got_of result bytes.new ≡ fitting (length bytes.old) (between_places wire.now from to) }
-    ensures bound { IfSome result (λ n. n ≤ length bytes.old) }
-{
-    if (CONTENTS as u64) < to || to < from {
-        return None;
+impl Wire<'_> {
+    // The number of an entry.
+    #[tactic(auto, unfolding(crate::specs::Memory::entry_number))]
+    fn entry_number(&self, i: usize) -> u64
+        requires { i < 65536 }
+        ensures { result ≡ entry_number self.now.bytes.now i }
+    {
+        number(self.bytes, CONTENTS + i * ENTRY_BYTES, NUMBER_BYTES)
     }
-    let kept = &wire[from as usize..to as usize];
-    if bytes.len() < kept.len() {
-        return None;
+
+    // Where what the first `i` entries stand for ends; that is where the next begins.
+    fn end_of(&self, i: usize) -> u64
+        requires { i ≤ 65536 }
+        ensures { result ≡ end_of self.now.bytes.now i }
+    {
+        if i == 0 {
+            return 0;
+        }
+        let last = i - 1;
+        number(
+            self.bytes,
+            CONTENTS + last * ENTRY_BYTES + NUMBER_BYTES,
+            NUMBER_BYTES,
+        )
     }
-    copy(bytes, 0, kept);
-    Some(kept.len())
+
+    // The entry of a number, if one has it. The library's search by halves would answer otherwise where the lent bytes are in no
+    // order, and nothing is believed of them.
+    fn find(&self, m: Memory, wanted: u64) -> Option<usize>
+        ensures place { unwrap_or result 65536 ≡ place_below self.now.bytes.now wanted (last_place m.kept wanted) }
+        ensures bound { IfSome result (λ i. i < 65536) }
+    {
+        for i in (0..last_place(m.kept, wanted)).rev() {
+            let found = self.entry_number(i);
+            if found <= wanted {
+                return (found == wanted).then_some(i);
+            }
+        }
+        None
+    }
+
+    // A copy of what stands between two places of the memory.
+    fn copy_between(&self, from: u64, to: u64, bytes: &mut [u8]) -> Option<usize>
+        ensures read { got_of result bytes.new ≡ fitting (length bytes.old) (between_places self.now.bytes.now from to) }
+        ensures bound { IfSome result (λ n. n ≤ length bytes.old) }
+    {
+        if (CONTENTS as u64) < to || to < from {
+            return None;
+        }
+        let kept = &self.bytes[from as usize..to as usize];
+        if bytes.len() < kept.len() {
+            return None;
+        }
+        copy(bytes, 0, kept);
+        Some(kept.len())
+    }
 }
 
 // A copy of what was written under a number.
@@ -187,6 +193,7 @@ pub fn recall(m: Memory, wanted: u64, wire: &[u8], bytes: &mut [u8]) -> Option<u
     if wire.len() < WIRE_BYTES {
         return None;
     }
-    let i = find(m, wanted, wire)?;
-    copy_between(wire, end_of(wire, i), end_of(wire, i + 1), bytes)
+    let wire = Wire { bytes: wire };
+    let i = wire.find(m, wanted)?;
+    wire.copy_between(wire.end_of(i), wire.end_of(i + 1), bytes)
 }

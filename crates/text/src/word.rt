@@ -11,7 +11,7 @@ pub struct Split<'a> {
     pub rest: &'a [u8],
 }
 
-// The first place from `at` on where this byte stands, or the end.
+// The first place from `at` on where this byte stands, or the end: a place that every caller goes on from, and so no Option.
 pub fn find_byte(text: &[u8], at: usize, byte: u8) -> usize
     requires { at ≤ length text.now }
     ensures place { result ≡ at + before (is byte) (drop at text.now) }

@@ -15,7 +15,7 @@ use Rattle.text.specs.declared.wire.Memory.{Memory}
 use Rattle.text.specs.Held.{Written, Holds}
 use Rattle.script.specs.declared.player.Player.{Player}
 use Rattle.script.specs.declared.play.LinePlayed.{LinePlayed}
-use Rattle.script.specs.declared.reading.Reading.{Reading}
+use Rattle.script.specs.declared.asked.Reading.{Reading}
 use Rattle.script.specs.Reading.{Meant, named_by, meant_by}
 use Rattle.script.specs.Player.{Ends, ends_of, seat_at, wrote, played_at}
 use Rattle.script.specs.Play.{filled, played, held_after, held_by, Remembers, Done}

@@ -15,7 +15,7 @@ use Rattle.text.specs.Kind.{shape_of}
 use Rattle.text.specs.Line.{said_of}
 use Rattle.std.specs.Prelude.{Option, Some}
 use Rattle.centre.specs.declared.call.Order.{Order}
-use Rattle.script.specs.declared.reading.Asked.{Asked}
+use Rattle.script.specs.declared.asked.Asked.{Asked}
 use Rattle.script.specs.Reading.{u8, u16, u32, asked_by, name_of, meant, meant_by}
 
 -- the entities, one behind another
@@ -64,8 +64,8 @@ module _ (ns : List ℕ) (count : ℕ) where
   asked_taken Passed h = refl
   asked_taken Bad h = refl
 
-pub reading_means : (line : Line) (asked : Option Asked) (entities : List ℕ) (more : ℕ) → asked ≡ asked_by line.kind line.numbers → entities ≡ map u16 (drop 3 line.numbers) → more ≡ line.count - 3 → (shape_of line.kind).asked ≤ line.count → (buffer : List ℕ) → meant_by (record { kind = line.kind; near = line.near; asked = asked; entities = entities; more = more; bytes = line.bytes; room = line.room }) buffer ≡ meant (said_of line buffer)
-reading_means line asked entities more a e m h buffer =
+pub reading_means : (line : Line) (asked : Option Asked) (entities : List ℕ) (more : ℕ) (fits : more ≤ length entities) → asked ≡ asked_by line.kind line.numbers → entities ≡ map u16 (drop 3 line.numbers) → more ≡ line.count - 3 → (shape_of line.kind).asked ≤ line.count → (buffer : List ℕ) → meant_by (record { kind = line.kind; near = line.near; asked = asked; entities = entities; more = more; bytes = line.bytes; room = line.room; more_in_bounds = fits }) buffer ≡ meant (said_of line buffer)
+reading_means line asked entities more fits a e m h buffer =
     let named = a ∙ asked_taken line.numbers line.count line.kind h in
     let represented : take more entities ≡ map u16 (drop 3 (take line.count line.numbers)) = (λ t. take (m t) (e t)) ∙ meant_behind u16 3 line.count line.numbers in
     λ t. record { kind = line.kind; near = line.near; named = name_of (named t) (represented t) (take line.bytes buffer); room = line.room }

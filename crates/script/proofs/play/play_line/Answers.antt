@@ -19,7 +19,7 @@ slice_bounds-play_reading-end-3 c = sym (length-take-le _ _ (omega (arith, c.rea
 pub play_reading-requires : goal.play_reading-requires
 play_reading-requires c =
     let size : length (take c.reading_of-reading.result.room c.filled-line.result) ≡ c.reading_of-reading.result.room = length-take-le _ _ (omega (arith, c.reading_of-reading.ensures.sizes, c.read_line.ensures.bounds.room, c.filled-line.ensures.size)) in
-    record { more_in_bounds = c.reading_of-reading.ensures.entities; line_len_bound = omega (arith, size, c.reading_of-reading.ensures.sizes, c.read_line.ensures.bounds.room) }
+    omega (arith, size, c.reading_of-reading.ensures.sizes, c.read_line.ensures.bounds.room)
 
 pub shape_of-bytes : goal.shape_of-bytes
 shape_of-bytes c = c.read_line.auto.bytes

@@ -2,7 +2,7 @@
 use Rattle.std.proofs.Common.{Some, ap, sym, ◌∙◌}
 use Rattle.text.specs.declared.kind.Kind.{Kind}
 use Rattle.centre.specs.declared.call.Order.{Order}
-use Rattle.script.specs.declared.reading.Asked.{Asked}
+use Rattle.script.specs.declared.asked.Asked.{Asked}
 use Rattle.script.specs.Reading.{asked_by}
 use Rattle.script.proofs.reading.asked_by.Goals as goal
 

@@ -11,4 +11,4 @@ returns c =
     let line = c.args.line in
     let entities = c.entities_of.ensures in
     let size = ap length entities ∙ length-map (drop 3 line.numbers) u16 ∙ length-drop 3 line.numbers in
-    record { meaning = reading_means line _ _ _ c.asked_by.ensures entities c.saturating_sub.ensures c.requires.kind_bound; entities = omega (arith, size, c.saturating_sub.ensures, c.requires); sizes = (refl, refl) }
+    record { meaning = reading_means line _ _ _ (omega (arith, size, c.saturating_sub.ensures, c.requires)) c.asked_by.ensures entities c.saturating_sub.ensures c.requires.kind_bound; sizes = (refl, refl) }

@@ -16,7 +16,7 @@ pub returns-in_default : goal.returns-in_default
 unfolding bytes_from
 returns-in_default c =
     let most = length c.args.bytes.now in
-    let held = recalled c.args.memory c.args.wire.now in
+    let held = recalled c.args.kept.memory c.args.kept.wire.now in
     let ws = words c.args.line.now in record {
       got = ap (λ (s : Option Source). fitting most (bytes_from held s ws)) c.in_default.is ∙ fitting_fits most [] (omega arith);
       rest = sym (ap (λ (s : Option Source). drop (words_of s) ws) c.in_default.is);
@@ -27,28 +27,28 @@ pub returns-in_err-word : goal.returns-in_err-word
 unfolding fitting
 returns-in_err-word c =
     let most = length c.args.bytes.now in
-    let held = recalled c.args.memory c.args.wire.now in
+    let held = recalled c.args.kept.memory c.args.kept.wire.now in
     let none = (λ t. fitting most (bytes_from held (c.in-Some.is t) (c.in_err-word.ensures t))) ∙ ap (fitting most) (no_bytes held c.in-Some.source) in
     subst (λ (r : Option Data). DataRead held most c.args.source (words c.args.line.now) c.args.bytes.now r) (sym c.from_residual.ensures) none
 
 pub returns-in_err-count-in-Hex : goal.returns-in_err-count-in-Hex
 returns-in_err-count-in-Hex c =
     let most = length c.args.bytes.now in
-    let held = recalled c.args.memory c.args.wire.now in
+    let held = recalled c.args.kept.memory c.args.kept.wire.now in
     let bytes = hex_in held (words c.args.line.now) _ _ c.args.source c.in_ok-word.ensures (c.in-Some.is ∙ ap (λ (s : Source). Some s) c.in-Hex.is) in
     subst (λ (r : Option Data). DataRead held most c.args.source (words c.args.line.now) c.read_hex.new.bytes r) (sym c.from_residual-in_err-count-in-Hex.ensures) (ap (fitting most) bytes ∙ sym c.in_err-count-in-Hex.ensures.read)
 
 pub returns-in_err-count-in-HexOrWritten : goal.returns-in_err-count-in-HexOrWritten
 returns-in_err-count-in-HexOrWritten c =
     let most = length c.args.bytes.now in
-    let held = recalled c.args.memory c.args.wire.now in
+    let held = recalled c.args.kept.memory c.args.kept.wire.now in
     let bytes = written_in held (words c.args.line.now) _ _ c.args.source c.in_ok-word.ensures (c.in-Some.is ∙ ap (λ (s : Source). Some s) c.in-HexOrWritten.is) in
     subst (λ (r : Option Data). DataRead held most c.args.source (words c.args.line.now) c.read_word.new.bytes r) (sym c.from_residual-in_err-count-in-HexOrWritten.ensures) (ap (fitting most) bytes ∙ sym c.in_err-count-in-HexOrWritten.ensures.read)
 
 pub returns : goal.returns
 returns c =
     let most = length c.args.bytes.now in
-    let held = recalled c.args.memory c.args.wire.now in
+    let held = recalled c.args.kept.memory c.args.kept.wire.now in
     let ws = words c.args.line.now in
     let rest = words_behind held ws _ _ c.args.source c.in_ok-word.ensures c.in-Some.source c.in-Some.is in
     elim c.match-source-2.branch [

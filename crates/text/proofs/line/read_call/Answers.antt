@@ -10,14 +10,14 @@ use Rattle.text.proofs.line.read_call.Goals as goal
 
 pub returns-in_err-near : goal.returns-in_err-near
 returns-in_err-near c =
-    let held = recalled c.args.memory c.args.wire.now in
+    let held = recalled c.args.kept.memory c.args.kept.wire.now in
     let most = length c.args.bytes.now in
     let ws = words c.args.line.now in
     subst (λ (r : Option Line). CallRead held most c.args.kind ws c.args.bytes.now r) (sym c.from_residual.ensures) (no_end held most c.args.kind ws c.in_err-near.ensures)
 
 pub returns-in_err-parts : goal.returns-in_err-parts
 returns-in_err-parts c =
-    let held = recalled c.args.memory c.args.wire.now in
+    let held = recalled c.args.kept.memory c.args.kept.wire.now in
     let most = length c.args.bytes.now in
     let s = c.shape_of-shape.result in
     let ws = words c.args.line.now in
@@ -25,7 +25,7 @@ returns-in_err-parts c =
 
 pub returns-then-room : goal.returns-then-room
 returns-then-room c =
-    let held = recalled c.args.memory c.args.wire.now in
+    let held = recalled c.args.kept.memory c.args.kept.wire.now in
     let most = length c.args.bytes.now in
     let s = c.shape_of-shape.result in
     let ws = words c.args.line.now in
@@ -33,7 +33,7 @@ returns-then-room c =
 
 pub returns : goal.returns
 returns c =
-    let held = recalled c.args.memory c.args.wire.now in
+    let held = recalled c.args.kept.memory c.args.kept.wire.now in
     let most = length c.args.bytes.now in
     let s = c.shape_of-shape.result in
     let ws = words c.args.line.now in

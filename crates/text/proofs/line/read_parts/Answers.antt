@@ -11,7 +11,7 @@ use Rattle.text.proofs.line.read_parts.Goals as goal
 
 pub returns-in_err-asked : goal.returns-in_err-asked
 returns-in_err-asked c =
-    let held = recalled c.args.memory c.args.wire.now in
+    let held = recalled c.args.kept.memory c.args.kept.wire.now in
     let most = length c.args.bytes.now in
     let s = c.args.shape in
     let ws = words c.args.line.now in
@@ -19,7 +19,7 @@ returns-in_err-asked c =
 
 pub returns-then-asked-shape : goal.returns-then-asked-shape
 returns-then-asked-shape c =
-    let held = recalled c.args.memory c.args.wire.now in
+    let held = recalled c.args.kept.memory c.args.kept.wire.now in
     let most = length c.args.bytes.now in
     let s = c.args.shape in
     let ws = words c.args.line.now in
@@ -27,7 +27,7 @@ returns-then-asked-shape c =
 
 pub returns-in_err-data : goal.returns-in_err-data
 returns-in_err-data c =
-    let held = recalled c.args.memory c.args.wire.now in
+    let held = recalled c.args.kept.memory c.args.kept.wire.now in
     let most = length c.args.bytes.now in
     let s = c.args.shape in
     let ws = words c.args.line.now in
@@ -35,7 +35,7 @@ returns-in_err-data c =
 
 pub returns-in_err-more : goal.returns-in_err-more
 returns-in_err-more c =
-    let held = recalled c.args.memory c.args.wire.now in
+    let held = recalled c.args.kept.memory c.args.kept.wire.now in
     let most = length c.args.bytes.now in
     let s = c.args.shape in
     let ws = words c.args.line.now in
@@ -43,7 +43,7 @@ returns-in_err-more c =
 
 pub returns-then-is_some : goal.returns-then-is_some
 returns-then-is_some c =
-    let held = recalled c.args.memory c.args.wire.now in
+    let held = recalled c.args.kept.memory c.args.kept.wire.now in
     let most = length c.args.bytes.now in
     let s = c.args.shape in
     let ws = words c.args.line.now in
@@ -52,7 +52,7 @@ returns-then-is_some c =
 
 pub returns : goal.returns
 returns c =
-    let held = recalled c.args.memory c.args.wire.now in
+    let held = recalled c.args.kept.memory c.args.kept.wire.now in
     let most = length c.args.bytes.now in
     let s = c.args.shape in
     let ws = words c.args.line.now in

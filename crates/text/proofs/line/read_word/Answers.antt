@@ -12,7 +12,7 @@ use Rattle.text.proofs.line.read_word.Goals as goal
 pub returns-in-64-clause-read : goal.returns-in-64-clause-read
 returns-in-64-clause-read c =
     let w = c.args.word.now in
-    let held = recalled c.args.memory c.args.wire.now in
+    let held = recalled c.args.kept.memory c.args.kept.wire.now in
     let most = length c.args.bytes.now in
     let here : is_at w ≡ true = eq-eqb (get_or w 0 0) 64 (search rules) in
     c.read_written.ensures.read ∙ ap (λ (l : List ℕ). fitting most (written_under held l)) (part_tail 1 w) ∙ sym (ap (fitting most) (written_is held w here))
@@ -21,4 +21,4 @@ pub returns-in_default-clause-read : goal.returns-in_default-clause-read
 returns-in_default-clause-read c =
     let word = c.args.word.now in
     let other : is_at word ≡ false = elim c.in_default.branch [ in_default-via-then-word-lt1 w ↦ at_none word (let h : length word < 1 = search rules in omega (arith, h)) | in_default-via-else-word-lt1+in_default-1 w ↦ ne_eqb (get_or word 0 0) 64 (search rules) ] in
-    c.read_hex.ensures.read ∙ sym (ap (fitting (length c.args.bytes.now)) (hex_is (recalled c.args.memory c.args.wire.now) word other))
+    c.read_hex.ensures.read ∙ sym (ap (fitting (length c.args.bytes.now)) (hex_is (recalled c.args.kept.memory c.args.kept.wire.now) word other))

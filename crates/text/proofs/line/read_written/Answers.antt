@@ -12,4 +12,4 @@ returns-in_err-read_number-clause-read c =
     let w = c.args.word.now in
     let no = told_none (is_number w) (decimal w) c.in_err-read_number.ensures in
     ap (λ (r : Option ℕ). got_of r c.args.bytes.now) c.from_residual.ensures
-    ∙ sym (ap (λ (b : Bool). fitting (length c.args.bytes.now) (cond {A = Got} b (recalled c.args.memory c.args.wire.now (decimal w)) None)) no)
+    ∙ sym (ap (λ (b : Bool). fitting (length c.args.bytes.now) (cond {A = Got} b (recalled c.args.kept.memory c.args.kept.wire.now (decimal w)) None)) no)
