@@ -59,6 +59,7 @@ pub fn lot_total_sequence(ended: bool, number: u16, lot: Option<u16>, running: R
     )
 }
 
+// The same as for a header, and yet a definition of its own (session/specs/Sequence).
 pub fn session_total_sequence(ended: bool, lot: Option<u16>) -> Code
     ensures { code_number result ≡ session_total_sequence ended lot }
 {

@@ -1,5 +1,6 @@
 // A centre, as it stands between two calls.
-ghost use Rattle.centre.specs.Premise.{IsReady, IsReady-prop};
+ghost use Rattle.centre.specs.Premise.{IsReady};
+ghost use Rattle.centre.specs.Inner.Premise.{ready_props};
 
 use session::running::{Running, empty};
 use session::session::Session;
@@ -10,7 +11,7 @@ pub struct Centre {
     pub session: Session,
     pub presenting: Running,
     pub receiving: Running,
-    pub ghost ready: { IsReady session presenting receiving } by { IsReady-prop session presenting receiving },
+    pub ghost ready: { IsReady session presenting receiving } by { Prim.hlevel ready_props },
 }
 
 impl Centre {

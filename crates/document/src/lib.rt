@@ -1,5 +1,5 @@
 // One document of 51 bytes (01, 'Detail'): whether its fields and its amounts are good, whether its drawee is served, and
-// what it is worth. A document is handed over as a slice of exactly its bytes; fields are read at their places in it,
+// what it is worth. A document is handed over as an array of its bytes; fields are read at their places in it,
 // counted from 0. What the words mean stands in specs/, where the table of fields is.
 #![tactic(auto)]
 

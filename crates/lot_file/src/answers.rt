@@ -36,7 +36,7 @@ fn refusal_number(r: LotRefusal) -> u8
     r as u8
 }
 
-// The paper's number, 0 where nothing is refused.
+// The paper's number, 0 where nothing is refused; `codes` has the same over the refusals of a session.
 pub fn answer_number(a: Answer) -> u8
     ensures { result ≡ answer_number a }
 {

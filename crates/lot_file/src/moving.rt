@@ -29,7 +29,7 @@ fn close_rows(file: &mut [u8], place: usize, used: usize, start: usize)
     put_row(file, used - 1, unused);
 }
 
-// Closes the place of a row's lot, among so many used rows whose last body ends at `end`.
+// Closes the place of a row's lot, among so many used rows whose last body ends at `end`: the three numbers of `Closable`.
 pub fn close(file: &mut [u8], place: usize, used: usize, end: usize)
     requires { Closable place used end file.old }
     ensures { file.new ≡ closed place used end file.old }

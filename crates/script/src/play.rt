@@ -12,7 +12,7 @@ use crate::answer::{answer_bytes, put_answer, write_answer};
 use crate::asked::Reading;
 use crate::player::{Player, act};
 use crate::reading::reading_of;
-use crate::wording::{Head, least};
+use crate::wording::Head;
 use centre::end::Centre;
 use text::line::{LONGEST_LINE, MOST_ROOM, read_line};
 use text::wire::{Memory, next_number, remember};
@@ -90,7 +90,7 @@ fn answer_at(
     ensures sizes { (result.written ≤ length line.old) × (take result.written line.new ≡ wrote (named_by reading.asked reading bytes.now) line.old (seat_of seat)) }
 {
     let step = act(seat, reading, bytes, line);
-    let written = least(step.written, line.len());
+    let written = step.written.min(line.len());
     let number = written_number(memory, written);
     let head = put_answer(
         reading.kind,

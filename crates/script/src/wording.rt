@@ -1,5 +1,5 @@
 // The words of an answer, put one behind another into a small buffer.
-ghost use Rattle.std.specs.Prelude.{◌≡◌, ◌+◌, ◌≤◌, min, length};
+ghost use Rattle.std.specs.Prelude.{◌≡◌, ◌+◌, ◌≤◌, length};
 
 use amounts::difference::magnitude;
 use decimal::{put_decimal, put_number};
@@ -14,13 +14,6 @@ pub struct Head {
     pub bytes: [u8; HEAD_BYTES],
     pub at: usize,
     ghost within: { at ≤ 400 },
-}
-
-// The smaller of two.
-pub fn least(a: usize, b: usize) -> usize
-    ensures { (result ≤ a) × (result ≤ b) × (result ≡ min a b) }
-{
-    a.min(b)
 }
 
 impl Head {

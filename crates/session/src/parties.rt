@@ -34,7 +34,7 @@ fn real_date(date: u32) -> bool
     day_and_month(day as u16) & ((day != LEAP_DAY) | (date % 4 == 0))
 }
 
-// Whether a start may be made of these.
+// Whether a start may be made of these, which stay apart here and in `parties_of`: they are the parameters of `Session::start`.
 pub fn parties_good(date: u32, own: u16, partner: u16, represented: &[u16]) -> bool
     ensures { result ≡ parties_good date own partner represented.now }
 {

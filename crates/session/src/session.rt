@@ -43,8 +43,8 @@ pub struct Receiving {
 }
 
 // All that a centre keeps of an evening, but for the running totals of its open lots, which are lent with each call. What a call asks of
-// it, `Sound`, and of it with running totals, `Carried`, are predicates and no ghost fields: the second speaks of two values, and
-// every call gives both again (specs/Premise). `Centre`, above the calls, has them as its invariant.
+// it, `Sound`, and of it with running totals, `Carried`, are predicates with names and no ghost fields: they are the one premise of the
+// paper, shown as such in the contract of each call, and the second is of two values. `Centre`, above, has both as its invariant.
 #[derive(Clone, Copy)]
 pub struct Session {
     pub parties: Parties,

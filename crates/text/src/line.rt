@@ -52,9 +52,9 @@ fn no_call(kind: Kind) -> Line
     }
 }
 
-// Numbers that were read: how many, and the line behind them.
+// Numbers or bytes that were read: how many, and the line behind them.
 #[derive(Clone, Copy)]
-pub struct Numbers<'a> {
+pub struct Read<'a> {
     pub count: usize,
     pub rest: &'a [u8],
 }
@@ -65,19 +65,19 @@ fn read_numbers<'a>(
     most: usize,
     numbers: &mut [u64; MOST_NUMBERS],
     first: usize,
-) -> Option<Numbers<'a>>
+) -> Option<Read<'a>>
     requires { first + most ≤ 19 }
     ensures { NumbersRead (words line.now) most first numbers.old numbers.new result }
 {
     let mut rest = line;
     for count in 0..most {
         let Some(next) = next_word(rest) else {
-            return Some(Numbers { count, rest });
+            return Some(Read { count, rest });
         };
         numbers[first + count] = read_number(next.word)?;
         rest = next.rest;
     }
-    Some(Numbers { count: most, rest })
+    Some(Read { count: most, rest })
 }
 
 // What was written before: the memory, and the bytes that it keeps.
@@ -106,24 +106,17 @@ fn read_word(word: &[u8], kept: Kept, bytes: &mut [u8]) -> Option<usize>
     }
 }
 
-// How many bytes a line has, and the line behind them.
-#[derive(Clone, Copy)]
-pub struct Data<'a> {
-    pub count: usize,
-    pub rest: &'a [u8],
-}
-
 // The bytes of a line, if its kind has some.
 fn read_bytes<'a>(
     source: Option<Source>,
     line: &'a [u8],
     kept: Kept,
     bytes: &mut [u8],
-) -> Option<Data<'a>>
+) -> Option<Read<'a>>
     ensures { DataRead (recalled kept.entry.memory kept.entry.wire.now) (length bytes.old) source (words line.now) bytes.new result }
 {
     let Some(source) = source else {
-        return Some(Data {
+        return Some(Read {
             count: 0,
             rest: line,
         });
@@ -133,7 +126,7 @@ fn read_bytes<'a>(
         Source::Hex => read_hex(word, bytes)?,
         Source::HexOrWritten => read_word(word, kept, bytes)?,
     };
-    Some(Data { count, rest })
+    Some(Read { count, rest })
 }
 
 // What stands behind the end: all its numbers, an array with a count as in `Line`, and how many bytes it has.

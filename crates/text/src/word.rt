@@ -1,7 +1,7 @@
 // The words of a line: what stands between spaces.
 ghost use Rattle.std.specs.Prelude.{◌≡◌, ◌+◌, ◌≤◌, length, drop};
 ghost use Rattle.text.specs.Inner.Within.{Within};
-ghost use Rattle.text.specs.Word.{equal_bytes, before, is, words};
+ghost use Rattle.text.specs.Word.{equal_bytes, before, is, words, NextWord};
 ghost use Rattle.text.specs.Inner.Word.{words_from};
 
 // A word, and the line behind it.
@@ -25,7 +25,8 @@ pub fn find_byte(text: &[u8], at: usize, byte: u8) -> usize
 
 // The next word of a line, if it has one.
 pub fn next_word(line: &[u8]) -> Option<Split<'_>>
-    ensures { words line.now ≡ words_from result }
+    ensures place { NextWord line.now result }
+    ensures words { words line.now ≡ words_from result }
 {
     let from = line.iter().position(|b| *b != b' ')?;
     let to = find_byte(line, from, b' ');

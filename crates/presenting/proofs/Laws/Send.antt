@@ -18,15 +18,13 @@ use Rattle.codes.proofs.Laws.Chain.{joins, rest_same}
 use Rattle.message.specs.declared.envelope.Kind.{Kind}
 use Rattle.message.specs.Limits.{envelope_bytes, largest_serial}
 use Rattle.message.specs.Envelope.{envelope_fields, written_envelope}
-use Rattle.message.specs.Line.{Body, layout_of, body_bytes, whole_message}
+use Rattle.message.specs.Line.{whole_message}
 use Rattle.message.proofs.Laws.Buffer.{both_written}
 use Rattle.message.proofs.Laws.Envelope.{whole_length}
-use Rattle.message.proofs.Laws.Line.{body_length}
 use Rattle.session.specs.declared.effect.Effect.{Effect}
 use Rattle.session.specs.declared.session.Session.{Session}
-use Rattle.session.specs.Parties.{presenting_route, Direction}
+use Rattle.session.specs.Parties.{Direction}
 use Rattle.session.specs.declared.running.Running.{Running}
-use Rattle.session.specs.Running.{empty}
 use Rattle.session.specs.Outcome.{Held, Outcome, no_room, held}
 use Rattle.session.specs.Time.{time_refusal}
 use Rattle.session.specs.Sending.{is_pending, next_envelope, send_refusal, sent, posted, send, Send, send_stop, sent_effect, sent_body, send_message}
@@ -76,23 +74,31 @@ whole_of x = whole_message (next_envelope x.lent.session) (body_in x)
 abbrev pub meant : Sending → Outcome
 meant x = send_message x.time x.message x.lent
 
--- messages of a fixed length
-pub fixed_size : (s : Session) (x : Body) → envelope_bytes + (layout_of (presenting_route s.parties) x).bytes ≡ length (whole_message (next_envelope s) (body_bytes (presenting_route s.parties) x))
-fixed_size s x = sym (whole_length Kind.Message (next_envelope s) (body_bytes (presenting_route s.parties) x) ∙ ap (λ (n : ℕ). envelope_bytes + n) (body_length (presenting_route s.parties) x))
-
--- it was begun with its own code, and where that does not stop it with its length and its effect
-pub record Beginning (x : Sending) (first : List ℕ) (o : SendOutcome) : Type 0 where
+-- it was begun with its own code, and where that does not stop it with the length of its body, this one, and its effect
+pub record Beginning (x : Sending) (size : ℕ) (first : List ℕ) (o : SendOutcome) : Type 0 where
   pub code : ℕ
-  pub bytes : ℕ
   pub effect : Effect
-  pub begun : Begun x.time code bytes effect x.lent.session x.lent.line first o
+  pub begun : Begun x.time code (envelope_bytes + size) effect x.lent.session x.lent.line first o
   pub same : code ≡ code_of x
-  pub size : code_of x ≡ 0 → bytes ≡ length (whole_of x)
+  pub body : code_of x ≡ 0 → size ≡ length (body_in x)
   pub awaits : code_of x ≡ 0 → effect ≡ sent_effect x.message x.lent
 
-module _ (x : Sending) (first : List ℕ) (o : SendOutcome) (b : Beginning x first o) where
+-- what is lent for the body: the line buffer behind the envelope
+abbrev rest_of : List ℕ → List ℕ
+rest_of first = mid_of envelope_bytes (length first - envelope_bytes) first
+
+-- and there is room for it
+pub record Opened (x : Sending) (size : ℕ) (first : List ℕ) : Type 0 where
+  pub tail : envelope_bytes ≤ length first
+  pub fits : length (body_in x) ≤ length (rest_of first)
+  pub room : size ≤ length (rest_of first)
+
+module _ (x : Sending) (size : ℕ) (first : List ℕ) (o : SendOutcome) (b : Beginning x size first o) where
   abbrev s : Session
   s = x.lent.session
+
+  abbrev bytes : ℕ
+  bytes = envelope_bytes + size
 
   abbrev refusal : ℕ
   refusal = send_refusal x.time (code_of x) (length (whole_of x)) (length x.lent.line) s
@@ -100,17 +106,20 @@ module _ (x : Sending) (first : List ℕ) (o : SendOutcome) (b : Beginning x fir
   abbrev done : Outcome
   done = posted x.time (sent_effect x.message x.lent) (body_in x) x.lent
 
+  whole : code_of x ≡ 0 → bytes ≡ length (whole_of x)
+  whole e = ap (λ (n : ℕ). envelope_bytes + n) (b.body e) ∙ sym (whole_length Kind.Message (next_envelope s) (body_in x))
+
   chain : send_number o.answer ≡ refusal
   chain =
       b.begun.number
-      ∙ ap (λ (n : ℕ). send_refusal x.time n b.bytes (length x.lent.line) s) b.same
-      ∙ refusal_same x.time (code_of x) b.bytes (length (whole_of x)) (length x.lent.line) s b.size
+      ∙ ap (λ (n : ℕ). send_refusal x.time n bytes (length x.lent.line) s) b.same
+      ∙ refusal_same x.time (code_of x) bytes (length (whole_of x)) (length x.lent.line) s whole
 
   -- something stops it, and all is left
-  pub unposted : unstopped o.answer ≡ false → send_said o x.lent.running first ≡ meant x
+  unposted : unstopped o.answer ≡ false → send_said o x.lent.running first ≡ meant x
   unfolding send_message send
   unposted h =
-      (λ i. record { number = send_number o.answer; written = (b.begun.written ∙ ap (λ (t : Bool). cond t b.bytes 0) h) i; left = held ((b.begun.session ∙ ap (λ (t : Bool). cond t (sent x.time b.effect s) s) h) i) x.lent.running ((b.begun.envelope ∙ ap (λ (t : Bool). cond t (sets x.lent.line 0 (written_envelope Kind.Message (next_envelope s))) x.lent.line) h) i) })
+      (λ i. record { number = send_number o.answer; written = (b.begun.written ∙ ap (λ (t : Bool). cond t bytes 0) h) i; left = held ((b.begun.session ∙ ap (λ (t : Bool). cond t (sent x.time b.effect s) s) h) i) x.lent.running ((b.begun.envelope ∙ ap (λ (t : Bool). cond t (sets x.lent.line 0 (written_envelope Kind.Message (next_envelope s))) x.lent.line) h) i) })
       ∙ said_refused (send_number o.answer) refusal x.lent done chain (λ (e : send_number o.answer ≡ 0). false≢true (sym h ∙ eq-eqb (send_number o.answer) 0 e))
 
   -- nothing stops it: there is room, and once the envelope is written the rest of the line is lent for the body
@@ -130,28 +139,65 @@ module _ (x : Sending) (first : List ℕ) (o : SendOutcome) (b : Beginning x fir
     same_room : length first ≡ length x.lent.line
     same_room = ap length written_first ∙ length-sets x.lent.line 0 (written_envelope Kind.Message (next_envelope s))
 
-    abbrev rest : List ℕ
-    rest = mid_of envelope_bytes (length first - envelope_bytes) first
+    open_line : Opened x size first
+    open_line =
+        let left = ap length (part_tail envelope_bytes first) ∙ length-drop envelope_bytes first in
+        record {
+          tail = omega (arith, room, same_room);
+          fits = omega (arith, room, same_room, left);
+          room = omega (arith, room, same_room, left, b.body told.unstopped);
+        }
 
-    pub tail : envelope_bytes ≤ length first
-    tail = omega (arith, room, same_room)
-
-    pub rest_room : length (body_in x) ≤ length rest
-    rest_room = omega (arith, room, same_room, ap length (part_tail envelope_bytes first) ∙ length-drop envelope_bytes first)
-
-    pub posted_so : (after : List ℕ) → after ≡ sets rest 0 (body_in x) → send_said o x.lent.running (put_mid envelope_bytes (length first - envelope_bytes) first after) ≡ meant x
+    posted_so : (after : List ℕ) → after ≡ sets (rest_of first) 0 (body_in x) → send_said o x.lent.running (put_mid envelope_bytes (length first - envelope_bytes) first after) ≡ meant x
     unfolding send_message send table_written envelope_fields packed_bytes
     posted_so after body =
-        let all = b.begun.written ∙ ap (λ (t : Bool). cond t b.bytes 0) h ∙ b.size told.unstopped in
+        let all = b.begun.written ∙ ap (λ (t : Bool). cond t bytes 0) h ∙ whole told.unstopped in
         let next = b.begun.session ∙ (λ i. cond (h i) (sent x.time (b.awaits told.unstopped i) s) s) in
         let line = both_written x.lent.line first after (written_envelope Kind.Message (next_envelope s)) (body_in x) envelope_bytes refl room written_first body in
         (λ i. record { number = e i; written = all i; left = held (next i) x.lent.running (line i) }) ∙ said_done (send_number o.answer) refusal x.lent done chain e
 
--- What is said as meant keeps the premise of its direction.
-pub kept_said : (x : Sending) (o : SendOutcome) (after : List ℕ) → Sound x.lent.session → Carried Direction.presenting x.lent.session x.lent.running → send_said o x.lent.running after ≡ meant x → (send_said o x.lent.running after ≡ meant x) × KeptBeside Direction.presenting x.lent.session o.session x.lent.running
-unfolding meaning
-kept_said x o after sound carried whole = (whole, so_kept_beside x.lent.session _ _ whole Direction.presenting (kept_beside (Call.send x.time x.message) x.lent (record { sound = sound; carried = carried })))
+-- A send that is lent running totals: what is said is what is meant, and the premise of its direction is kept.
+abbrev Told : Sending → SendOutcome → List ℕ → Type 0
+Told x o after = (send_said o x.lent.running after ≡ meant x) × KeptBeside Direction.presenting x.lent.session o.session x.lent.running
 
--- and beside any running totals that of both, where its effect asks nothing of them
-pub kept_unlent : (x : Running → Sending) (o : SendOutcome) (after : List ℕ) → let y = x empty in (code_of y ≡ 0 → PendingSound (sent_effect y.message y.lent) y.lent.session.presenting.counters) → ((t : Running) → PendingCarried (sent_effect y.message y.lent) t) → Sound y.lent.session → ((u : Running) → send_said o u after ≡ meant (x u)) → ((u : Running) → send_said o u after ≡ meant (x u)) × Kept y.lent.session o.session
-kept_unlent x o after sound carried g whole = let y = x empty in (whole, so_kept y.lent.session _ _ (whole empty) (sends_kept y.time y.message y.lent sound carried g))
+-- What follows from a beginning and the test that the code makes of its answer.
+module _ {x : Sending} {size : ℕ} {first : List ℕ} {o : SendOutcome} {goes : Bool} (b : Beginning x size first o) (asked : goes ≡ unstopped o.answer) where
+  pub opened : goes ≡ true → Opened x size first
+  opened h = open_line x size first o b (sym asked ∙ h)
+
+  module _ (sound : Sound x.lent.session) (carried : Carried Direction.presenting x.lent.session x.lent.running) where
+    kept_said : (after : List ℕ) → send_said o x.lent.running after ≡ meant x → Told x o after
+    unfolding meaning
+    kept_said after all = (all, so_kept_beside x.lent.session _ _ all Direction.presenting (kept_beside (Call.send x.time x.message) x.lent (record { sound = sound; carried = carried })))
+
+    pub stopped_told : goes ≡ false → Told x o first
+    stopped_told h = kept_said first (unposted x size first o b (sym asked ∙ h))
+
+    pub posted_told : {after body : List ℕ} → goes ≡ true → body ≡ body_in x → after ≡ sets (rest_of first) 0 body → Told x o (put_mid envelope_bytes (length first - envelope_bytes) first after)
+    posted_told {after} h same put = kept_said _ (posted_so x size first o b (sym asked ∙ h) after (put ∙ ap (λ (l : List ℕ). sets (rest_of first) 0 l) same))
+
+-- A send that is lent none: the same beside any running totals, where its effect asks nothing of them, and the premise of both directions is kept.
+abbrev pub beside : Sending → Running → Sending
+beside x u = record { time = x.time; message = x.message; lent = held x.lent.session u x.lent.line }
+
+abbrev UnlentTold : Sending → SendOutcome → List ℕ → Type 0
+UnlentTold x o after = ((u : Running) → send_said o u after ≡ meant (beside x u)) × Kept x.lent.session o.session
+
+pub record Unlent (x : Sending) (size : ℕ) (first : List ℕ) (o : SendOutcome) : Type 0 where
+  pub each : (u : Running) → Beginning (beside x u) size first o
+  pub sound : code_of x ≡ 0 → PendingSound (sent_effect x.message x.lent) x.lent.session.presenting.counters
+  pub carried : (u : Running) → PendingCarried (sent_effect x.message x.lent) u
+
+module _ {x : Sending} {size : ℕ} {first : List ℕ} {o : SendOutcome} {goes : Bool} (b : Unlent x size first o) (asked : goes ≡ unstopped o.answer) where
+  pub opened_unlent : goes ≡ true → Opened x size first
+  opened_unlent h = open_line x size first o (b.each x.lent.running) (sym asked ∙ h)
+
+  module _ (sound : Sound x.lent.session) where
+    kept_unlent : (after : List ℕ) → ((u : Running) → send_said o u after ≡ meant (beside x u)) → UnlentTold x o after
+    kept_unlent after all = (all, so_kept x.lent.session _ _ (all x.lent.running) (sends_kept x.time x.message x.lent b.sound b.carried sound))
+
+    pub stopped_unlent : goes ≡ false → UnlentTold x o first
+    stopped_unlent h = kept_unlent first (λ (u : Running). unposted (beside x u) size first o (b.each u) (sym asked ∙ h))
+
+    pub posted_unlent : {after body : List ℕ} → goes ≡ true → ((u : Running) → body ≡ body_in (beside x u)) → after ≡ sets (rest_of first) 0 body → UnlentTold x o (put_mid envelope_bytes (length first - envelope_bytes) first after)
+    posted_unlent {after} h same put = kept_unlent _ (λ (u : Running). posted_so (beside x u) size first o (b.each u) (sym asked ∙ h) after (put ∙ ap (λ (l : List ℕ). sets (rest_of first) 0 l) (same u)))

@@ -1,14 +1,11 @@
 -- A line that was played, and the output behind its answer.
-use mathlib.Core.Path.{◌≡◌, refl, sym, subst, ap, ◌∙◌}
-use mathlib.Core.Bool.{Bool, true, false}
+use mathlib.Core.Path.{◌≡◌, sym, subst, ap, ◌∙◌}
 use mathlib.Core.List.{List, [], ◌++◌, append-nil}
-use Prim.Native.Nat.{ℕ, ◌+◌, ◌-◌, ◌≤◌, ◌<◌, ◌^◌, min}
+use Prim.Native.Nat.{ℕ, ◌+◌, ◌-◌, ◌≤◌, ◌<◌, ◌^◌}
 use native.Mathlib.Omega.{arith}
 use borrow.Rule.Slice.PartMut.{mid_of, put_mid}
-use borrow.Author.Tests.{leb-true, leb-false}
-use lib.Dec.{leb}
 use lib.ListN.{length, take, drop, length-drop}
-use lib.Seq.{take_all, drop-length, drop-drop, drop-append_seam, length-take-le}
+use lib.Seq.{drop-length, drop-drop, drop-append_seam, length-take-le}
 use Rattle.std.specs.Prelude.{Option, Some, None}
 use Rattle.packed.proofs.Laws.Part.{part_tail}
 use Rattle.text.specs.declared.wire.Memory.{Memory}
@@ -54,17 +51,6 @@ behind xs ys a next (Some r) h fits done =
 -- and behind more of it
 pub further : (xs ys : List ℕ) (a w : ℕ) → drop a xs ≡ drop a ys → drop (a + w) xs ≡ drop (a + w) ys
 further xs ys a w same = sym (drop-drop w a xs) ∙ ap (drop w) same ∙ drop-drop w a ys
-
--- of a list no more is taken than it has
-pub least_taken : (l : List ℕ) (n k : ℕ) → k ≡ min n (length l) → take k l ≡ take n l
-least_taken l n k e = go (leb n (length l)) refl
-  where
-    go : (b : Bool) → leb n (length l) ≡ b → take k l ≡ take n l
-    go true f = let same : k ≡ n = omega (arith, leb-true n (length l) f) in ap (λ (j : ℕ). take j l) same
-    go false f =
-        let less = leb-false n (length l) f in
-        let all : k ≡ length l = omega arith in
-        ap (λ (j : ℕ). take j l) all ∙ take_all (length l) l (omega arith) ∙ sym (take_all n l (omega arith))
 
 -- a line that was played and what is remembered, by what it means
 pub remembers_told : (player : Player) (reading : Reading) (m : Meant) (buffer fill wire wire' : List ℕ) (lent : ℕ) (r : Option LinePlayed) → meant_by reading buffer ≡ m → fill ≡ filled → Remembers player (held_after player.memory (wrote (named_by reading.asked reading (take reading.bytes buffer)) (take reading.room fill) (seat_at reading.near (ends_of player))) lent) wire wire' r → Remembers player (held_by player m lent) wire wire' r

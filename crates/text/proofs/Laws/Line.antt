@@ -16,8 +16,7 @@ use Rattle.packed.proofs.Laws.Writing.{sets_behind, part_sets}
 use Rattle.text.specs.declared.kind.Kind.{Kind}
 use Rattle.text.specs.declared.kind.Kind.TheVariants.{Passed, Bad}
 use Rattle.text.specs.declared.kind.Shape.{Shape}
-use Rattle.text.specs.declared.line.Numbers.{Numbers}
-use Rattle.text.specs.declared.line.Data.{Data}
+use Rattle.text.specs.declared.line.Read.{Read}
 use Rattle.text.specs.declared.line.Parts.{Parts}
 use Rattle.text.specs.declared.line.End.{End}
 use Rattle.text.specs.Ascii.{ascii, byte}
@@ -193,7 +192,7 @@ module _ (held : ℕ → Got) (most : ℕ) (s : Shape) (ws : List (List ℕ)) wh
   pub no_asked : every is_number (take s.asked ws) ≡ false → is_whole held most s ws ≡ false
   no_asked e = whole_is false _ _ _ e refl refl refl
 
-  module _ (zeros n₁ : List ℕ) (first : Numbers) (one : AreNumbers ws s.asked 0 zeros n₁ first) where
+  module _ (zeros n₁ : List ℕ) (first : Read) (one : AreNumbers ws s.asked 0 zeros n₁ first) where
     pub too_few : first.count < s.asked → is_whole held most s ws ≡ false
     too_few h = whole_is true false _ _ one.good few refl refl
       where
@@ -210,7 +209,7 @@ module _ (held : ℕ → Got) (most : ℕ) (s : Shape) (ws : List (List ℕ)) wh
       pub no_data : fitting most (bytes_from held s.source (words first.rest.now)) ≡ None → is_whole held most s ws ≡ false
       no_data e = whole_is true true false _ one.good asked (ap is_some (sym bytes_lem ∙ e)) refl
 
-      module _ (buffer : List ℕ) (read : Data) (two : AreBytes held most s.source (words first.rest.now) buffer read) where
+      module _ (buffer : List ℕ) (read : Read) (two : AreBytes held most s.source (words first.rest.now) buffer read) where
         pub data_got : bytes_in held most s ws ≡ Some (take read.count buffer)
         data_got = sym bytes_lem ∙ two.got
 
@@ -223,7 +222,7 @@ module _ (held : ℕ → Got) (most : ℕ) (s : Shape) (ws : List (List ℕ)) wh
         pub no_more_asked : every is_number (take s.more (words read.rest.now)) ≡ false → is_whole held most s ws ≡ false
         no_more_asked e = by_more false (ap (λ (b : Bool). b && is_none (drop s.more (words read.rest.now))) e)
 
-        module _ (n₂ : List ℕ) (rest : Numbers) (three : AreNumbers (words read.rest.now) s.more s.asked n₁ n₂ rest) where
+        module _ (n₂ : List ℕ) (rest : Read) (three : AreNumbers (words read.rest.now) s.more s.asked n₁ n₂ rest) where
           pub parts_end : (b : Bool) → is_none (words rest.rest.now) ≡ b → is_whole held most s ws ≡ b
           parts_end b e = by_more b ((λ t. three.good t && is_none (sym three.rest t)) ∙ e)
 

@@ -7,8 +7,7 @@ use Rattle.text.specs.declared.kind.Kind.TheVariants.{Bad}
 use Rattle.text.specs.declared.kind.Source.{Source}
 use Rattle.text.specs.declared.kind.Shape.{Shape}
 use Rattle.text.specs.declared.line.Line.{Line}
-use Rattle.text.specs.declared.line.Numbers.{Numbers}
-use Rattle.text.specs.declared.line.Data.{Data}
+use Rattle.text.specs.declared.line.Read.{Read}
 use Rattle.text.specs.declared.line.Parts.{Parts}
 use Rattle.text.specs.declared.line.End.{End}
 use Rattle.text.specs.Ascii.{ascii}
@@ -28,7 +27,7 @@ pub record Bounded (most : ℕ) (r : Line) : Type 0 where
   pub room : r.room ≤ most_room
 
 -- so many words, which all are numbers, and the words behind them
-pub record AreNumbers (ws : List (List ℕ)) (most first : ℕ) (before after : List ℕ) (r : Numbers) : Type 0 where
+pub record AreNumbers (ws : List (List ℕ)) (most first : ℕ) (before after : List ℕ) (r : Read) : Type 0 where
   pub good : every is_number (take most ws) ≡ true
   pub count : r.count ≡ length (take most ws)
   pub rest : words r.rest.now ≡ drop most ws
@@ -36,18 +35,18 @@ pub record AreNumbers (ws : List (List ℕ)) (most first : ℕ) (before after : 
   pub size : length after ≡ length before
 
 -- the next words as numbers, at most so many, put one behind another from a place on; nothing where one is none
-abbrev pub NumbersRead : (ws : List (List ℕ)) (most first : ℕ) (before after : List ℕ) → Option Numbers → Type 0
+abbrev pub NumbersRead : (ws : List (List ℕ)) (most first : ℕ) (before after : List ℕ) → Option Read → Type 0
 NumbersRead ws most first before after None = every is_number (take most ws) ≡ false
 NumbersRead ws most first before after (Some r) = AreNumbers ws most first before after r
 
 -- bytes, and the words behind them
-pub record AreBytes (held : ℕ → Got) (most : ℕ) (source : Option Source) (ws : List (List ℕ)) (buffer : List ℕ) (r : Data) : Type 0 where
+pub record AreBytes (held : ℕ → Got) (most : ℕ) (source : Option Source) (ws : List (List ℕ)) (buffer : List ℕ) (r : Read) : Type 0 where
   pub got : fitting most (bytes_from held source ws) ≡ Some (take r.count buffer)
   pub rest : words r.rest.now ≡ drop (words_of source) ws
   pub bytes : r.count ≤ most
 
 -- the bytes of a line; nothing where it has none
-abbrev pub DataRead : (held : ℕ → Got) (most : ℕ) (source : Option Source) (ws : List (List ℕ)) (buffer : List ℕ) → Option Data → Type 0
+abbrev pub DataRead : (held : ℕ → Got) (most : ℕ) (source : Option Source) (ws : List (List ℕ)) (buffer : List ℕ) → Option Read → Type 0
 DataRead held most source ws buffer None = fitting most (bytes_from held source ws) ≡ None
 DataRead held most source ws buffer (Some r) = AreBytes held most source ws buffer r
 

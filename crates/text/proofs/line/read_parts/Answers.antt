@@ -47,7 +47,7 @@ returns-then-is_some c =
     let most = length c.args.bytes.now in
     let s = c.args.shape in
     let ws = words c.args.line.now in
-    let over = ap is_none c.next_word.ensures ∙ is_word c.next_word.result true (sym c.is_some.ensures ∙ c.if-is_some.true) in
+    let over = ap is_none c.next_word.ensures.words ∙ is_word c.next_word.result true (sym c.is_some.ensures ∙ c.if-is_some.true) in
     parts_end held most s ws _ _ c.in_ok-asked.asked c.in_ok-asked.ensures c.if-asked-shape.false _ c.in_ok-data.data c.in_ok-data.ensures _ c.in_ok-more.more c.in_ok-more.ensures false over
 
 pub returns : goal.returns
@@ -56,7 +56,7 @@ returns c =
     let most = length c.args.bytes.now in
     let s = c.args.shape in
     let ws = words c.args.line.now in
-    let over = ap is_none c.next_word.ensures ∙ is_word c.next_word.result false (sym c.is_some.ensures ∙ c.if-is_some.false) in
+    let over = ap is_none c.next_word.ensures.words ∙ is_word c.next_word.result false (sym c.is_some.ensures ∙ c.if-is_some.false) in
     let more = c.in_ok-more.ensures in
     let asked = c.in_ok-asked.ensures in record {
       good = parts_end held most s ws _ _ c.in_ok-asked.asked asked c.if-asked-shape.false _ c.in_ok-data.data c.in_ok-data.ensures _ c.in_ok-more.more more true over;
