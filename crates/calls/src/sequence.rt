@@ -12,7 +12,7 @@ use codes::chain::{or_else, when};
 use codes::code::Code;
 use session::running::{Running, documents_in};
 
-// Whether a lot is open.
+// Whether a lot is open: `is_some` under the name of the definition, as the next is `==`.
 fn is_open(lot: Option<u16>) -> bool
     ensures { result ≡ is_open lot }
 {

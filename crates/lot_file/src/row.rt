@@ -23,6 +23,7 @@ pub struct Row {
     pub documents: usize,
 }
 
+// The row that ten bytes are. A function and no `From`, which has no clauses for the two bounds; `bytes_of` is the way back.
 pub fn row_in(bytes: &RowBytes) -> Row
     ensures row { result ≡ row_in bytes.now }
     ensures start { result.start < 4294967296 }

@@ -1,19 +1,11 @@
--- `all_zero`: `all` is the test at every byte.
-use mathlib.Core.Path.{refl, ◌∙◌}
-use mathlib.Core.Bool.{Bool, ◌&&◌}
-use Prim.Native.Nat.{ℕ}
+-- `all_zero`: each byte is one more, and at the end none is left.
+use Rattle.std.proofs.Common.{ℕ, sym, ◌∙◌, arith}
 use lib.Dec.{eqb}
-use Rattle.std.proofs.Common.{rules, tests}
-use Rattle.std.specs.List.{list_all}
-use Rattle.std.proofs.lemmas.Iterator.{YieldsList-from_slice}
-use Rattle.std.proofs.lemmas.Iterator.Search.{all_from_yields_List}
-use Rattle.std.proofs.lemmas.List.Recursion.{same_from_clauses}
-use Rattle.packed.specs.Every.{every}
+use Rattle.packed.proofs.Laws.Every.{every_more, every_end}
 use Rattle.lot_file.proofs.contents.all_zero.Goals as goal
 
+pub loop-b-preserved : goal.loop-b-preserved
+loop-b-preserved c = every_more (λ (b : ℕ). eqb b 0) _ c.loop-b.b-index 0 c.loop-b.zero (omega arith) ∙ c.loop-b.invariant
+
 pub returns : goal.returns
-unfolding every
-returns c =
-    let zero = λ (b : ℕ). eqb b 0 in
-    all_from_yields_List zero _ _ _ c.all.ensures.ran (YieldsList-from_slice c.args.bytes.now cc) (λ x b q k. search (rules, tests))
-    ∙ same_from_clauses (list_all zero) (every zero) (λ (b : ℕ) (t : Bool). zero b && t) refl (λ _ _. refl) (λ _ _. refl) c.args.bytes.now
+returns c = sym (every_end (λ (b : ℕ). eqb b 0) _ c.loop-b.b-index c.loop-b.zero (omega arith)) ∙ c.loop-b.invariant
