@@ -45,11 +45,11 @@ pub fn clock(session: Session, time: u32) -> Called
     ensures premise { Kept session result.session }
 {
     let answer = clock_refusal(time, session.seen, session.close);
-    match answer {
-        Ok(_) => Called {
-            answer,
-            session: ticked(session, time),
-        },
-        Err(_) => Called { answer, session },
+    if let Err(_) = answer {
+        return Called { answer, session };
+    }
+    Called {
+        answer,
+        session: ticked(session, time),
     }
 }

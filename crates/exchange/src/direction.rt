@@ -15,20 +15,18 @@ use session::session::Session;
 const LAST_NUMBER: u16 = MOST_LOTS as u16;
 
 // Sends lots, numbered from 1, until one moves no cursor: the trays are empty, or its details were refused.
-fn send_lots(p: Progress, trays: Trays, lines: &mut Lines) -> Progress
-    requires { within trays.presentations.now trays.returns.now p.cursors ≡ true }
-    ensures outcome { standing_of result lines.new.message lines.new.reply ≡ lots_made trays.entry.presentations.now trays.entry.returns.now (standing_of p lines.old.message lines.old.reply) }
-    ensures within { within trays.entry.presentations.now trays.entry.returns.now result.cursors ≡ true }
+fn send_lots(p: &mut Progress, trays: Trays, lines: &mut Lines)
+    requires { within trays.presentations.now trays.returns.now p.old.cursors ≡ true }
+    ensures outcome { standing_of p.new lines.new.message lines.new.reply ≡ lots_made trays.entry.presentations.now trays.entry.returns.now (standing_of p.old lines.old.message lines.old.reply) }
+    ensures within { within trays.entry.presentations.now trays.entry.returns.now p.new.cursors ≡ true }
 {
-    let mut at = p;
     for number in 1..=LAST_NUMBER {
-        let before = at.cursors;
-        at = send_lot(at, number, trays, lines);
-        if before == at.cursors {
-            return at;
+        let before = p.cursors;
+        send_lot(p, number, trays, lines);
+        if before == p.cursors {
+            return;
         }
     }
-    at
 }
 
 // All that one end presents to the other: its lots, and the session total.
@@ -36,11 +34,12 @@ pub fn present(ends: Round, trays: Trays, lines: &mut Lines) -> Round
     requires { within trays.presentations.now trays.returns.now unmoved ≡ true }
     ensures { ends_of result lines.new.message lines.new.reply ≡ direction_made trays.entry.presentations.now trays.entry.returns.now (ends_of ends lines.old.message lines.old.reply) }
 {
-    let first = Progress {
+    let mut at = Progress {
         last: ends,
         cursors: Cursors::default(),
     };
-    let sent = send_lots(first, trays, lines);
+    send_lots(&mut at, trays, lines);
     let total = Order::SessionTotal(Session::OPENING);
-    one_more(sent.last, total, &[], lines)
+    one_more(&mut at.last, total, &[], lines);
+    at.last
 }

@@ -28,86 +28,78 @@ fn past_part(trays: Trays, cursors: Cursors, documents: usize, before: u64, afte
 }
 
 // Sends a part as a detail.
-fn send_part(p: Progress, trays: Trays, part: &[u8], lines: &mut Lines) -> Progress
-    requires within { within trays.presentations.now trays.returns.now p.cursors ≡ true }
-    requires moved { within trays.presentations.now trays.returns.now (moved trays.presentations.now (count_in part.now) p.cursors) ≡ true }
-    ensures outcome { standing_of result lines.new.message lines.new.reply ≡ part_sent trays.entry.presentations.now part.now (standing_of p lines.old.message lines.old.reply) }
-    ensures within { within trays.entry.presentations.now trays.entry.returns.now result.cursors ≡ true }
+fn send_part(p: &mut Progress, trays: Trays, part: &[u8], lines: &mut Lines)
+    requires within { within trays.presentations.now trays.returns.now p.old.cursors ≡ true }
+    requires moved { within trays.presentations.now trays.returns.now (moved trays.presentations.now (count_in part.now) p.old.cursors) ≡ true }
+    ensures outcome { standing_of p.new lines.new.message lines.new.reply ≡ part_sent trays.entry.presentations.now part.now (standing_of p.old lines.old.message lines.old.reply) }
+    ensures within { within trays.entry.presentations.now trays.entry.returns.now p.new.cursors ≡ true }
 {
     let before = documents_in(p.last.presenter.presenting);
     let order = Order::Detail(Session::OPENING, operation(trays.presentations, p.cursors));
-    let last = one_more(p.last, order, part, lines);
-    let after = documents_in(last.presenter.presenting);
+    one_more(&mut p.last, order, part, lines);
+    let after = documents_in(p.last.presenter.presenting);
     let documents = part.len() / DOCUMENT_BYTES;
-    Progress {
-        last,
-        cursors: past_part(trays, p.cursors, documents, before, after),
-    }
+    p.cursors = past_part(trays, p.cursors, documents, before, after);
 }
 
 // Sends the next part, if there is one and the open lot has room for it.
-fn send_next(p: Progress, trays: Trays, lines: &mut Lines) -> Progress
-    requires { within trays.presentations.now trays.returns.now p.cursors ≡ true }
-    ensures outcome { standing_of result lines.new.message lines.new.reply ≡ detail_sent trays.entry.presentations.now trays.entry.returns.now (standing_of p lines.old.message lines.old.reply) }
-    ensures within { within trays.entry.presentations.now trays.entry.returns.now result.cursors ≡ true }
+fn send_next(p: &mut Progress, trays: Trays, lines: &mut Lines)
+    requires { within trays.presentations.now trays.returns.now p.old.cursors ≡ true }
+    ensures outcome { standing_of p.new lines.new.message lines.new.reply ≡ detail_sent trays.entry.presentations.now trays.entry.returns.now (standing_of p.old lines.old.message lines.old.reply) }
+    ensures within { within trays.entry.presentations.now trays.entry.returns.now p.new.cursors ≡ true }
 {
     let part = trays.next(p.cursors);
     let documents = part.len() / DOCUMENT_BYTES;
     let gathered = documents_in(p.last.presenter.presenting);
     if (documents == 0) | passes_lot(gathered, documents as u64) {
-        return p;
+        return;
     }
-    send_part(p, trays, part, lines)
+    send_part(p, trays, part, lines);
 }
 
 // Sends parts until one is not counted: the lot is full, the trays are empty, or a detail was refused.
-fn fill(p: Progress, trays: Trays, lines: &mut Lines) -> Progress
-    requires { within trays.presentations.now trays.returns.now p.cursors ≡ true }
-    ensures outcome { standing_of result lines.new.message lines.new.reply ≡ filled trays.entry.presentations.now trays.entry.returns.now (standing_of p lines.old.message lines.old.reply) }
-    ensures within { within trays.entry.presentations.now trays.entry.returns.now result.cursors ≡ true }
+fn fill(p: &mut Progress, trays: Trays, lines: &mut Lines)
+    requires { within trays.presentations.now trays.returns.now p.old.cursors ≡ true }
+    ensures outcome { standing_of p.new lines.new.message lines.new.reply ≡ filled trays.entry.presentations.now trays.entry.returns.now (standing_of p.old lines.old.message lines.old.reply) }
+    ensures within { within trays.entry.presentations.now trays.entry.returns.now p.new.cursors ≡ true }
 {
-    let mut at = p;
     for parts in 0..LOT_PARTS {
-        let before = at.cursors;
-        at = send_next(at, trays, lines);
-        if before == at.cursors {
-            return at;
+        let before = p.cursors;
+        send_next(p, trays, lines);
+        if before == p.cursors {
+            return;
         }
     }
-    at
 }
 
 // A round that moves no cursor.
-fn round_between(p: Progress, order: Order, lines: &mut Lines) -> Progress
-    ensures outcome { standing_of result lines.new.message lines.new.reply ≡ round_between (call_of order []) (standing_of p lines.old.message lines.old.reply) }
-    ensures cursors { result.cursors ≡ p.cursors }
+fn round_between(p: &mut Progress, order: Order, lines: &mut Lines)
+    ensures outcome { standing_of p.new lines.new.message lines.new.reply ≡ round_between (call_of order []) (standing_of p.old lines.old.message lines.old.reply) }
+    ensures cursors { p.new.cursors ≡ p.old.cursors }
 {
-    Progress {
-        last: one_more(p.last, order, &[], lines),
-        cursors: p.cursors,
-    }
+    one_more(&mut p.last, order, &[], lines);
 }
 
 // Header, parts and total of a lot of this order number.
-fn whole_lot(p: Progress, number: u16, trays: Trays, lines: &mut Lines) -> Progress
-    requires { within trays.presentations.now trays.returns.now p.cursors ≡ true }
-    ensures outcome { standing_of result lines.new.message lines.new.reply ≡ whole_lot number trays.entry.presentations.now trays.entry.returns.now (standing_of p lines.old.message lines.old.reply) }
-    ensures within { within trays.entry.presentations.now trays.entry.returns.now result.cursors ≡ true }
+fn whole_lot(p: &mut Progress, number: u16, trays: Trays, lines: &mut Lines)
+    requires { within trays.presentations.now trays.returns.now p.old.cursors ≡ true }
+    ensures outcome { standing_of p.new lines.new.message lines.new.reply ≡ whole_lot number trays.entry.presentations.now trays.entry.returns.now (standing_of p.old lines.old.message lines.old.reply) }
+    ensures within { within trays.entry.presentations.now trays.entry.returns.now p.new.cursors ≡ true }
 {
     let header = Order::Header(Session::OPENING, MOMENT, OFFICE, number);
-    let opened = round_between(p, header, lines);
-    let full = fill(opened, trays, lines);
-    round_between(full, Order::LotTotal(Session::OPENING), lines)
+    round_between(p, header, lines);
+    fill(p, trays, lines);
+    round_between(p, Order::LotTotal(Session::OPENING), lines);
 }
 
 // The lot, if documents remain.
-pub fn send_lot(p: Progress, number: u16, trays: Trays, lines: &mut Lines) -> Progress
-    requires { within trays.presentations.now trays.returns.now p.cursors ≡ true }
-    ensures outcome { standing_of result lines.new.message lines.new.reply ≡ lot_made trays.entry.presentations.now trays.entry.returns.now number (standing_of p lines.old.message lines.old.reply) }
-    ensures within { within trays.entry.presentations.now trays.entry.returns.now result.cursors ≡ true }
+pub fn send_lot(p: &mut Progress, number: u16, trays: Trays, lines: &mut Lines)
+    requires { within trays.presentations.now trays.returns.now p.old.cursors ≡ true }
+    ensures outcome { standing_of p.new lines.new.message lines.new.reply ≡ lot_made trays.entry.presentations.now trays.entry.returns.now number (standing_of p.old lines.old.message lines.old.reply) }
+    ensures within { within trays.entry.presentations.now trays.entry.returns.now p.new.cursors ≡ true }
 {
     if trays.next(p.cursors).is_empty() {
-        return p;
+        return;
     }
-    whole_lot(p, number, trays, lines)
+    whole_lot(p, number, trays, lines);
 }

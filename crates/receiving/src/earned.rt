@@ -42,10 +42,10 @@ pub fn receiving_route(p: Parties) -> Route
 }
 
 // A header that is not read is 01; one that is read goes down the chain.
-fn of_header(time: u32, body: &[u8], hearer: Hearer) -> Found
-    ensures { Earns Content.Header time body.now hearer.parties hearer.running hearer.receiving result }
+fn of_header(time: u32, body: &[u8], hearer: &Hearer) -> Found
+    ensures { Earns Content.Header time body.now hearer.now.parties hearer.now.running hearer.now.receiving result }
 {
-    let r = hearer.receiving;
+    let r = &hearer.receiving;
     let counters = r.counters;
     match read_header(body, receiving_route(hearer.parties)) {
         Ok(header) => Found {
@@ -72,11 +72,11 @@ fn of_header(time: u32, body: &[u8], hearer: Hearer) -> Found
 }
 
 // A detail goes down the chain with what its bytes earn. It is read once.
-fn of_detail(time: u32, body: &[u8], hearer: Hearer) -> Found
-    ensures { Earns Content.Detail time body.now hearer.parties hearer.running hearer.receiving result }
+fn of_detail(time: u32, body: &[u8], hearer: &Hearer) -> Found
+    ensures { Earns Content.Detail time body.now hearer.now.parties hearer.now.running hearer.now.receiving result }
 {
-    let p = hearer.parties;
-    let r = hearer.receiving;
+    let p = &hearer.parties;
+    let r = &hearer.receiving;
     let read = read_detail(body, p.own, &p.represented[..p.count]);
     let adds = adding(operation_of(body), read.totals);
     Found {
@@ -86,11 +86,11 @@ fn of_detail(time: u32, body: &[u8], hearer: Hearer) -> Found
 }
 
 // A lot total that is not read has its own code, 01 or 03. In either case the open lot ends.
-fn of_lot_total(time: u32, body: &[u8], hearer: Hearer) -> Found
-    ensures { Earns Content.LotTotal time body.now hearer.parties hearer.running hearer.receiving result }
+fn of_lot_total(time: u32, body: &[u8], hearer: &Hearer) -> Found
+    ensures { Earns Content.LotTotal time body.now hearer.now.parties hearer.now.running hearer.now.receiving result }
 {
     let running = hearer.running;
-    let r = hearer.receiving;
+    let r = &hearer.receiving;
     let counters = r.counters;
     match read_lot_total(body) {
         Ok(total) => Found {
@@ -120,10 +120,10 @@ fn of_lot_total(time: u32, body: &[u8], hearer: Hearer) -> Found
 }
 
 // A session total.
-fn of_session_total(time: u32, body: &[u8], hearer: Hearer) -> Found
-    ensures { Earns Content.SessionTotal time body.now hearer.parties hearer.running hearer.receiving result }
+fn of_session_total(time: u32, body: &[u8], hearer: &Hearer) -> Found
+    ensures { Earns Content.SessionTotal time body.now hearer.now.parties hearer.now.running hearer.now.receiving result }
 {
-    let r = hearer.receiving;
+    let r = &hearer.receiving;
     let counters = r.counters;
     match read_session_total(body) {
         Ok(total) => {
@@ -148,8 +148,8 @@ fn of_session_total(time: u32, body: &[u8], hearer: Hearer) -> Found
 
 // A body, by what it is: a match and no table of functions, since each content has its own clause.
 #[tactic(auto, unfolding(session::specs::Receiving::received_code, session::specs::Receiving::received_effect))]
-pub fn earned(content: Content, time: u32, body: &[u8], hearer: Hearer) -> Found
-    ensures { Earns content time body.now hearer.parties hearer.running hearer.receiving result }
+pub fn earned(content: Content, time: u32, body: &[u8], hearer: &Hearer) -> Found
+    ensures { Earns content time body.now hearer.now.parties hearer.now.running hearer.now.receiving result }
 {
     match content {
         Content::Header => of_header(time, body, hearer),

@@ -21,14 +21,14 @@ pub struct Handled {
 }
 
 // A new message: its serial becomes the last, its reply is kept, and what it does is counted.
-fn handle(time: u32, body: &[u8], hearer: Hearer) -> Handled
-    ensures receiving { result.receiving ≡ new_receiving time body.now hearer.parties hearer.running hearer.receiving }
-    ensures running { result.running ≡ new_running time body.now hearer.parties hearer.running hearer.receiving }
+fn handle(time: u32, body: &[u8], hearer: &Hearer) -> Handled
+    ensures receiving { result.receiving ≡ new_receiving time body.now hearer.now.parties hearer.now.running hearer.now.receiving }
+    ensures running { result.running ≡ new_running time body.now hearer.now.parties hearer.now.running hearer.now.receiving }
 {
     let content = content_of(body);
     let found = earned(content, time, body, hearer);
     let accepted = is_accepted(found.code);
-    let r = hearer.receiving;
+    let r = &hearer.receiving;
     let before = Course {
         counters: r.counters,
         running: hearer.running,
@@ -51,9 +51,9 @@ fn handle(time: u32, body: &[u8], hearer: Hearer) -> Handled
 }
 
 // Of the last message again no body is read, and nothing is counted.
-pub fn handle_if(next: bool, time: u32, body: &[u8], hearer: Hearer) -> Handled
-    ensures receiving { result.receiving ≡ cond next (new_receiving time body.now hearer.parties hearer.running hearer.receiving) hearer.receiving }
-    ensures running { result.running ≡ cond next (new_running time body.now hearer.parties hearer.running hearer.receiving) hearer.running }
+pub fn handle_if(next: bool, time: u32, body: &[u8], hearer: &Hearer) -> Handled
+    ensures receiving { result.receiving ≡ cond next (new_receiving time body.now hearer.now.parties hearer.now.running hearer.now.receiving) hearer.now.receiving }
+    ensures running { result.running ≡ cond next (new_running time body.now hearer.now.parties hearer.now.running hearer.now.receiving) hearer.now.running }
 {
     if next {
         return handle(time, body, hearer);

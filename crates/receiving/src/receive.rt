@@ -40,9 +40,9 @@ pub struct ReceiveOutcome {
 
 // Whether a message of any bytes is a new one or the last again, at any time.
 #[tactic(auto, using(calls::proofs::Laws::Answer::refusal_ends, calls::proofs::Laws::Answer::none_leads_on, calls::proofs::Laws::Arrival::told_behind), unfolding(session::specs::Receiving::receive_refusal))]
-fn arrived(session: Session, time: u32, message: &[u8], room: usize) -> Result<bool, Refusal>
-    requires { session.receiving.serial ≤ largest_serial }
-    ensures { Told (receive_refusal time message.now room session) (is_next message.now session.receiving.serial) result }
+fn arrived(session: &Session, time: u32, message: &[u8], room: usize) -> Result<bool, Refusal>
+    requires { session.now.receiving.serial ≤ largest_serial }
+    ensures { Told (receive_refusal time message.now room session.now) (is_next message.now session.now.receiving.serial) result }
 {
     let route = receiving_route(session.parties);
     time_refusal(time, session.seen, session.close)?;
@@ -88,14 +88,14 @@ pub fn receive(
     ensures outcome { received_said result.received result.running line.new ≡ receive time message.now (held session running line.old) }
     ensures premise { KeptBeside Direction.receiving session result.received.session result.running }
 {
-    match arrived(session, time, message, line.len()) {
+    match arrived(&session, time, message, line.len()) {
         Ok(next) => {
             let hearer = Hearer {
                 parties: session.parties,
                 running,
                 receiving: session.receiving,
             };
-            let after = handle_if(next, time, &message[ENVELOPE_BYTES..], hearer);
+            let after = handle_if(next, time, &message[ENVELOPE_BYTES..], &hearer);
             replying(session, time, after, line)
         }
         Err(refusal) => ReceiveOutcome {

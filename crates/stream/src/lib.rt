@@ -16,7 +16,7 @@ const ROOM: usize = 65_536;
 
 // Between two pieces: the player, the bytes that its memory keeps, the input, how many bytes wait in it, room for answers, whether
 // no more will come, and whether all is done.
-#[derive(Drop)]
+#[derive(Clone, Copy)]
 pub struct Stream {
     pub player: Player,
     pub wire: [u8; WIRE_BYTES],

@@ -8,12 +8,12 @@ use Rattle.session.specs.Clock.{ticked, clock}
 use Rattle.calls.proofs.Laws.Said.{said_done, said_refused}
 use Rattle.calls.proofs.clock.clock.Goals as goal
 
-pub returns-in-Ok-clause-outcome : goal.returns-in-Ok-clause-outcome
+pub returns-clause-outcome : goal.returns-clause-outcome
 unfolding clock
-returns-in-Ok-clause-outcome c =
+returns-clause-outcome c =
     let s = c.args.session in
     let time = c.args.time in
-    λ t line. (λ i. record { number = ap answer_number c.in-Ok.is i; written = 0; left = held (c.ticked.ensures i) t line }) ∙ said_done 0 (clock_refusal time s.seen s.close) (held s t line) (silent (held (ticked time s) t line)) c.in-Ok.ensures refl
+    λ t line. (λ i. record { number = ap answer_number c.in_default.is i; written = 0; left = held (c.ticked.ensures i) t line }) ∙ said_done 0 (clock_refusal time s.seen s.close) (held s t line) (silent (held (ticked time s) t line)) c.in_default.ensures refl
 
 pub returns-in-Err-clause-outcome : goal.returns-in-Err-clause-outcome
 unfolding clock

@@ -10,4 +10,4 @@ pub returns : goal.returns
 unfolding direction_made
 returns c =
     let first = ends_of c.args.ends c.args.lines.now.message c.args.lines.now.reply in
-    c.one_more.ensures ∙ ap (λ (s : Standing). round_made (Call.send opening Send.session_total) s.ends) (c.send_lots-sent.ensures.outcome ∙ (λ i. lots_made c.args.trays.presentations.now c.args.trays.returns.now (record { ends = first; cursors = record { presentations = c.default.ensures.0 i; returns = c.default.ensures.1 i } })))
+    c.one_more.ensures ∙ ap (λ (s : Standing). round_made (Call.send opening Send.session_total) s.ends) (c.send_lots.ensures.outcome ∙ (λ i. lots_made c.args.trays.presentations.now c.args.trays.returns.now (record { ends = first; cursors = record { presentations = c.default.ensures.0 i; returns = c.default.ensures.1 i } })))

@@ -13,14 +13,14 @@ loop-number-init c = record { within = c.requires; whole = refl }
 pub returns-then-eq-clause-outcome : goal.returns-then-eq-clause-outcome
 returns-then-eq-clause-outcome c =
     let below = c.loop-number-test.true in
-    stays (lot_made c.args.trays.presentations.now c.args.trays.returns.now) (most_lots - c.loop-number.number) (suc most_lots - c.loop-number.number) c.loop-number.number _ _ (omega arith) c.send_lot-at.ensures.outcome (sym c.eq.ensures ∙ c.if-eq.true) ∙ c.loop-number.invariant.whole
+    stays (lot_made c.args.trays.presentations.now c.args.trays.returns.now) (most_lots - c.loop-number.number) (suc most_lots - c.loop-number.number) c.loop-number.number _ _ (omega arith) c.send_lot.ensures.outcome (sym c.eq.ensures ∙ c.if-eq.true) ∙ c.loop-number.invariant.whole
 
 pub loop-number-preserved : goal.loop-number-preserved
 loop-number-preserved c =
     let below = c.loop-number-test.true in
     record {
-      within = c.send_lot-at.ensures.within;
-      whole = moves (lot_made c.args.trays.presentations.now c.args.trays.returns.now) (suc most_lots - (c.loop-number.number + 1)) (suc most_lots - c.loop-number.number) c.loop-number.number _ _ (omega arith) c.send_lot-at.ensures.outcome _ (omega arith) (sym c.eq.ensures ∙ c.if-eq.false) ∙ c.loop-number.invariant.whole;
+      within = c.send_lot.ensures.within;
+      whole = moves (lot_made c.args.trays.presentations.now c.args.trays.returns.now) (suc most_lots - (c.loop-number.number + 1)) (suc most_lots - c.loop-number.number) c.loop-number.number _ _ (omega arith) c.send_lot.ensures.outcome _ (omega arith) (sym c.eq.ensures ∙ c.if-eq.false) ∙ c.loop-number.invariant.whole;
     }
 
 pub returns-clause-outcome : goal.returns-clause-outcome

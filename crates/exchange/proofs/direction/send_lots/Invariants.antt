@@ -9,4 +9,4 @@ abbrev pub invariant-loop-number : goal.invariant-loop-number
 invariant-loop-number l =
     let presentations = l.trays.presentations.now in
     let returns = l.trays.returns.now in
-    Going presentations returns (lot_made presentations returns) (suc most_lots - l.number) l.number (lots_made presentations returns (standing_of l.initial.at l.initial.lines.message l.initial.lines.reply)) l.lines.message l.lines.reply l.at
+    Going presentations returns (lot_made presentations returns) (suc most_lots - l.number) l.number (lots_made presentations returns (standing_of l.initial.p l.initial.lines.message l.initial.lines.reply)) l.lines.message l.lines.reply l.p

@@ -9,4 +9,4 @@ abbrev pub invariant-loop-parts : goal.invariant-loop-parts
 invariant-loop-parts l =
     let presentations = l.trays.presentations.now in
     let returns = l.trays.returns.now in
-    Going presentations returns (next_part presentations returns) (lot_parts - l.parts) l.parts (filled presentations returns (standing_of l.initial.at l.initial.lines.message l.initial.lines.reply)) l.lines.message l.lines.reply l.at
+    Going presentations returns (next_part presentations returns) (lot_parts - l.parts) l.parts (filled presentations returns (standing_of l.initial.p l.initial.lines.message l.initial.lines.reply)) l.lines.message l.lines.reply l.p

@@ -5,4 +5,4 @@ use Rattle.exchange.proofs.lot.send_part.Goals as goal
 
 pub returns-clause-outcome : goal.returns-clause-outcome
 returns-clause-outcome c =
-    part_sent_lem c.args.trays.presentations.now c.args.part.now (standing_of c.args.p c.args.lines.now.message c.args.lines.now.reply) _ _ _ _ _ c.operation.ensures c.documents_in-before.ensures c.one_more-last.ensures c.documents_in-after.ensures c.past_part.ensures
+    part_sent_lem c.args.trays.presentations.now c.args.part.now (standing_of c.args.p.now c.args.lines.now.message c.args.lines.now.reply) _ _ _ _ _ c.operation.ensures c.documents_in-before.ensures c.one_more.ensures c.documents_in-after.ensures c.past_part-p.ensures

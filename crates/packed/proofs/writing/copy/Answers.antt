@@ -1,13 +1,24 @@
--- `copy`: what stands before and behind the copied bytes is as it was.
-use Rattle.std.proofs.Common.{◌≡◌, ◌+◌, ◌-◌, take, drop, length, sym, ◌∙◌, append_assoc, arith}
-use Rattle.std.proofs.Math.Seq.{sets-eq, drop-drop}
+-- `copy`: a byte more, and then the rest.
+use mathlib.Core.Path.{refl, ap, sym, ◌∙◌}
+use Prim.Native.Nat.{◌+◌}
+use native.Mathlib.Nat.{add-zero, add-suc}
+use native.Mathlib.Numerals.{add-one}
+use native.Mathlib.Omega.{arith}
+use lib.ListN.{length-set, drop_of_length-le}
+use lib.Seq.{sets, drop-cons}
 use Rattle.packed.proofs.writing.copy.Goals as goal
+
+pub loop-i-init : goal.loop-i-init
+loop-i-init c = (refl, rw add-zero)
+
+pub loop-i-preserved : goal.loop-i-preserved
+loop-i-preserved c =
+    let i = c.loop-i.i in (
+      simp length-set c.loop-i.invariant.0,
+      rw (add-one, add-suc)
+          (ap (sets c.loop-i.d (c.args.at + i)) (sym (drop-cons c.args.s.now i 0 (omega arith))) ∙ c.loop-i.invariant.1),
+    )
 
 pub returns : goal.returns
 returns c =
-    let d = c.args.d.now in
-    let at = c.args.at in
-    let s = c.args.s.now in
-    let wide : at + length s - at ≡ length s = omega arith in
-    rw (wide, c.copy_from_slice.ensures.after, drop-drop (length s) at d)
-    (sym (sets-eq s d at (omega arith) ∙ append_assoc (take at d) s (drop (at + length s) d)))
+    ap (sets c.loop-i.d (c.args.at + c.loop-i.i)) (sym (drop_of_length-le c.args.s.now {i = c.loop-i.i} (omega arith))) ∙ c.loop-i.invariant.1

@@ -29,13 +29,13 @@ unfolding received_code header_code received_effect
 returns-in-Ok c =
     let body = c.args.body.now in
     let h = c.in-Ok.header in
-    let route = receiving_route c.args.hearer.parties in
+    let route = receiving_route c.args.hearer.now.parties in
     let read : header_said route (Ok h) ≡ read_body (header route) body = ap (λ (x : Route). header_said x (Ok h)) (sym c.receiving_route.ensures) ∙ c.in-Ok.ensures ∙ ap (λ (x : Route). read_body (header x) body) c.receiving_route.ensures in
     let good = (told (body_code (header route) body) (table_numbers 1 (header_fields route) body) (header_values route h) read).0 in
-    let place = header_sequence c.args.hearer.receiving.ended c.args.hearer.receiving.counters.current in
-    let late : Header → ℕ = λ (x : Header). place orelse 10 when receiver_late c.args.time orelse 4 when number_used x.number (accepted_lots c.args.hearer.receiving) orelse 11 when lots_used c.args.hearer.receiving.counters.lots in
+    let place = header_sequence c.args.hearer.now.receiving.ended c.args.hearer.now.receiving.counters.current in
+    let late : Header → ℕ = λ (x : Header). place orelse 10 when receiver_late c.args.time orelse 4 when number_used x.number (accepted_lots c.args.hearer.now.receiving) orelse 11 when lots_used c.args.hearer.now.receiving.counters.lots in
     let hour = c.when.ensures ∙ ap (λ (x : Bool). 10 when x) c.receiver_late.ensures in
-    let used = c.when-in-Ok.ensures ∙ ap (λ (x : Bool). 4 when x) (c.number_used.ensures ∙ any_any (λ (l : Lot). eqb h.number l.number) (accepted_lots c.args.hearer.receiving)) in
+    let used = c.when-in-Ok.ensures ∙ ap (λ (x : Bool). 4 when x) (c.number_used.ensures ∙ any_any (λ (l : Lot). eqb h.number l.number) (accepted_lots c.args.hearer.now.receiving)) in
     let most = c.when-in-Ok-2.ensures ∙ ap (λ (x : Bool). 11 when x) c.lots_used.ensures in
     let third = c.or_else.ensures ∙ (λ i. used i orelse most i) in
     let second = c.or_else-in-Ok.ensures ∙ (λ i. hour i orelse third i) in
@@ -47,7 +47,7 @@ pub returns-in-Err : goal.returns-in-Err
 unfolding received_code header_code received_effect header_fields
 returns-in-Err c =
     let body = c.args.body.now in
-    let route = receiving_route c.args.hearer.parties in
+    let route = receiving_route c.args.hearer.now.parties in
     let x = c.in-Err.code in
     let told = wrong_read x (body_code (header c.receiving_route.result) body) _ _ c.in-Err.ensures in
     let wrong = ap (λ (y : Route). body_code (header y) body) (sym c.receiving_route.ensures) ∙ told.0 in

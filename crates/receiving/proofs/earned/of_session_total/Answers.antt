@@ -27,9 +27,9 @@ returns-in-Ok c =
     let x = c.in-Ok.total in
     let read = c.in-Ok.ensures in
     let good = (told (body_code session_total body) (table_numbers 1 session_total_fields body) (total_values x) read).0 in
-    let late : Total → ℕ = λ (y : Total). session_total_sequence c.args.hearer.receiving.ended c.args.hearer.receiving.counters.current orelse 8 when not (eqb c.args.hearer.receiving.counters.lots y.number && same (stated c.args.hearer.receiving.counters.gathered) y.stated) in
+    let late : Total → ℕ = λ (y : Total). session_total_sequence c.args.hearer.now.receiving.ended c.args.hearer.now.receiving.counters.current orelse 8 when not (eqb c.args.hearer.now.receiving.counters.lots y.number && same (stated c.args.hearer.now.receiving.counters.gathered) y.stated) in
     let amounts = c.same-same.ensures ∙ ap (λ (y : Totals). same y x.stated) c.stated.ensures in
-    let differ = c.when.ensures ∙ ap (λ (z : Bool). 8 when not (eqb c.args.hearer.receiving.counters.lots x.number && z)) amounts in
+    let differ = c.when.ensures ∙ ap (λ (z : Bool). 8 when not (eqb c.args.hearer.now.receiving.counters.lots x.number && z)) amounts in
     let chain : code_number c.or_else.result ≡ late x = c.or_else.ensures ∙ (λ i. c.session_total_sequence.ensures i orelse differ i) in
     let earns = read_earns late (λ (y : Total). Effect.SessionTotal) x (total_of session_total_fields body) (body_code session_total body) (code_number c.or_else.result) (read_told session_total x body read) good chain in
     record { code = earns.0; effect = earns.1 }

@@ -19,33 +19,33 @@ use Rattle.receiving.proofs.handling.handle.Goals as goal
 use Rattle.receiving.proofs.handling.handle.Goals.{After-is_accepted-accepted}
 
 -- what was found is what the body earns
-found_so : (k : goal.After-is_accepted-accepted) → Earns (content_of k.args.body.now) k.args.time k.args.body.now k.args.hearer.parties k.args.hearer.running k.args.hearer.receiving k.earned-found.result
-found_so k = subst (λ (x : Content). Earns x k.args.time k.args.body.now k.args.hearer.parties k.args.hearer.running k.args.hearer.receiving k.earned-found.result) k.content_of-content.ensures k.earned-found.ensures
+found_so : (k : goal.After-is_accepted-accepted) → Earns (content_of k.args.body.now) k.args.time k.args.body.now k.args.hearer.now.parties k.args.hearer.now.running k.args.hearer.now.receiving k.earned-found.result
+found_so k = subst (λ (x : Content). Earns x k.args.time k.args.body.now k.args.hearer.now.parties k.args.hearer.now.running k.args.hearer.now.receiving k.earned-found.result) k.content_of-content.ensures k.earned-found.ensures
 
 -- and may be counted
-may : (k : goal.After-is_accepted-accepted) → Countable k.earned-found.result.effect k.is_accepted-accepted.result (course k.args.hearer.receiving.counters k.args.hearer.running)
+may : (k : goal.After-is_accepted-accepted) → Countable k.earned-found.result.effect k.is_accepted-accepted.result (course k.args.hearer.now.receiving.counters k.args.hearer.now.running)
 may k =
     let found = k.earned-found.result in
     let e = found_so k in
-    subst (λ (x : Bool). Countable found.effect x (course k.args.hearer.receiving.counters k.args.hearer.running)) (sym k.is_accepted-accepted.ensures) (countable k.args.time k.args.body.now k.args.hearer.parties k.args.hearer.running k.args.hearer.receiving (code_number found.code) found.effect k.args.hearer.lent e.code e.effect)
+    subst (λ (x : Bool). Countable found.effect x (course k.args.hearer.now.receiving.counters k.args.hearer.now.running)) (sym k.is_accepted-accepted.ensures) (countable k.args.time k.args.body.now k.args.hearer.now.parties k.args.hearer.now.running k.args.hearer.now.receiving (code_number found.code) found.effect k.args.hearer.now.lent e.code e.effect)
 
 pub advance-after-requires : goal.advance-after-requires
 advance-after-requires c = may (goal.at.advance-after-requires c).After-is_accepted-accepted
 
 pub kept-requires : goal.kept-requires
 kept-requires c =
-    free_place c.earned-found.result.effect c.is_accepted-accepted.result (course c.args.hearer.receiving.counters c.args.hearer.running) (may (goal.at.kept-requires c).After-is_accepted-accepted)
+    free_place c.earned-found.result.effect c.is_accepted-accepted.result (course c.args.hearer.now.receiving.counters c.args.hearer.now.running) (may (goal.at.kept-requires c).After-is_accepted-accepted)
 
 pub returns : goal.returns
 unfolding receiving_after
 returns c =
     let body = c.args.body.now in
-    let r = c.args.hearer.receiving in
+    let r = c.args.hearer.now.receiving in
     let found = c.earned-found.result in
     let e = found_so (goal.at.returns c).After-is_accepted-accepted in
-    let code = received_code (content_of body) c.args.time body c.args.hearer.parties c.args.hearer.running r in
-    let meant = received_effect (content_of body) body c.args.hearer.running in
-    let here = course r.counters c.args.hearer.running in
+    let code = received_code (content_of body) c.args.time body c.args.hearer.now.parties c.args.hearer.now.running r in
+    let meant = received_effect (content_of body) body c.args.hearer.now.running in
+    let here = course r.counters c.args.hearer.now.running in
     let accepted = c.is_accepted-accepted.ensures in
     let same = alike (eqb (code_number found.code) 0) found.effect meant e.effect in
     let told = ap (λ (n : ℕ). eqb n 0) e.code in
